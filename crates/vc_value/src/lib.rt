@@ -1,13 +1,12 @@
-// A library with one function.
+//! Values of the trade: words, lists, numbers and what a characteristic may have.
 #![tactic(auto)]
 
-ghost use Rattle.std.specs.Prelude.{◌≡◌};
-ghost use Rattle.vc_value.specs.Echo.{echo_of};
+pub mod decimal;
+pub mod listed;
+pub mod value;
+pub mod word;
 
-// The `ensures` clause is the contract: what `echo` returns is `echo_of` of its argument, a definition
-// in `specs/Echo.antt`, which a caller's clause can cite too.
-pub fn echo(x: usize) -> usize
-    ensures { result ≡ echo_of x }
-{
-    x
-}
+pub use decimal::Dec;
+pub use listed::Listed;
+pub use value::Value;
+pub use word::{Word, equals_ignoring_case};
