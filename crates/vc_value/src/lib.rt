@@ -3,10 +3,12 @@
 
 pub mod decimal;
 pub mod listed;
+pub mod names;
 pub mod value;
 pub mod word;
 
 pub use decimal::Dec;
 pub use listed::Listed;
+pub use names::{is_name, is_session_name};
 pub use value::Value;
 pub use word::{Word, equals_ignoring_case};
