@@ -8,6 +8,10 @@ use Rattle.vc_first.specs.declared.form.Restriction.{Restriction}
 use Rattle.vc_first.specs.Names.{has_name, are_distinct}
 use Rattle.vc_first.specs.Spelling.{is_free_name, is_material, is_text, is_count, is_some_up_to, number_of}
 
+-- an empty list
+abbrev pub is_nothing : List (List ℕ) → Bool
+is_nothing words = length words == 0
+
 -- a text of at most so many bytes
 abbrev pub is_value : ℕ → List ℕ → Bool
 is_value limit text = is_text text && nat_le (length text) limit
@@ -26,7 +30,7 @@ are_characteristics cs = is_some_up_to 64 (length cs) && (list_all is_characteri
 
 -- one name or more, each of a characteristic, none twice
 abbrev pub are_members : List Characteristic → List (List ℕ) → Bool
-are_members cs names = not (length names == 0) && (list_all (has_name (λ c. c.name) cs) names && are_distinct (λ name. name) names)
+are_members cs names = not (is_nothing names) && (list_all (has_name (λ c. c.name) cs) names && are_distinct (λ name. name) names)
 
 -- both characteristics stand in the class
 abbrev pub are_operands : List (List ℕ) → Restriction → Bool
@@ -34,7 +38,7 @@ are_operands members r = has_name (λ name. name) members r.target && has_name (
 
 -- one text or more
 abbrev pub are_allowed : List (List ℕ) → Bool
-are_allowed texts = not (length texts == 0) && list_all is_text texts
+are_allowed texts = not (is_nothing texts) && list_all is_text texts
 
 -- allowed texts, and a condition's text
 abbrev pub are_texts : Restriction → Bool
