@@ -1,0 +1,4 @@
+//! The top call: from the words of the command line to what is written.
+#![tactic(auto)]
+
+pub mod requests;
