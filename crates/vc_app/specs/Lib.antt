@@ -1,2 +1,5 @@
+pub mod Replies
 pub mod Requests
+pub mod Rows
 pub mod Script
+pub mod State

@@ -1,5 +1,7 @@
 //! The top call: from the words of the command line to what is written.
 #![tactic(auto)]
 
+pub mod replies;
 pub mod requests;
+pub mod rows;
 pub mod script;
