@@ -1,1 +1,2 @@
 pub mod ScriptLines
+pub mod StateLaws

@@ -5,3 +5,4 @@ pub mod replies;
 pub mod requests;
 pub mod rows;
 pub mod script;
+pub mod sessions;

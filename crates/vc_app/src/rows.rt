@@ -2,6 +2,7 @@
 
 ghost use Rattle.std.specs.Prelude.{◌≡◌, ◌++◌, [], slice_index_or, OnOk, None, IfOk};
 ghost use Rattle.std.specs.List.{flat_map, enumerate_from};
+ghost use Rattle.vc_plan.specs.First.Entries.{reading_in};
 ghost use Rattle.vc_app.specs.Rows as rows;
 
 use std::alloc::{AllocError, Global};
@@ -58,7 +59,7 @@ fn put_choice(out: &mut Word, text: &Word, is_out: bool) -> Result<(), AllocErro
 }
 
 fn put_choices(out: &mut Word, texts: &[Word], evaluation: &Evaluation, variable: usize) -> Result<(), AllocError>
-    ensures { OnOk result (out.new ≡ out.old ++ rows.choices (slice_index_or evaluation.now.out variable []) texts.now) }
+    ensures { OnOk result (out.new ≡ out.old ++ rows.choices (slice_index_or (reading_in evaluation.now.entries).out variable []) texts.now) }
 {
     for (place, text) in texts.iter().enumerate() {
         put_choice(out, text, evaluation.is_out(variable, place))?;
@@ -67,7 +68,7 @@ fn put_choices(out: &mut Word, texts: &[Word], evaluation: &Evaluation, variable
 }
 
 fn put_open_row(out: &mut Word, variable: &Variable, evaluation: &Evaluation, place: usize) -> Result<(), AllocError>
-    ensures { OnOk result (out.new ≡ out.old ++ rows.open_row variable.now (slice_index_or evaluation.now.out place [])) }
+    ensures { OnOk result (out.new ≡ out.old ++ rows.open_row variable.now (slice_index_or (reading_in evaluation.now.entries).out place [])) }
 {
     out.append(variable.name.bytes())?;
     out.append_text(" ?")?;
@@ -86,7 +87,7 @@ fn user_value(users: &[Option<usize>], place: usize) -> Option<usize>
 }
 
 fn put_row(out: &mut Word, users: &[Option<usize>], evaluation: &Evaluation, place: usize, variable: &Variable) -> Result<(), AllocError>
-    ensures { OnOk result (out.new ≡ out.old ++ rows.row users.now evaluation.now (place, variable.now)) }
+    ensures { OnOk result (out.new ≡ out.old ++ rows.row users.now (reading_in evaluation.now.entries) (place, variable.now)) }
 {
     match evaluation.value(place) {
         Some(value) => put_known_row(out, variable, value, user_value(users, place).is_some()),
@@ -95,7 +96,7 @@ fn put_row(out: &mut Word, users: &[Option<usize>], evaluation: &Evaluation, pla
 }
 
 fn put_rows(out: &mut Word, variables: &[Variable], users: &[Option<usize>], evaluation: &Evaluation) -> Result<(), AllocError>
-    ensures { OnOk result (out.new ≡ out.old ++ flat_map (rows.row users.now evaluation.now) (enumerate_from 0 variables.now)) }
+    ensures { OnOk result (out.new ≡ out.old ++ flat_map (rows.row users.now (reading_in evaluation.now.entries)) (enumerate_from 0 variables.now)) }
 {
     for (place, variable) in variables.iter().enumerate() {
         put_row(out, users, evaluation, place, variable)?;
@@ -105,7 +106,7 @@ fn put_rows(out: &mut Word, variables: &[Variable], users: &[Option<usize>], eva
 
 /// The rows of a session whose evaluation settled: the instance and each variable in order.
 pub fn settled_rows(alloc: Global, plan: &Plan, users: &[Option<usize>], evaluation: &Evaluation) -> Result<Word, AllocError>
-    ensures { IfOk result (λ text. text ≡ rows.settled_rows plan.now users.now evaluation.now) }
+    ensures { IfOk result (λ text. text ≡ rows.settled_rows plan.now users.now (reading_in evaluation.now.entries)) }
 {
     let mut out = Word::new(alloc);
     out.append_text("instance 0 ")?;
