@@ -5,3 +5,4 @@ pub mod Rows
 pub mod Script
 pub mod Sessions
 pub mod State
+pub mod Transcript

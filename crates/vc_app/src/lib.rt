@@ -6,3 +6,4 @@ pub mod requests;
 pub mod rows;
 pub mod script;
 pub mod sessions;
+pub mod transcript;
