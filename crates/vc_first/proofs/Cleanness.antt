@@ -1,12 +1,13 @@
 -- What a model's words lack: spaces, quotes and line feeds.
 use Rattle.std.proofs.Common.{◌≡◌, ℕ, ◌+◌, ◌∙◌, List, [], ◌∷◌, ◌++◌, Bool, true, false, not, ◌&&◌, ◌||◌, length, map, ap, sym, refl, codes, eqb}
+use Rattle.std.specs.Prelude.{nat_lt}
 use Rattle.std.specs.List.{list_all, flat_map, join_by}
 use Rattle.vc_first.specs.declared.form.FirstForm.{FirstForm}
 use Rattle.vc_first.specs.declared.form.Characteristic.{Characteristic}
 use Rattle.vc_first.specs.declared.form.Block.{Block}
 use Rattle.vc_first.specs.declared.form.Restriction.{Restriction}
 use Rattle.vc_first.specs.Spelling as spelled
-use Rattle.vc_first.specs.Spelling.{is_name, is_free_name, is_name_byte, is_material, is_material_byte, is_text, is_text_byte, is_digit, is_count, begins_name, ends_name, is_reserved, is_some_up_to, number_of}
+use Rattle.vc_first.specs.Spelling.{is_name, is_free_name, is_name_byte, is_material, is_material_byte, is_text, is_text_byte, is_digit, is_count, begins_name, is_reserved, is_some_up_to, number_of}
 use Rattle.vc_first.specs.Lines.{line, quoted, operand, listed}
 use Rattle.vc_first.proofs.Cuts.{Lacks, lacks, lacks-append, lacks-test, and_true}
 
@@ -14,9 +15,9 @@ use Rattle.vc_first.proofs.Cuts.{Lacks, lacks, lacks-append, lacks-test, and_tru
 pub name_bytes : (w : List ℕ) → is_name w ≡ true → list_all is_name_byte w ≡ true
 name_bytes [] h = absurd (cc)
 name_bytes (b ∷ bs) h =
-  let both = and_true (begins_name b) (ends_name bs) h in
-  let rest = and_true _ (list_all is_name_byte bs) both.1 in
-  ap (λ t. (t || spelled.is_digit b) && list_all is_name_byte bs) both.0 ∙ rest.1
+  let last = and_true (begins_name b && nat_lt (length bs) 30) (list_all is_name_byte bs) h in
+  let first = and_true (begins_name b) (nat_lt (length bs) 30) last.0 in
+  ap (λ t. (t || spelled.is_digit b) && list_all is_name_byte bs) first.0 ∙ last.1
 
 -- a name lacks what isn't a byte of names
 pub name_lacks : (c : ℕ) → is_name_byte c ≡ false → (w : List ℕ) → is_free_name w ≡ true → Lacks c w

@@ -1,5 +1,7 @@
 -- Numbers that are cut off at a ceiling.
-use Rattle.std.proofs.Common.{◌≡◌, ℕ, ◌+◌, ◌*◌, ◌-◌, ◌<◌, ◌∙◌, List, [], ◌∷◌, Bool, true, false, min, fold, ap, sym, ◌&&◌, arith, refl}
+use Rattle.std.proofs.Common.{◌≡◌, ℕ, ◌+◌, ◌*◌, ◌-◌, ◌<◌, ◌≤◌, ltb, leb, ◌∙◌, List, [], ◌∷◌, Bool, true, false, min, fold, ap, sym, ◌&&◌, arith, refl}
+use Rattle.std.proofs.lemmas.Bool.{ltb-true, leb-true}
+use Rattle.vc_first.proofs.Cuts.{and_true}
 use Rattle.std.proofs.lemmas.Bool.Decides.{nat_tests}
 use Rattle.std.specs.List.{list_all}
 use Rattle.vc_first.specs.Spelling.{is_some_up_to, is_count, is_digit, number_of}
@@ -38,3 +40,7 @@ count-false limit c r ds h e d w =
   let k : r ≡ min c (number_of ds) = e ∙ fold-cut c 0 ds in
   ap (λ b. b && is_some_up_to limit (number_of ds)) (sym d)
   ∙ sym (is_some_up_to-min limit c (number_of ds) h) ∙ ap (is_some_up_to limit) (sym k) ∙ sym w
+
+-- from 1 to the limit
+pub counted : (limit n : ℕ) → is_some_up_to limit n ≡ true → (0 < n) × (n ≤ limit)
+counted limit n h = let both = and_true (ltb 0 n) (leb n limit) h in (ltb-true 0 n both.0, leb-true n limit both.1)

@@ -7,6 +7,7 @@ use Rattle.std.proofs.lemmas.List.{length-map, get_or-map}
 use Rattle.std.proofs.lemmas.List.Elements.{All-map}
 use Rattle.std.proofs.lemmas.List.Sums.{AllPass-from_list_all, passes_at_first}
 use Rattle.std.proofs.lemmas.Bool.{ltb-true}
+use Rattle.vc_first.proofs.Numbers.{counted}
 use Rattle.std.proofs.lemmas.Slice.Eq.{bytes_eq-Decides}
 use Rattle.vc_value.specs.Words.{same_bytes}
 use Rattle.vc_plan.specs.declared.first.plans.Plan.{Plan}
@@ -68,7 +69,7 @@ texts_of-some (c ∷ cs) name h k =
   let both = and_true (is_characteristic c) (list_all is_characteristic cs) h in
   elim (same_bytes c.name name) as (λ t. (t || has_name (λ c. c.name) cs name) ≡ true
     → 0 < length (texts_of_found (cond t (Some c) (find (λ c. same_bytes c.name name) cs)))) [
-    true ↦ λ e. (characteristic_parts c both.0).some
+    true ↦ λ e. (counted 64 (length c.values) (characteristic_parts c both.0).counted).0
   | false ↦ λ e. texts_of-some cs name both.1 e ] k
 
 -- a variable has as many texts as its characteristic

@@ -27,16 +27,10 @@ fn is_name_byte(byte: u8) -> bool
     begins_name(byte) || byte.is_ascii_digit()
 }
 
-fn is_material_mark(byte: u8) -> bool
-    ensures { result ≡ spelled.is_material_mark byte }
-{
-    byte == b'-' || byte == b'.' || byte == b'/'
-}
-
 fn is_material_byte(byte: u8) -> bool
     ensures { result ≡ spelled.is_material_byte byte }
 {
-    is_name_byte(byte) || is_material_mark(byte)
+    is_name_byte(byte) || byte == b'-' || byte == b'.' || byte == b'/'
 }
 
 fn are_name_bytes(bytes: &[u8]) -> bool
@@ -70,18 +64,12 @@ pub fn is_some_up_to(limit: usize, count: usize) -> bool
     count > 0 && count <= limit
 }
 
-fn ends_name(bytes: &[u8]) -> bool
-    ensures { result ≡ spelled.ends_name bytes.now }
-{
-    bytes.len() < 30 && are_name_bytes(bytes)
-}
-
 /// Whether the bytes are a name in upper case.
 fn is_name(bytes: &[u8]) -> bool
     ensures { result ≡ spelled.is_name bytes.now }
 {
     match bytes {
-        [first, more @ ..] => begins_name(*first) && ends_name(more),
+        [first, more @ ..] => begins_name(*first) && more.len() < 30 && are_name_bytes(more),
         [] => false,
     }
 }
