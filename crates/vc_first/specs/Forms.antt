@@ -31,12 +31,12 @@ are_members cs names = is_some_up_to 64 (length names) && list_all (has_name (λ
 -- both characteristics stand in the class, and one text or more is allowed
 abbrev pub is_restriction : List (List ℕ) → Restriction → Bool
 is_restriction members r =
-  is_free_name r.variable
-  && has_name (λ name. name) members r.target
-  && has_name (λ name. name) members r.condition
-  && not (length r.allowed == 0)
-  && list_all is_text r.allowed
-  && is_text r.condition_text
+    is_free_name r.variable
+    && has_name (λ name. name) members r.target
+    && has_name (λ name. name) members r.condition
+    && not (length r.allowed == 0)
+    && list_all is_text r.allowed
+    && is_text r.condition_text
 
 -- a constraint on characteristics of the class
 abbrev pub is_block : List (List ℕ) → Block → Bool
@@ -57,9 +57,9 @@ is_class form = is_free_name form.class && are_members form.characteristics form
 -- constraints, and a net with a name of its own
 abbrev pub is_net : FirstForm → Bool
 is_net form =
-  are_blocks form.members form.blocks && is_free_name form.net && not (has_name (λ b. b.constraint) form.blocks form.net)
+    are_blocks form.members form.blocks && is_free_name form.net && not (has_name (λ b. b.constraint) form.blocks form.net)
 
 -- the parts of a model of the first form
 abbrev pub are_parts : FirstForm → Bool
 are_parts form =
-  is_head form && are_characteristics form.characteristics && is_class form && is_net form && is_material form.material
+    is_head form && are_characteristics form.characteristics && is_class form && is_net form && is_material form.material

@@ -57,14 +57,18 @@ fn are_characteristics(characteristics: &[Characteristic]) -> bool
 fn each_is_declared(characteristics: &[Characteristic], names: &[Word]) -> bool
     ensures { result ≡ list_all (named.has_name (λ c. c.name) characteristics.now) names.now }
 {
-    names.iter().all(|name| has_name(characteristics, name.bytes()))
+    names
+        .iter()
+        .all(|name| has_name(characteristics, name.bytes()))
 }
 
 /// Whether these are the characteristics of a class.
 fn are_members(characteristics: &[Characteristic], names: &[Word]) -> bool
     ensures { result ≡ allowed.are_members characteristics.now names.now }
 {
-    is_some_up_to(64, names.len()) && each_is_declared(characteristics, names) && are_distinct(names)
+    is_some_up_to(64, names.len())
+        && each_is_declared(characteristics, names)
+        && are_distinct(names)
 }
 
 fn each_is_text(texts: &[Word]) -> bool
@@ -111,7 +115,8 @@ fn is_head(form: &FirstForm) -> bool
 fn is_class(form: &FirstForm) -> bool
     ensures { result ≡ allowed.is_class form.now }
 {
-    is_free_name(form.class.bytes()) && are_members(form.characteristics.as_slice(), form.members.as_slice())
+    is_free_name(form.class.bytes())
+        && are_members(form.characteristics.as_slice(), form.members.as_slice())
 }
 
 fn is_net(form: &FirstForm) -> bool

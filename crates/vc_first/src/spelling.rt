@@ -7,9 +7,38 @@ ghost use Rattle.vc_first.specs.Spelling as spelled;
 
 /// The reserved words of the dependency language, which are no names.
 pub const RESERVED: [&str; 32] = [
-    "AND", "OR", "NOT", "IN", "IF", "SPECIFIED", "TABLE", "FALSE", "IS_A", "IS_OBJECT", "MATERIAL", "WHERE", "PART_OF",
-    "EQ", "NE", "LT", "LE", "GT", "GE", "OBJECTS", "CONDITION", "RESTRICTION", "RESTRICTIONS", "INFERENCES", "NR", "END",
-    "ABS", "SIGN", "TRUNC", "FLOOR", "CEIL", "FRAC",
+    "AND",
+    "OR",
+    "NOT",
+    "IN",
+    "IF",
+    "SPECIFIED",
+    "TABLE",
+    "FALSE",
+    "IS_A",
+    "IS_OBJECT",
+    "MATERIAL",
+    "WHERE",
+    "PART_OF",
+    "EQ",
+    "NE",
+    "LT",
+    "LE",
+    "GT",
+    "GE",
+    "OBJECTS",
+    "CONDITION",
+    "RESTRICTION",
+    "RESTRICTIONS",
+    "INFERENCES",
+    "NR",
+    "END",
+    "ABS",
+    "SIGN",
+    "TRUNC",
+    "FLOOR",
+    "CEIL",
+    "FRAC",
 ];
 
 /// One more than the largest count that is asked for.
@@ -121,7 +150,9 @@ fn with_digit(number: u64, digit: u8) -> u64
 fn bounded_number(digits: &[u8]) -> u64
     ensures { result ≡ fold (λ number digit. min CEILING (number * 10 + (digit - 48))) 0 digits.now }
 {
-    digits.iter().fold(0, |number, digit| with_digit(number, *digit))
+    digits
+        .iter()
+        .fold(0, |number, digit| with_digit(number, *digit))
 }
 
 fn is_within(limit: u64, number: u64) -> bool
