@@ -1,3 +1,4 @@
 pub mod ScriptLines
+pub mod SinkLaws
 pub mod StateLaws
 pub mod TranscriptLaws

@@ -1,4 +1,5 @@
 pub mod Answers
+pub mod Endings
 pub mod Replies
 pub mod Requests
 pub mod Rows
