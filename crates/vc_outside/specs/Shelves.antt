@@ -1,5 +1,5 @@
 -- Files by name, as a shelf may tell them.
-use Rattle.std.specs.Prelude.{◌≡◌, ℕ, ◌<◌, List, [], ◌∷◌, length, ⊤, Option, Some, None, IsSome, if◌then◌else◌}
+use Rattle.std.specs.Prelude.{◌≡◌, ℕ, Bool, ◌<◌, List, [], ◌∷◌, length, ⊤, Option, Some, None, IsSome, if◌then◌else◌}
 use Rattle.std.specs.Option.{IsSomeAnd}
 use Rattle.std.specs.Str.{bytes_eq}
 use Rattle.vc_outside.specs.declared.shelf.Found.{Found}
@@ -37,3 +37,8 @@ abbrev pub Begins : Option Files → List ℕ → Found → Option (List ℕ) �
 Begins None name found left = ⊤
 Begins (Some files) name There left = IsSome left × (content_of files name ≡ left)
 Begins (Some files) name Missing left = content_of files name ≡ None
+
+-- what every shelf over the file system says: whether a file is begun, and the count of faults
+pub record EdgeState : Type 0 where
+  pub begun : Bool
+  pub faults : ℕ

@@ -1,6 +1,6 @@
 //! The files of the file system.
 
-ghost use Rattle.std.specs.Prelude.{◌≡◌, ◌≤◌, None, is_some};
+ghost use Rattle.std.specs.Prelude.{◌≡◌, ◌≤◌, None, false};
 ghost use Rattle.vc_outside.specs.Faults.{Raised};
 
 use crate::fault::Failed;
@@ -8,8 +8,10 @@ use crate::shelf::{Found, Shelf};
 use std::fs;
 use std::fs::Files;
 use std::io::{ErrorKind, Read};
+use std::marker::Model;
 
-/// The files of the file system, which tells nothing of what they hold.
+/// The files of the file system, which tells nothing of what they hold. A contract sees whether a
+/// file is begun, and the count of faults.
 #[derive(Drop)]
 pub struct FileShelf<R: Files> {
     runtime: R,
@@ -17,11 +19,19 @@ pub struct FileShelf<R: Files> {
     faults: u64,
 }
 
+impl<R: Files> Model for FileShelf<R> {
+    ghost use Rattle.std.specs.Prelude.{is_some};
+    ghost use Rattle.vc_outside.specs.Shelves.{EdgeState};
+
+    ghost Value = { EdgeState };
+
+    ghost view = { λ s. record { begun = is_some s.file; faults = s.faults } };
+}
+
 impl<R: Files> FileShelf<R> {
     /// A shelf with no file begun, and no fault.
     pub fn new(runtime: R) -> FileShelf<R>
-        ensures begun { result.file ≡ None }
-        ensures faults { result.faults ≡ 0 }
+        ensures { result ≡ record { begun = false; faults = 0 } }
     {
         FileShelf {
             runtime,
@@ -33,7 +43,7 @@ impl<R: Files> FileShelf<R> {
     fn raise(&mut self) -> Failed
         ensures later { self.old.faults ≤ self.new.faults }
         ensures raised { Raised self.old.faults self.new.faults }
-        ensures file { self.new.file ≡ self.old.file }
+        ensures begun { self.new.begun ≡ self.old.begun }
     {
         self.faults = self.faults.saturating_add(1);
         Failed
@@ -45,7 +55,7 @@ impl<R: Files> Shelf for FileShelf<R> {
 
     ghost left = { λ _. None };
 
-    ghost is_begun = { λ s. is_some s.file };
+    ghost is_begun = { λ s. s.begun };
 
     ghost faults = { λ s. s.faults };
 

@@ -18,3 +18,6 @@ pub use memory_sink::MemSink;
 pub use shelf::{Found, Shelf};
 pub use sink::{Sink, write_all};
 pub use std_sink::StdSink;
+
+#[cfg(test)]
+mod tests;
