@@ -1,2 +1,3 @@
+pub mod Grains
 pub mod Words
 pub mod Names

@@ -1,0 +1,2 @@
+pub mod GrainLemmas
+pub mod CutLemmas
