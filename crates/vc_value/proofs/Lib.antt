@@ -1,2 +1,4 @@
-pub mod GrainLemmas
 pub mod CutLemmas
+pub mod DigitLemmas
+pub mod GrainLemmas
+pub mod PowerLemmas

@@ -8,7 +8,7 @@ pub mod names;
 pub mod value;
 pub mod word;
 
-pub use decimal::Dec;
+pub use decimal::{Dec, NumFault};
 pub use grains::{Grain, GrainList};
 pub use listed::Listed;
 pub use names::{is_name, is_session_name};
