@@ -1,0 +1,2 @@
+-- Laws of settling plans of one object.
+pub mod Rows
