@@ -1,2 +1,4 @@
 -- Laws of settling plans of one object.
+pub mod Counts
+pub mod Lists
 pub mod Rows

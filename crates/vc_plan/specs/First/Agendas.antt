@@ -6,10 +6,15 @@ use Rattle.vc_plan.specs.declared.first.plans.Rule.{Rule}
 use Rattle.vc_plan.specs.First.Entries.{no_entry, excluded, narrowed_of}
 use Rattle.vc_plan.specs.First.Held.{Entry, Agenda}
 
+-- one where there is no value
+abbrev pub none_count : Option ℕ → ℕ
+none_count None = 1
+none_count (Some g) = 0
+
 -- how many variables have no value yet
 abbrev pub unknown_count : List Entry → ℕ
 unknown_count [] = 0
-unknown_count (entry ∷ entries) = (elim entry.value [ Some g ↦ 0 | None ↦ 1 ]) + unknown_count entries
+unknown_count (entry ∷ entries) = none_count entry.value + unknown_count entries
 
 -- the agenda with the variable's value known, which is still to be followed
 abbrev pub with_value : ℕ → ℕ → Agenda → Agenda
@@ -17,6 +22,17 @@ with_value v g agenda = record {
   entries = slice_set agenda.entries v (record { value = Some g; out = (slice_index_or agenda.entries v no_entry).out });
   waiting = agenda.waiting ++ v ∷ [];
 }
+
+-- the agenda with the last text that follows, if one does
+abbrev pub with_last : ℕ → Narrowed → Agenda → Agenda
+with_last v Contradicted agenda = agenda
+with_last v (Follows g) agenda = with_value v g agenda
+with_last v Open agenda = agenda
+
+-- the agenda with the user's value, or where there is none the variable's last text
+abbrev pub with_start : ℕ → Option ℕ → Agenda → Agenda
+with_start v None agenda = with_last v (narrowed_of (slice_index_or agenda.entries v no_entry)) agenda
+with_start v (Some g) agenda = with_value v g agenda
 
 -- the agenda with what the variable's entry comes to; none for a contradiction
 abbrev pub with_narrowed : ℕ → Narrowed → Agenda → Option Agenda

@@ -42,7 +42,7 @@ narrowed_of entry = elim entry.value [
 -- whether it is the value
 abbrev pub is_value : Option ℕ → ℕ → Bool
 is_value None g = false
-is_value (Some h) g = h == g
+is_value (Some h) g = g == h
 
 -- whether the entries say the atom
 abbrev pub standing : List Entry → Atom → Bool

@@ -1,6 +1,6 @@
 -- What an evaluation is made for, and how it ends.
-use Rattle.std.specs.Prelude.{◌≡◌, ℕ, ◌<◌, Bool, true, false, ◌&&◌, ◌==◌, List, [], length, map, slice_get, slice_index_or, Option, None, Some}
-use Rattle.std.specs.List.{list_any}
+use Rattle.std.specs.Prelude.{◌≡◌, ℕ, ◌<◌, Bool, true, false, ◌&&◌, ◌==◌, nat_eq, List, [], length, map, slice_get, slice_index_or, Option, None, Some}
+use Rattle.vc_base.specs.Sets.{has}
 use Rattle.vc_plan.specs.declared.first.plans.Plan.{Plan}
 use Rattle.vc_plan.specs.declared.first.plans.Rule.{Rule}
 use Rattle.vc_plan.specs.declared.first.settling.Outcome.{Outcome}
@@ -26,7 +26,7 @@ waits_for (Some rule) v g = (rule.if_variable == v) && is_value rule.if_value g
 
 -- exactly the rules that wait for a text are listed at it
 abbrev pub IsWatched : List Rule → List (List (List ℕ)) → Type 0
-IsWatched rules watchers = (v g r : ℕ) → list_any (λ x. x == r) (watching watchers v g) ≡ waits_for (slice_get rules r) v g
+IsWatched rules watchers = (v g r : ℕ) → has nat_eq (watching watchers v g) r ≡ waits_for (slice_get rules r) v g
 
 -- the evaluation has an entry for each variable of the plan with a flag for each text, and its rules are listed
 pub record IsFor (plan : Plan) (held : Held) : Type 0 where

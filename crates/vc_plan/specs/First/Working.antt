@@ -1,6 +1,5 @@
 -- What holds of the entries and the agenda while rules are followed.
-use Rattle.std.specs.Prelude.{◌≡◌, ℕ, ◌<◌, Bool, true, false, ◌==◌, ◌⊎◌, List, [], ◌∷◌, ◌++◌, length, map, slice_get, slice_index_or, Option, None, Some}
-use Rattle.std.specs.List.{list_any}
+use Rattle.std.specs.Prelude.{◌≡◌, ℕ, ◌<◌, ◌≤◌, Bool, true, false, nat_eq, ◌⊎◌, List, [], ◌∷◌, ◌++◌, length, map, slice_get, slice_index_or, Option, None, Some}
 use Rattle.vc_base.specs.Growing.{Grows}
 use Rattle.vc_base.specs.Sets.{has}
 use Rattle.vc_plan.specs.declared.first.plans.Plan.{Plan}
@@ -14,7 +13,7 @@ use Rattle.vc_plan.specs.First.Plans.{counts_of}
 
 -- the number is one of the list
 abbrev pub is_among : List ℕ → ℕ → Bool
-is_among numbers n = list_any (λ x. x == n) numbers
+is_among numbers n = has nat_eq numbers n
 
 -- the entries have a flag for each text of each variable
 abbrev pub Fits : Plan → List Entry → Type 0
@@ -47,3 +46,15 @@ pub record Working (plan : Plan) (users : List (Option ℕ)) (agenda : Agenda) (
 abbrev pub FollowsUp : Plan → List (Option ℕ) → Agenda → Option ℕ → Type 0
 FollowsUp plan users agenda None = Working plan users agenda []
 FollowsUp plan users agenda (Some rule) = (evaluation_of plan users ≡ None) × (rule < length plan.rules) × IsCulprit plan users rule
+
+-- what holds while the first variables, so many, are begun: no text is out, and what is known waits
+pub record Starting (plan : Plan) (users : List (Option ℕ)) (agenda : Agenda) (begun : ℕ) : Type 0 where
+  pub fits : Fits plan agenda.entries
+  pub stands : Stands plan users agenda.entries
+  pub none_out : (v g : ℕ) → standing agenda.entries (out v g) ≡ false
+  pub later : (v : ℕ) → begun ≤ v → (slice_index_or agenda.entries v no_entry).value ≡ None
+  pub users_known : (v g : ℕ) → v < begun → slice_index_or users v None ≡ Some g → standing agenda.entries (is v g) ≡ true
+  pub last_known : (v g : ℕ) → v < begun → left_in (slice_index_or agenda.entries v no_entry).out ≡ g ∷ []
+      → standing agenda.entries (is v g) ≡ true
+  pub known : (v : ℕ) → is_among agenda.waiting v ≡ true → v < length plan.variables
+  pub waits : (v g : ℕ) → standing agenda.entries (is v g) ≡ true → is_among agenda.waiting v ≡ true

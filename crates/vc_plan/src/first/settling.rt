@@ -1,11 +1,12 @@
 //! Settling a plan with a user's values.
 
-ghost use Rattle.std.specs.Prelude.{◌≡◌, ℕ, ◌+◌, ◌<◌, false, List, [], length, slice_index_or, Option, None, Some, All, IfOk};
+ghost use Rattle.std.specs.Prelude.{◌≡◌, ℕ, ◌+◌, ◌<◌, false, List, [], length, slice_index_or, Option, None, Some, All, IfOk, IfNone};
+ghost use Rattle.vc_plan.specs.declared.first.plans.Plan.{Plan};
 ghost use Rattle.vc_plan.specs.First.Agendas.{unknown_count};
 ghost use Rattle.vc_plan.specs.First.Entries.{reading_in};
 ghost use Rattle.vc_plan.specs.First.Outcomes.{IsFor, OutcomeIs, IsWatched};
 ghost use Rattle.vc_plan.specs.First.Plans.{IsValid, AreUsers};
-ghost use Rattle.vc_plan.specs.First.Working.{Fits, Working, FollowsUp};
+ghost use Rattle.vc_plan.specs.First.Working.{Fits, Working, FollowsUp, Starting};
 
 use std::alloc::{AllocError, Global};
 use std::marker::Model;
@@ -61,7 +62,7 @@ impl Evaluation {
     {
         self.standing.clear();
         begin(&mut self.standing, users);
-        follow_all(&mut self.standing, &self.watchers, plan, users)
+        follow_all(&mut self.standing, &self.watchers, plan)
     }
 
     /// The variable's value, if it has one.
@@ -77,4 +78,61 @@ impl Evaluation {
     {
         self.standing.is_out(variable, text)
     }
+}
+
+/// Makes the user's values known, and of each other variable its only text.
+fn begin(standing: &mut Standing, users: &[Option<usize>])
+    requires each { length users.now ≡ length standing.old.entries }
+    requires unknown { All (λ entry. entry.value ≡ None) standing.old.entries }
+    ensures {
+        (plan : Plan) → IsValid plan → AreUsers plan users.now → Starting plan users.now standing.old 0
+            → Starting plan users.now standing.new (length users.now)
+    }
+{
+    for (variable, user) in users.iter().enumerate() {
+        standing.begin(variable, *user);
+    }
+}
+
+/// Applies rules whose condition holds. Gives the number of one that contradicts what stands, if there is one.
+fn follow(standing: &mut Standing, plan: &Plan, rules: &[usize]) -> Option<usize>
+    requires valid { IsValid plan.now }
+    requires fits { Fits plan.now standing.old.entries }
+    requires rules { All (λ rule. rule < length plan.now.rules) rules.now }
+    ensures follows {
+        (users : List (Option ℕ)) → AreUsers plan.now users → Working plan.now users standing.old rules.now
+            → FollowsUp plan.now users standing.new result
+    }
+    ensures fits { Fits plan.now standing.new.entries }
+    ensures work {
+        IfNone result (length standing.new.waiting + unknown_count standing.new.entries
+            ≡ length standing.old.waiting + unknown_count standing.old.entries)
+    }
+{
+    for number in rules {
+        if !standing.apply(&plan.rules.as_slice()[*number]) {
+            return Some(*number);
+        }
+    }
+    None
+}
+
+/// Follows each variable on the agenda, and those that become known on the way.
+fn follow_all(standing: &mut Standing, watchers: &Watchers, plan: &Plan) -> Outcome
+    requires valid { IsValid plan.now }
+    requires fits { Fits plan.now standing.old.entries }
+    requires watched { IsWatched plan.now.rules watchers.now }
+    ensures outcome {
+        (users : List (Option ℕ)) → AreUsers plan.now users → Working plan.now users standing.old []
+            → OutcomeIs plan.now users result (reading_in standing.new.entries)
+    }
+    ensures fits { Fits plan.now standing.new.entries }
+{
+    while let Some(variable) = standing.pop() {
+        let rules = watchers.of(variable, standing.value(variable));
+        if let Some(rule) = follow(standing, plan, rules) {
+            return Outcome::Broken(rule);
+        }
+    }
+    Outcome::Settled
 }

@@ -1,8 +1,8 @@
 //! What stands of all variables while rules are followed, and the agenda of what is still to be followed.
 
-ghost use Rattle.std.specs.Prelude.{◌≡◌, ◌<◌, ◌≤◌, ◌+◌, if◌then◌else◌, [], ◌∷◌, ◌++◌, length, map, slice_index_or, Option, None, Some, IfOk, IfSome, IfNone};
-ghost use Rattle.vc_plan.specs.First.Agendas.{unknown_count, with_value, with_rule};
-ghost use Rattle.vc_plan.specs.First.Entries.{blank, no_entry};
+ghost use Rattle.std.specs.Prelude.{◌≡◌, ◌<◌, ◌≤◌, ◌+◌, if◌then◌else◌, false, [], ◌∷◌, ◌++◌, length, map, slice_index_or, slice_set, Option, None, Some, IfOk, IfSome, IfNone};
+ghost use Rattle.vc_plan.specs.First.Agendas.{with_value, with_start, with_rule, refused_entry};
+ghost use Rattle.vc_plan.specs.First.Entries.{blank, no_entry, narrowed_of};
 ghost use Rattle.vc_plan.specs.First.Plans.{counts_of};
 
 use std::alloc::{AllocError, Global};
@@ -63,6 +63,16 @@ impl Standing {
         }
     }
 
+    /// Whether the variable's text is out.
+    pub fn is_out(&self, variable: usize, text: usize) -> bool
+        ensures { result ≡ slice_index_or (slice_index_or self.now.entries variable no_entry).out text false }
+    {
+        match self.entries.get(variable) {
+            Some(entry) => entry.is_out(text),
+            None => false,
+        }
+    }
+
     /// Makes the text the variable's value, which is to be followed.
     pub fn know(&mut self, variable: usize, text: usize)
         requires variable { variable < length self.old.entries }
@@ -71,6 +81,29 @@ impl Standing {
     {
         self.entries[variable].set_value(text);
         self.agenda.push_reserved(variable);
+    }
+
+    /// Makes the user's value known, or where there is none the variable's only text.
+    pub fn begin(&mut self, variable: usize, user: Option<usize>)
+        requires variable { variable < length self.old.entries }
+        requires unknown { (slice_index_or self.old.entries variable no_entry).value ≡ None }
+        ensures { self.new ≡ with_start variable user self.old }
+    {
+        match user {
+            Some(text) => self.know(variable, text),
+            None => self.know_last(variable),
+        }
+    }
+
+    /// Makes the variable's last text its value, if one is left.
+    fn know_last(&mut self, variable: usize)
+        requires variable { variable < length self.old.entries }
+        requires unknown { (slice_index_or self.old.entries variable no_entry).value ≡ None }
+        ensures { self.new ≡ with_start variable None self.old }
+    {
+        if let Narrowed::Follows(text) = self.entries[variable].narrowed() {
+            self.know(variable, text);
+        }
     }
 
     /// Takes a variable whose value is to be followed.
@@ -86,15 +119,28 @@ impl Standing {
     pub fn apply(&mut self, rule: &Rule) -> bool
         requires variable { rule.now.variable < length self.old.entries }
         requires allowed { length rule.now.allowed ≡ length (slice_index_or self.old.entries rule.now.variable no_entry).out }
-        ensures { with_rule rule.now self.old ≡ (if result then Some self.new else None) }
+        ensures applied { with_rule rule.now self.old ≡ (if result then Some self.new else None) }
+        ensures flags { map (λ entry. length entry.out) self.new.entries ≡ map (λ entry. length entry.out) self.old.entries }
     {
-        self.entries[rule.variable].exclude(rule.allowed.as_slice());
-        match self.entries[rule.variable].narrowed() {
+        match self.refuse(rule) {
             Narrowed::Contradicted => return false,
             Narrowed::Follows(text) => self.know(rule.variable, text),
             Narrowed::Open => {}
         }
         true
+    }
+
+    /// Puts out what the rule refuses, and tells what its variable's entry comes to.
+    fn refuse(&mut self, rule: &Rule) -> Narrowed
+        requires variable { rule.now.variable < length self.old.entries }
+        requires allowed { length rule.now.allowed ≡ length (slice_index_or self.old.entries rule.now.variable no_entry).out }
+        ensures entries { self.new.entries ≡ slice_set self.old.entries rule.now.variable (refused_entry rule.now self.old.entries) }
+        ensures waiting { self.new.waiting ≡ self.old.waiting }
+        ensures narrowed { result ≡ narrowed_of (refused_entry rule.now self.old.entries) }
+    {
+        let entry = &mut self.entries[rule.variable];
+        entry.exclude(rule.allowed.as_slice());
+        entry.narrowed()
     }
 }
 
