@@ -32,12 +32,15 @@ narrowed_to [] = Contradicted
 narrowed_to (g ∷ []) = Follows g
 narrowed_to (g ∷ (h ∷ more)) = Open
 
--- what an entry comes to: contradicted where its value or each text is out, a value that follows where one text is left
+-- what a value, if there is one, and flags come to: contradicted where the value or each text is out, a value that follows
+-- where one text is left
+abbrev pub narrowed_by : Option ℕ → List Bool → Narrowed
+narrowed_by None flags = narrowed_to (left_in flags)
+narrowed_by (Some g) flags = if slice_index_or flags g false then Contradicted else Open
+
+-- what an entry comes to
 abbrev pub narrowed_of : Entry → Narrowed
-narrowed_of entry = elim entry.value [
-    Some g ↦ (if slice_index_or entry.out g false then Contradicted else Open)
-  | None ↦ narrowed_to (left_in entry.out)
-  ]
+narrowed_of entry = narrowed_by entry.value entry.out
 
 -- whether it is the value
 abbrev pub is_value : Option ℕ → ℕ → Bool

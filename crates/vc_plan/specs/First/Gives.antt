@@ -14,9 +14,14 @@ pub data Giver : Type 0 where
   by_last : ℕ → Giver
   by_user : ℕ → Giver
 
+-- whether it stands that the variable has the text; no text is none of the variable's
+abbrev pub has_text : (Atom → Bool) → ℕ → Option ℕ → Bool
+has_text stands v None = false
+has_text stands v (Some g) = stands (is v g)
+
 -- whether the rule's condition is true at what stands; where the variable has no value yet it is unknown, and not true
 abbrev pub condition_holds : Rule → (Atom → Bool) → Bool
-condition_holds rule stands = elim rule.if_value [ Some g ↦ stands (is rule.if_variable g) | None ↦ false ]
+condition_holds rule stands = has_text stands rule.if_variable rule.if_value
 
 -- whether the flags refuse the text
 abbrev pub is_refused : List Bool → ℕ → Bool

@@ -12,7 +12,7 @@ invariant_of-result c =
     let entries = c.in_ok-entries.entries.items in
     let variables = c.args.plan.now.variables in
     let same : length entries ≡ length variables
-          = sym (length-map (λ (e : Entry). length e.out) entries)
-              ∙ (ap length c.in_ok-entries.ensures ∙ length-map (λ (v : Variable). length v.texts) variables) in
+          = sym (length-map entries (λ (e : Entry). length e.out))
+              ∙ (ap length c.in_ok-entries.ensures ∙ length-map variables (λ (v : Variable). length v.texts)) in
     let most : unknown_count entries ≤ length entries = unknown-le entries in
-    (omega arith, omega arith)
+    (omega (arith, c.in_ok-agenda.ensures.len, c.in_ok-agenda.ensures.exact), omega (arith, c.in_ok-agenda.ensures.exact, c.in_ok-entries.entries.ok))
