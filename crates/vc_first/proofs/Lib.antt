@@ -1,0 +1,9 @@
+pub mod Cleanness
+pub mod Cuts
+pub mod Drafting
+pub mod Joins
+pub mod LineFeeds
+pub mod Numbers
+pub mod Parts
+pub mod Rereading
+pub mod Restricting

@@ -1,0 +1,9 @@
+-- Laws of settling plans of one object.
+pub mod Bound
+pub mod Clear
+pub mod Counts
+pub mod Entries
+pub mod Givers
+pub mod Lists
+pub mod Rows
+pub mod Steps
