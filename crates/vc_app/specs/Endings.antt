@@ -12,6 +12,9 @@ use Rattle.vc_outside.specs.declared.file.FileFault.TheVariants as faults
 use Rattle.vc_outside.specs.declared.file.TheConstants.{FILE_LIMIT}
 use Rattle.vc_plan.specs.declared.first.plans.Plan.{Plan}
 use Rattle.vc_app.specs.Transcript.{IsAnswered, IsAnsweredSoFar, IsCutShort}
+use Rattle.vc_first.specs.declared.form.FirstForm.{FirstForm}
+use Rattle.vc_first.specs.Lines.{Spells}
+use Rattle.vc_app.specs.declared.loading.Job.{Job}
 use Rattle.vc_app.specs.declared.ending.NamedFile.{NamedFile}
 use Rattle.vc_app.specs.declared.ending.NamedFile.TheVariants.{Model, Script}
 use Rattle.vc_app.specs.declared.ending.Stop.{Stop}
@@ -33,6 +36,17 @@ pub record Outside : Type 0 where
   pub sink_before : ℕ
   pub sink_after : ℕ
 
+abbrev pub outside : Option Files → ℕ → ℕ → Option (List ℕ) → Option (List ℕ) → ℕ → ℕ → Outside
+outside files shelf_before shelf_after written_before written_after sink_before sink_after = record {
+  files = files;
+  shelf_before = shelf_before;
+  shelf_after = shelf_after;
+  written_before = written_before;
+  written_after = written_after;
+  sink_before = sink_before;
+  sink_after = sink_after;
+}
+
 -- the words are `run` and two names
 abbrev pub IsRun : Words → List ℕ → List ℕ → Type 0
 IsRun words model script = map string_bytes words ≡ codes "run" ∷ (model ∷ (script ∷ []))
@@ -41,13 +55,20 @@ IsRun words model script = map string_bytes words ≡ codes "run" ∷ (model ∷
 abbrev pub IsNoCommand : Words → Type 0
 IsNoCommand words = (model script : List ℕ) → ¬ IsRun words model script
 
--- the text of the model's file is this plan's
+-- the text spells a model, and the plan is that model's
 abbrev pub IsText : List ℕ → Plan → Type 0
-IsText text plan = ⊥
+IsText text plan = (form : FirstForm) × Spells text form
 
--- the text is no model's
+-- the text spells no model
 abbrev pub IsNoText : List ℕ → Type 0
-IsNoText text = ⊥
+IsNoText text = (form : FirstForm) → ¬ Spells text form
+
+-- why a text gives no plan: it spells no model, or memory was wanting
+abbrev pub StopsText : List ℕ → Stop → Type 0
+StopsText text stops.Usage = ⊥
+StopsText text stops.ModelRefused = IsNoText text
+StopsText text (stops.Unread file fault) = ⊥
+StopsText text stops.OutOfMemory = Unit {0}
 
 -- the model's file, where it is told, holds the text of this plan
 pub record Loads (files : Option Files) (name : List ℕ) (plan : Plan) : Type 0 where
@@ -63,19 +84,15 @@ pub record Refuses (files : Option Files) (name : List ℕ) : Type 0 where
   pub small : length text ≤ FILE_LIMIT
   pub unspelled : IsNoText text
 
--- what there is to do: the plan, and the text of the script
-pub record Job : Type 0 where
-  pub plan : Plan
-  pub script : List ℕ
-
--- the words ask for this job, and the files hold it
-pub record IsJob (words : Words) (files : Option Files) (job : Job) : Type 0 where
-  pub model : List ℕ
-  pub script : List ℕ
-  pub command : IsRun words model script
+-- the files, where they are told, hold the job's plan and script
+pub record LoadsJob (files : Option Files) (model script : List ℕ) (job : Job) : Type 0 where
   pub loads : Loads files model job.plan
   pub held : Holds files script job.script
   pub small : length job.script ≤ FILE_LIMIT
+
+-- the words are `run` and two names, and the files hold the job
+abbrev pub LoadsRun : Words → Option Files → Job → Type 0
+LoadsRun words files job = (model : List ℕ) × (script : List ℕ) × IsRun words model script × LoadsJob files model script job
 
 -- why a file was not read: it isn't there, the shelf's count of faults rose, it is too large, or memory was wanting
 abbrev pub IsUnread : Option Files → ℕ → ℕ → List ℕ → FileFault → Type 0
@@ -84,17 +101,29 @@ IsUnread files before after name faults.Failed = Raised before after
 IsUnread files before after name faults.TooLarge = Exceeds FILE_LIMIT files name
 IsUnread files before after name faults.OutOfMemory = Unit {0}
 
--- the model's file comes first, and the script's once that is a model's
+-- why a file of the command was not read: the model's comes first, and the script's once that is a model's
 abbrev pub IsFileUnread : Option Files → ℕ → ℕ → List ℕ → List ℕ → NamedFile → FileFault → Type 0
 IsFileUnread files before after model script Model fault = IsUnread files before after model fault
 IsFileUnread files before after model script Script fault = (plan : Plan) × Loads files model plan × IsUnread files before after script fault
 
--- why nothing was answered
+-- why the model and the script of these names are not there to be run
+abbrev pub StopsJob : Option Files → ℕ → ℕ → List ℕ → List ℕ → Stop → Type 0
+StopsJob files before after model script stops.Usage = ⊥
+StopsJob files before after model script stops.ModelRefused = Refuses files model
+StopsJob files before after model script (stops.Unread file fault) = IsFileUnread files before after model script file fault
+StopsJob files before after model script stops.OutOfMemory = Unit {0}
+
+-- the words are `run` and two names, and what they name can't be run
+abbrev pub StopsRun : Words → Option Files → ℕ → ℕ → Stop → Type 0
+StopsRun words files before after stop =
+    (model : List ℕ) × (script : List ℕ) × IsRun words model script × StopsJob files before after model script stop
+
+-- why nothing was answered: the words are no command, or what they name can't be run
 abbrev pub Causes : Words → Option Files → ℕ → ℕ → Stop → Type 0
 Causes words files before after stops.Usage = IsNoCommand words
-Causes words files before after stops.ModelRefused = (model : List ℕ) × (script : List ℕ) × IsRun words model script × Refuses files model
-Causes words files before after (stops.Unread file fault) = (model : List ℕ) × (script : List ℕ) × IsRun words model script × IsFileUnread files before after model script file fault
-Causes words files before after stops.OutOfMemory = (model : List ℕ) × (script : List ℕ) × IsRun words model script
+Causes words files before after stops.ModelRefused = StopsRun words files before after stops.ModelRefused
+Causes words files before after (stops.Unread file fault) = StopsRun words files before after (stops.Unread file fault)
+Causes words files before after stops.OutOfMemory = StopsRun words files before after stops.OutOfMemory
 
 -- the place of a file's name among the words
 abbrev pub place_of : NamedFile → ℕ
@@ -152,6 +181,15 @@ pub record IsAnsweredThen (plan : Plan) (script : List ℕ) (old new : Option (L
   pub answered : IsAnsweredSoFar plan script old between
   pub added : Adds between new
 
+-- how saying that memory was wanting ends
+abbrev pub EndsExhausted : Option (List ℕ) → Option (List ℕ) → Ending → Type 0
+EndsExhausted old new endings.Exhausted = Appends old new memory_line
+EndsExhausted old new endings.ExhaustedCut = AppendsFront old new memory_line
+EndsExhausted old new endings.Answered = ⊥
+EndsExhausted old new endings.AnswerCut = ⊥
+EndsExhausted old new (endings.Stopped stop) = ⊥
+EndsExhausted old new (endings.MessageCut stop) = ⊥
+
 -- how a job ends, and what it has written then
 abbrev pub EndsJob : Job → Option (List ℕ) → Option (List ℕ) → Ending → Type 0
 EndsJob job old new endings.Answered = IsAnswered job.plan job.script old new
@@ -178,3 +216,16 @@ HasSinkCause before after endings.ExhaustedCut = Raised before after
 HasSinkCause before after endings.Answered = Unit {0}
 HasSinkCause before after endings.Exhausted = Unit {0}
 HasSinkCause before after (endings.Stopped stop) = Unit {0}
+
+-- the words are `run` and two names, the files hold the job, and it ends so
+abbrev pub EndsRun : Words → Outside → Ending → Type 0
+EndsRun words o ending = (job : Job) × LoadsRun words o.files job × EndsJob job o.written_before o.written_after ending
+
+-- how the program ends, why, and what it has written then
+abbrev pub Ends : Words → Outside → Ending → Type 0
+Ends words o (endings.Stopped stop) = Causes words o.files o.shelf_before o.shelf_after stop × Appends o.written_before o.written_after (stop_line words stop)
+Ends words o (endings.MessageCut stop) = Causes words o.files o.shelf_before o.shelf_after stop × AppendsFront o.written_before o.written_after (stop_line words stop)
+Ends words o endings.Answered = EndsRun words o endings.Answered
+Ends words o endings.Exhausted = EndsRun words o endings.Exhausted
+Ends words o endings.AnswerCut = EndsRun words o endings.AnswerCut
+Ends words o endings.ExhaustedCut = EndsRun words o endings.ExhaustedCut

@@ -103,7 +103,8 @@ fn name_in(words: &[String], file: NamedFile) -> &str
     }
 }
 
-fn write_text<S: Sink>(out: &mut S, text: &str) -> Result<(), Failed>
+/// Writes the whole text. After an error a front of it was written.
+pub fn write_text<S: Sink>(out: &mut S, text: &str) -> Result<(), Failed>
     ensures ok { OnOk result (Appends (S.written out.old) (S.written out.new) text.now) }
     ensures err { OnErr result (AppendsFront (S.written out.old) (S.written out.new) text.now) }
     ensures cause { HasCause (S.faults out.old) (S.faults out.new) result }

@@ -2,9 +2,11 @@
 #![tactic(auto)]
 
 pub mod ending;
+pub mod loading;
 pub mod replies;
 pub mod requests;
 pub mod rows;
 pub mod script;
 pub mod sessions;
+pub mod top;
 pub mod transcript;
