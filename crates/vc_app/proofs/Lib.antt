@@ -1,3 +1,4 @@
+pub mod EndingLaws
 pub mod ScriptLines
 pub mod SinkLaws
 pub mod StateLaws
