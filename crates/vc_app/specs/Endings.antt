@@ -229,3 +229,10 @@ Ends words o endings.Answered = EndsRun words o endings.Answered
 Ends words o endings.Exhausted = EndsRun words o endings.Exhausted
 Ends words o endings.AnswerCut = EndsRun words o endings.AnswerCut
 Ends words o endings.ExhaustedCut = EndsRun words o endings.ExhaustedCut
+
+-- the exit status is that of an ending of the program, in which the sink failed only where its count of faults rose
+pub record EndsWith (words : Words) (o : Outside) (status : ℕ) : Type 0 where
+  pub ending : Ending
+  pub number : status ≡ status_of ending
+  pub ends : Ends words o ending
+  pub cause : HasSinkCause o.sink_before o.sink_after ending

@@ -10,3 +10,5 @@ pub mod script;
 pub mod sessions;
 pub mod top;
 pub mod transcript;
+
+pub use top::desk;

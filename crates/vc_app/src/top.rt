@@ -47,3 +47,12 @@ fn end<F: Shelf, S: Sink>(alloc: Global, words: &[String], shelf: &mut F, out: &
         Err(stop) => say_stop(out, words, stop),
     }
 }
+
+/// Does what the words ask, which stand behind the program's name, and answers the exit status: 0 where each line of the
+/// script was answered, 1 for words that are no command, 2 for a text that is no model's, 3 for a file that isn't there,
+/// 4 for a fault of the shelf, 5 for one of the sink, 8 for want of memory, 11 for a file that is too large.
+pub fn desk<F: Shelf, S: Sink>(alloc: Global, words: &[String], shelf: &mut F, out: &mut S) -> u8
+    ensures ends { endings.EndsWith words.now (endings.outside (F.files shelf.old) (F.faults shelf.old) (F.faults shelf.new) (S.written out.old) (S.written out.new) (S.faults out.old) (S.faults out.new)) result }
+{
+    end(alloc, words, shelf, out).status()
+}
