@@ -5,5 +5,6 @@ pub mod Joins
 pub mod LineFeeds
 pub mod Numbers
 pub mod Parts
+pub mod Planning
 pub mod Rereading
 pub mod Restricting

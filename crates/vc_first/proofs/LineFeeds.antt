@@ -32,7 +32,7 @@ characteristics_lack (c ∷ cs) h =
   let parts = characteristic_parts c both.0 in
   all_lack-append 10 (characteristic_lines c) (flat_map characteristic_lines cs) (
     line_lacks 10 refl (codes "CHAR" ∷ c.name ∷ c.length ∷ codes "RESTRICTABLE" ∷ []) (
-      lacks-test 10 (codes "CHAR") refl, (name_lacks 10 refl c.name parts.name, (count_lacks 10 refl 30 c.length parts.length,
+      lacks-test 10 (codes "CHAR") refl, (name_lacks 10 refl c.name parts.name, (count_lacks 10 refl 30 c.length parts.count,
       (lacks-test 10 (codes "RESTRICTABLE") refl, tt)))),
     values_lack c.values (all_lack-texts 10 refl c.values parts.values)) (characteristics_lack cs both.1)
 
@@ -42,8 +42,8 @@ members_lack (n ∷ ns) h =
   let both = and_true (is_free_name n) (list_all is_free_name ns) h in
   (line_lacks 10 refl (codes "HAS" ∷ n ∷ []) (lacks-test 10 (codes "HAS") refl, (name_lacks 10 refl n both.0, tt)), members_lack ns both.1)
 
-restriction_lacks : (r : Restriction) → IsRestriction r → Lacks 10 (restriction_line r)
-restriction_lacks r h =
+restriction_lacks : (members : List (List ℕ)) (r : Restriction) → IsRestriction members r → Lacks 10 (restriction_line r)
+restriction_lacks members r h =
   let v = name_lacks 10 refl r.variable h.variable in
   let a = name_lacks 10 refl r.target h.target in
   let b = name_lacks 10 refl r.condition h.condition in
@@ -55,15 +55,15 @@ restriction_lacks r h =
     (lacks-test 10 (codes "IF") refl, (operand_lacks 10 refl refl r.variable r.condition v b,
     (lacks-test 10 (codes "=") refl, (lacks-append 10 (quoted r.condition_text) (codes ".") (quoted_lacks 10 refl r.condition_text (text_lacks 10 refl r.condition_text h.text)) (refl, tt), tt))))))))
 
-block_lacks : (class : List ℕ) (b : Block) → is_free_name class ≡ true → is_free_name b.constraint ≡ true → IsRestriction b.restriction → AllLack 10 (block_lines class b)
-block_lacks class b h k r =
+block_lacks : (class : List ℕ) (members : List (List ℕ)) (b : Block) → is_free_name class ≡ true → is_free_name b.constraint ≡ true → IsRestriction members b.restriction → AllLack 10 (block_lines class b)
+block_lacks class members b h k r =
   let v = name_lacks 10 refl b.restriction.variable r.variable in
   let a = name_lacks 10 refl b.restriction.target r.target in
   (line_lacks 10 refl (codes "CONSTRAINT" ∷ b.constraint ∷ []) (lacks-test 10 (codes "CONSTRAINT") refl, (name_lacks 10 refl b.constraint k, tt)),
   (line_lacks 10 refl (codes "OBJECTS:" ∷ (codes "?" ++ b.restriction.variable) ∷ codes "IS_A" ∷ (codes "(300)" ++ class ++ codes ".") ∷ []) (
     lacks-test 10 (codes "OBJECTS:") refl, (lacks-append 10 (codes "?") b.restriction.variable (refl, tt) v,
     (lacks-test 10 (codes "IS_A") refl, (lacks-append 10 (codes "(300)" ++ class) (codes ".") (lacks-append 10 (codes "(300)") class (lacks-test 10 (codes "(300)") refl) (name_lacks 10 refl class h)) (refl, tt), tt)))),
-  (restriction_lacks b.restriction r,
+  (restriction_lacks members b.restriction r,
   (line_lacks 10 refl (codes "INFERENCES:" ∷ (operand b.restriction.variable b.restriction.target ++ codes ".") ∷ []) (
     lacks-test 10 (codes "INFERENCES:") refl, (lacks-append 10 (operand b.restriction.variable b.restriction.target) (codes ".") (operand_lacks 10 refl refl b.restriction.variable b.restriction.target v a) (refl, tt), tt)),
   (line_lacks 10 refl (codes "END" ∷ []) (lacks-test 10 (codes "END") refl, tt), tt)))))
@@ -74,7 +74,7 @@ blocks_lack class members [] h m k = tt
 blocks_lack class members (b ∷ bs) h m k =
   let both = and_true (is_block members b) (list_all (is_block members) bs) k in
   let parts = block_parts members b m both.0 in
-  all_lack-append 10 (block_lines class b) (flat_map (block_lines class) bs) (block_lacks class b h parts.0 parts.1) (blocks_lack class members bs h m both.1)
+  all_lack-append 10 (block_lines class b) (flat_map (block_lines class) bs) (block_lacks class members b h parts.0 parts.1) (blocks_lack class members bs h m both.1)
 
 uses_lack : (members : List (List ℕ)) (bs : List Block) → list_all is_free_name members ≡ true
   → list_all (is_block members) bs ≡ true → AllLack 10 (map (λ b. uses_line b.constraint) bs)

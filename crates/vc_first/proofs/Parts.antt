@@ -1,6 +1,7 @@
 -- What the parts of a model are, one fact at a time.
-use Rattle.std.proofs.Common.{◌≡◌, ℕ, ◌∙◌, List, [], ◌∷◌, Bool, true, false, not, ◌&&◌, ◌||◌, ap, refl, sym, subst, length, ◌⊎◌, inl, inr}
+use Rattle.std.proofs.Common.{◌≡◌, ◌<◌, ltb, ℕ, ◌∙◌, List, [], ◌∷◌, Bool, true, false, not, ◌&&◌, ◌||◌, ap, refl, sym, subst, length, ◌⊎◌, inl, inr}
 use Rattle.std.specs.List.{list_all, list_any}
+use Rattle.std.proofs.lemmas.Bool.{ltb-true}
 use Rattle.std.proofs.lemmas.Slice.Eq.{bytes_eq-Decides}
 use Rattle.vc_value.specs.Words.{same_bytes}
 use Rattle.vc_first.specs.declared.form.FirstForm.{FirstForm}
@@ -32,8 +33,9 @@ texts limit (t ∷ ts) h =
 
 -- a characteristic's parts
 pub record IsCharacteristic (c : Characteristic) : Type 0 where
-  pub length : is_count 30 c.length ≡ true
+  pub count : is_count 30 c.length ≡ true
   pub name : is_free_name c.name ≡ true
+  pub some : 0 < length c.values
   pub values : list_all is_text c.values ≡ true
 
 pub characteristic_parts : (c : Characteristic) → is_characteristic c ≡ true → IsCharacteristic c
@@ -42,7 +44,7 @@ characteristic_parts c h =
   let inner = and_true (is_free_name c.name) (are_values (number_of c.length) c.values) outer.1 in
   let values = and_true (is_some_up_to 64 (length c.values)) (list_all (is_value (number_of c.length)) c.values && are_distinct (λ text. text) c.values) inner.1 in
   let each = and_true (list_all (is_value (number_of c.length)) c.values) (are_distinct (λ text. text) c.values) values.1 in
-  record { length = outer.0; name = inner.0; values = texts (number_of c.length) c.values each.0 }
+  record { count = outer.0; name = inner.0; some = ltb-true 0 (length c.values) (and_true (ltb 0 (length c.values)) _ values.0).0; values = texts (number_of c.length) c.values each.0 }
 
 -- characteristics have free names
 pub names_free : (cs : List Characteristic) → list_all is_characteristic cs ≡ true → list_all (λ c. is_free_name c.name) cs ≡ true
@@ -61,16 +63,18 @@ members_free cs (n ∷ ns) h k =
   ∙ members_free cs ns h both.1
 
 -- a restriction's parts
-pub record IsRestriction (r : Restriction) : Type 0 where
+pub record IsRestriction (members : List (List ℕ)) (r : Restriction) : Type 0 where
   pub variable : is_free_name r.variable ≡ true
   pub target : is_free_name r.target ≡ true
+  pub target_there : has_name (λ name. name) members r.target ≡ true
   pub condition : is_free_name r.condition ≡ true
+  pub condition_there : has_name (λ name. name) members r.condition ≡ true
   pub some : not (allowed.is_nothing r.allowed) ≡ true
   pub texts : list_all is_text r.allowed ≡ true
   pub text : is_text r.condition_text ≡ true
 
 pub restriction_parts : (members : List (List ℕ)) (r : Restriction) → list_all is_free_name members ≡ true
-  → is_restriction members r ≡ true → IsRestriction r
+  → is_restriction members r ≡ true → IsRestriction members r
 restriction_parts members r h k =
   let outer = and_true (is_free_name r.variable) (are_operands members r && are_texts r) k in
   let inner = and_true (are_operands members r) (are_texts r) outer.1 in
@@ -80,6 +84,8 @@ restriction_parts members r h k =
   record {
     variable = outer.0;
     target = holds_of_found is_free_name (λ name. name) members r.target h operands.0;
+    target_there = operands.0;
+    condition_there = operands.1;
     condition = holds_of_found is_free_name (λ name. name) members r.condition h operands.1;
     some = list.0;
     texts = list.1;
@@ -87,7 +93,7 @@ restriction_parts members r h k =
 
 -- a block's parts
 pub block_parts : (members : List (List ℕ)) (b : Block) → list_all is_free_name members ≡ true
-  → is_block members b ≡ true → (is_free_name b.constraint ≡ true) × IsRestriction b.restriction
+  → is_block members b ≡ true → (is_free_name b.constraint ≡ true) × IsRestriction members b.restriction
 block_parts members b h k =
   let both = and_true (is_free_name b.constraint) (is_restriction members b.restriction) k in
   (both.0, restriction_parts members b.restriction h both.1)
@@ -99,6 +105,7 @@ pub record IsForm (form : FirstForm) : Type 0 where
   pub characteristics : list_all is_characteristic form.characteristics ≡ true
   pub class : is_free_name form.class ≡ true
   pub members : list_all is_free_name form.members ≡ true
+  pub declared : list_all (has_name (λ c. c.name) form.characteristics) form.members ≡ true
   pub blocks : list_all (is_block form.members) form.blocks ≡ true
   pub net : is_free_name form.net ≡ true
   pub material : is_material form.material ≡ true
@@ -124,6 +131,7 @@ form_parts form h =
     characteristics = characteristics;
     class = class.0;
     members = members_free form.characteristics form.members characteristics declared_members.0;
+    declared = declared_members.0;
     blocks = (and_true (list_all (is_block form.members) form.blocks) (are_distinct (λ b. b.constraint) form.blocks) blocks.1).0;
     net = net_name.0;
     material = object.1 }

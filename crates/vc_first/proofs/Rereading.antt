@@ -34,15 +34,15 @@ characteristics-lines (c ∷ cs) d h e =
     ∙ ap (with_lines (map value_line c.values)) (characteristics-lines cs d both.1 e)
     ∙ values-lines c.values rest (all_lack-texts 39 refl c.values parts.values)
     ∙ ap (λ v. record rest { values = v }) (append-nil c.values))
-  ∙ char-line c.name c.length (record rest { values = c.values }) (name_lacks 32 refl c.name parts.name) (count_lacks 32 refl 30 c.length parts.length)
+  ∙ char-line c.name c.length (record rest { values = c.values }) (name_lacks 32 refl c.name parts.name) (count_lacks 32 refl 30 c.length parts.count)
 
 -- the line of a restriction whose parts are allowed
-restriction-again : (v a : List ℕ) (ts : List (List ℕ)) (b u : List ℕ) (d : Draft)
-  → IsRestriction (record { variable = v; target = a; allowed = ts; condition = b; condition_text = u })
+restriction-again : (members : List (List ℕ)) (v a : List ℕ) (ts : List (List ℕ)) (b u : List ℕ) (d : Draft)
+  → IsRestriction members (record { variable = v; target = a; allowed = ts; condition = b; condition_text = u })
   → with_line (restriction_line (record { variable = v; target = a; allowed = ts; condition = b; condition_text = u })) d
     ≡ record d { restriction = record { variable = v; target = a; allowed = ts; condition = b; condition_text = u } }
-restriction-again v a [] b u d h = let f : false ≡ true = h.some in absurd (cc)
-restriction-again v a (t ∷ ts) b u d h =
+restriction-again members v a [] b u d h = let f : false ≡ true = h.some in absurd (cc)
+restriction-again members v a (t ∷ ts) b u d h =
   restriction-line v a t ts b u d (record {
     variable_space = name_lacks 32 refl v h.variable;
     variable_quote = name_lacks 39 refl v h.variable;
@@ -58,15 +58,15 @@ restriction-again v a (t ∷ ts) b u d h =
     (all_lack-texts 39 refl (t ∷ ts) h.texts) (all_lack-texts 41 refl (t ∷ ts) h.texts) (all_lack-texts 44 refl (t ∷ ts) h.texts)
 
 -- a block, where no restriction waits for its own
-block-lines : (class : List ℕ) (b : Block) (d : Draft) → IsRestriction b.restriction
+block-lines : (class : List ℕ) (members : List (List ℕ)) (b : Block) (d : Draft) → IsRestriction members b.restriction
   → with_lines (block_lines class b) d ≡ record d { blocks = b ∷ d.blocks; restriction = no_restriction }
-block-lines class b d h =
+block-lines class members b d h =
   let r = b.restriction in
   let head = with_line (line (codes "CONSTRAINT" ∷ b.constraint ∷ [])) in
   let object = with_line (object_line class r.variable) in
   let restriction = with_line (restriction_line r) in
   ap (λ e. head (object (restriction e))) (ap (with_line (inference_line r)) (end-line d) ∙ inference-line r d)
-  ∙ ap (λ e. head (object e)) (restriction-again r.variable r.target r.allowed r.condition r.condition_text d h)
+  ∙ ap (λ e. head (object e)) (restriction-again members r.variable r.target r.allowed r.condition r.condition_text d h)
   ∙ ap head (object-line class r.variable (record d { restriction = r }))
   ∙ constraint-line b.constraint (record d { restriction = r })
 
@@ -78,7 +78,7 @@ blocks-lines class members (b ∷ bs) d m h e =
   let both = and_true (is_block members b) (list_all (is_block members) bs) h in
   with_lines-append (block_lines class b) (flat_map (block_lines class) bs) d
   ∙ ap (with_lines (block_lines class b)) (blocks-lines class members bs d m both.1 e)
-  ∙ block-lines class b (record d { blocks = bs ++ d.blocks; restriction = no_restriction }) (block_parts members b m both.0).1
+  ∙ block-lines class members b (record d { blocks = bs ++ d.blocks; restriction = no_restriction }) (block_parts members b m both.0).1
 
 -- six lists of lines in front of a seventh
 six : (a b c e f g h : List (List ℕ)) (d : Draft)

@@ -2,4 +2,5 @@ pub mod Drafts
 pub mod Forms
 pub mod Lines
 pub mod Names
+pub mod Plans
 pub mod Spelling

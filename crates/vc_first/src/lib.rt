@@ -5,6 +5,7 @@ mod checks;
 mod drafts;
 pub mod form;
 mod named;
+pub mod plans;
 mod printing;
 mod spelling;
 mod stack;
@@ -15,6 +16,7 @@ ghost use Rattle.vc_first.specs.Lines.{Spells};
 
 use std::alloc::{AllocError, Global};
 
+pub use plans::plan_of_form;
 pub use form::{Block, Characteristic, FirstForm, Restriction};
 
 /// The model that the text spells, or `None` where it spells none of the first form.
