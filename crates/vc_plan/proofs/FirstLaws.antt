@@ -3,7 +3,9 @@ pub mod Bound
 pub mod Clear
 pub mod Counts
 pub mod Entries
+pub mod Following
 pub mod Givers
 pub mod Lists
+pub mod Members
 pub mod Rows
 pub mod Steps
