@@ -11,3 +11,4 @@ pub mod Members
 pub mod Rows
 pub mod Starts
 pub mod Steps
+pub mod Watching

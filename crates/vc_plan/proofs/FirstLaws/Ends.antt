@@ -1,5 +1,5 @@
 -- The steps of the agenda, and how settling begins and ends.
-use Rattle.std.proofs.Common.{◌≡◌, ◌≢◌, ℕ, zero, suc, ◌+◌, ◌<◌, ◌≤◌, Bool, true, false, cond, not, ◌&&◌, ◌||◌, ◌⊎◌, List, [], ◌∷◌, ◌++◌, length, map, set, get_or, replicate, refl, sym, ◌∙◌, ap, subst, inl, inr, arith, add-one, length-set}
+use Rattle.std.proofs.Common.{◌≡◌, ◌≢◌, ℕ, zero, suc, ◌+◌, ◌<◌, ◌≤◌, Bool, true, false, cond, not, ◌&&◌, ◌||◌, ◌⊎◌, List, [], ◌∷◌, ◌++◌, length, map, set, get_or, replicate, refl, sym, ◌∙◌, ap, subst, inl, inr, arith, length-set, length-append}
 use Rattle.std.specs.Prelude.{◌==◌, nat_eq, Option, None, Some, IfSome, slice_get, All}
 use Rattle.std.specs.List.{filter, find, list_any}
 use Rattle.std.proofs.Math.ListN.{get_or-map}
@@ -16,7 +16,7 @@ use Rattle.vc_plan.specs.declared.first.entries.Narrowed.{Narrowed}
 use Rattle.vc_plan.specs.declared.first.entries.Narrowed.TheVariants.{Contradicted, Follows, Open}
 use Rattle.vc_plan.specs.declared.first.plans.Plan.{Plan}
 use Rattle.vc_plan.specs.declared.first.plans.Rule.{Rule}
-use Rattle.vc_plan.specs.First.Agendas.{with_value, with_narrowed, with_last, with_start, refused_entry, with_rule}
+use Rattle.vc_plan.specs.First.Agendas.{unknown_count, with_value, with_narrowed, refused_entry, with_rule}
 use Rattle.vc_plan.specs.First.Atoms.{Atom, here, out, is, same_atom, is_clear}
 use Rattle.vc_plan.specs.First.Entries.{no_entry, blank, left_in, narrowed_to, narrowed_by, narrowed_of, is_value, standing, reading_in}
 use Rattle.vc_plan.specs.First.Evaluations.{Reading, value_of, flags_of, reading_of, reading_at, evaluation_of, IsCulprit}
@@ -27,7 +27,7 @@ use Rattle.vc_plan.specs.First.Plans.{numbers_below, counts_of, count_of, atom_c
 use Rattle.vc_plan.specs.First.Working.{Fits, Stands, IsApplied, Working, FollowsUp, Starting, is_among}
 use Rattle.vc_plan.proofs.FirstLaws.Bound.{base_clear, base_is_base}
 use Rattle.vc_plan.proofs.FirstLaws.Clear.{atom_exact, atom_itself, same_stands}
-use Rattle.vc_plan.proofs.FirstLaws.Counts.{lengths-refused, lengths-known}
+use Rattle.vc_plan.proofs.FirstLaws.Counts.{unknown-set_same, unknown-set_known}
 use Rattle.vc_plan.proofs.FirstLaws.Entries.{entry_at, fits_count, fits_length, IsSound, After, changed, unchanged, after, value_is, is_value_is, follows_left}
 use Rattle.vc_plan.proofs.FirstLaws.Following.{IsReady, refused_sound, refused_blamed, Blamed, Nearly, nearly_after, nearly_open, nearly_follows, text_back, known_keeps, last_called, left_free}
 use Rattle.vc_plan.proofs.FirstLaws.Givers.{system_laws, IsGiven, given_parts, last_in, when_in}
@@ -121,6 +121,37 @@ rule_step plan users agenda next r pending rule valid work among applied =
             (nearly_open plan users between pending rule.variable (near free)
                 (subst IsSound (sym at_between) (refused_sound plan users agenda.entries rule valid work.fits work.stands ready free))
                 (ap narrowed_of at_between ∙ comes))
+
+-- a rule takes an unknown variable for each that it puts on the agenda
+pub rule_work : (agenda next : Agenda) (rule : Rule) → rule.variable < length agenda.entries → with_rule rule agenda ≡ Some next
+    → length next.waiting + unknown_count next.entries ≡ length agenda.waiting + unknown_count agenda.entries
+rule_work agenda next rule below applied =
+    step (narrowed_of e) refl applied
+  where
+    e : Entry
+    e = refused_entry rule agenda.entries
+    between : Agenda
+    between = record { entries = refused_entries rule agenda.entries; waiting = agenda.waiting }
+    same : unknown_count between.entries ≡ unknown_count agenda.entries
+    same = unknown-set_same agenda.entries rule.variable e refl
+    step : (n : Narrowed) → narrowed_of e ≡ n → with_narrowed rule.variable n between ≡ Some next
+        → length next.waiting + unknown_count next.entries ≡ length agenda.waiting + unknown_count agenda.entries
+    step Contradicted comes ends = absurd (cc)
+    step (Follows g) comes ends =
+        let last : (e.value ≡ None) × (left_in e.out ≡ g ∷ []) = follows_unknown e.value e.out g comes in
+        let is_next : with_value rule.variable g between ≡ next = cc in
+        let inside : rule.variable < length between.entries = omega (arith, length-set agenda.entries rule.variable e) in
+        let fewer : unknown_count (known_entries g between.entries rule.variable) + 1 ≡ unknown_count between.entries
+              = unknown-set_known between.entries rule.variable g (known_entry g between.entries rule.variable) inside
+                  (ap (λ (z : Entry). z.value) (refused_at rule agenda.entries below) ∙ last.0) refl in
+        subst (λ (a : Agenda). length a.waiting + unknown_count a.entries ≡ length agenda.waiting + unknown_count agenda.entries) is_next
+            (let more : length (agenda.waiting ++ rule.variable ∷ []) ≡ length agenda.waiting + 1
+                  = length-append agenda.waiting (rule.variable ∷ []) in
+              omega (arith, same))
+    step Open comes ends =
+        let is_next : between ≡ next = cc in
+        subst (λ (a : Agenda). length a.waiting + unknown_count a.entries ≡ length agenda.waiting + unknown_count agenda.entries) is_next
+            (ap (λ n. length agenda.waiting + n) same)
 
 pub rule_blamed : (plan : Plan) (users : List (Option ℕ)) (agenda : Agenda) (r : ℕ) (pending : List ℕ) (rule : Rule) → IsValid plan
     → Working plan users agenda (r ∷ pending) → slice_get plan.rules r ≡ Some rule → with_rule rule agenda ≡ None

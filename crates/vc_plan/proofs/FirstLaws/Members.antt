@@ -78,3 +78,9 @@ each_giver plan P rules last user o among =
             subst P (sym m.2) (user m.0)
         ]
     ]
+
+-- an element at a place within the list, with any default
+pub slice_get_at : {X : Type 0} (xs : List X) (i : ℕ) (d : X) → i < length xs → slice_get xs i ≡ Some (get_or xs i d)
+slice_get_at [] i d below = absurd (omega arith)
+slice_get_at (x ∷ xs) zero d below = refl
+slice_get_at (x ∷ xs) (suc i) d below = slice_get_at xs i d (omega arith)

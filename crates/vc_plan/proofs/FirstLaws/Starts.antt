@@ -1,10 +1,10 @@
 -- How settling begins: nothing is known, then the user's values and the only texts are.
-use Rattle.std.proofs.Common.{◌≡◌, ◌≢◌, ℕ, zero, suc, ◌+◌, ◌<◌, ◌≤◌, Bool, true, false, cond, not, ◌⊎◌, List, [], ◌∷◌, ◌++◌, length, map, set, get_or, replicate, refl, sym, ◌∙◌, ap, subst, inl, inr, arith}
-use Rattle.std.specs.Prelude.{nat_eq, Option, None, Some, IfSome, slice_get}
+use Rattle.std.proofs.Common.{◌≡◌, ◌≢◌, ℕ, zero, suc, ◌+◌, ◌<◌, ◌≤◌, Bool, true, false, cond, not, ◌⊎◌, List, [], ◌∷◌, ◌++◌, length, map, set, get_or, replicate, refl, sym, ◌∙◌, ap, subst, inl, inr, arith, length-set}
+use Rattle.std.specs.Prelude.{nat_eq, Option, None, Some, IfSome, slice_get, All}
 use Rattle.std.specs.List.{list_any}
 use Rattle.std.proofs.Math.ListN.{get_or-map}
 use Rattle.std.proofs.lemmas.Bool.{cases_eq, cases_lt}
-use Rattle.std.proofs.lemmas.List.{get_or_past, get_or-replicate, length-replicate, length-map}
+use Rattle.std.proofs.lemmas.List.{get_or_past, get_or-replicate, get_or-set_other, length-replicate, length-map}
 use Rattle.vc_base.specs.Sets.{has}
 use Rattle.vc_base.proofs.SetLaws.{has_first, has_cases, has_either, has_front, has_back}
 use Rattle.vc_base.proofs.Settling.{IsIn}
@@ -20,7 +20,7 @@ use Rattle.vc_plan.specs.First.Held.{Entry, Agenda}
 use Rattle.vc_plan.specs.First.Plans.{counts_of, count_of, IsValid, AreUsers}
 use Rattle.vc_plan.specs.First.Working.{Fits, Stands, Working, Starting, is_among}
 use Rattle.vc_plan.proofs.FirstLaws.Clear.{atom_exact, atom_itself}
-use Rattle.vc_plan.proofs.FirstLaws.Counts.{lengths-known}
+use Rattle.vc_plan.proofs.FirstLaws.Counts.{lengths-known, get_or_any}
 use Rattle.vc_plan.proofs.FirstLaws.Entries.{entry_at, fits_count, fits_length, After, changed, unchanged, after, value_is, follows_left, left_has}
 use Rattle.vc_plan.proofs.FirstLaws.Following.{known_keeps, last_called, left_free}
 use Rattle.vc_plan.proofs.FirstLaws.Lists.{number_exact, number_itself}
@@ -213,3 +213,27 @@ start_ends plan users agenda given start =
     waits_text : (v : ℕ) (text : Option ℕ) → has_text (standing agenda.entries) v text ≡ true → is_among agenda.waiting v ≡ true
     waits_text v None h = absurd (cc)
     waits_text v (Some g) h = start.waits v g h
+
+-- beginning a variable leaves how many there are, and the other variables
+pub start_length : (v : ℕ) (user : Option ℕ) (agenda : Agenda) → length (with_start v user agenda).entries ≡ length agenda.entries
+start_length v (Some g) agenda = length-set agenda.entries v (known_entry g agenda.entries v)
+start_length v None agenda = last_length (narrowed_of (entry_at agenda.entries v))
+  where
+    last_length : (n : Narrowed) → length (with_last v n agenda).entries ≡ length agenda.entries
+    last_length Contradicted = refl
+    last_length (Follows g) = length-set agenda.entries v (known_entry g agenda.entries v)
+    last_length Open = refl
+
+pub start_other : (v w : ℕ) (user : Option ℕ) (agenda : Agenda) → w ≢ v → entry_at (with_start v user agenda).entries w ≡ entry_at agenda.entries w
+start_other v w (Some g) agenda other = get_or-set_other agenda.entries v w (known_entry g agenda.entries v) no_entry other
+start_other v w None agenda other = last_other (narrowed_of (entry_at agenda.entries v))
+  where
+    last_other : (n : Narrowed) → entry_at (with_last v n agenda).entries w ≡ entry_at agenda.entries w
+    last_other Contradicted = refl
+    last_other (Follows g) = get_or-set_other agenda.entries v w (known_entry g agenda.entries v) no_entry other
+    last_other Open = refl
+
+-- cleared entries have no value
+pub cleared_unknown : (entries : List Entry) → All (λ entry. entry.value ≡ None) (cleared entries)
+cleared_unknown entries = λ k d below.
+    ap (λ (e : Entry). e.value) (get_or_any (cleared entries) k d no_entry below ∙ cleared_at entries k)
