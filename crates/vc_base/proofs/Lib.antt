@@ -1,3 +1,4 @@
+pub mod Counting
+pub mod RunLaws
 pub mod SetLaws
 pub mod Settling
-pub mod Counting

@@ -69,6 +69,14 @@ impl Word {
         self.inner.extend_from_slice(bytes)
     }
 
+    /// Puts the text at the end. After an error the word is as before.
+    pub fn append_text(&mut self, text: &str) -> Result<(), AllocError>
+        ensures ok { OnOk result (self.new ≡ self.old ++ text.now) }
+        ensures err { OnErr result (self.new ≡ self.old) }
+    {
+        self.append(text.as_bytes())
+    }
+
     /// Whether these are the bytes.
     pub fn is(&self, bytes: &[u8]) -> bool
         ensures { result ≡ same_bytes self.now bytes.now }

@@ -1,0 +1,5 @@
+pub mod EndingLaws
+pub mod ScriptLines
+pub mod SinkLaws
+pub mod StateLaws
+pub mod TranscriptLaws

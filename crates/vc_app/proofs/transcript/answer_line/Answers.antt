@@ -1,0 +1,21 @@
+-- A front of the answer to the line's request was written.
+use Rattle.std.proofs.Common.{◌≡◌, ◌++◌, Bool, false, sym, ap, subst, ◌∙◌}
+use Rattle.vc_app.specs.Sessions.{state_of}
+use Rattle.vc_app.specs.Script.{is_skipped}
+use Rattle.vc_app.specs.Transcript.{AnswersLine}
+use Rattle.vc_app.proofs.TranscriptLaws.{line_answer}
+use Rattle.vc_app.proofs.transcript.answer_line.Goals as goal
+
+pub returns-in_err-write_all-clause-cut : goal.returns-in_err-write_all-clause-cut
+returns-in_err-write_all-clause-cut g c = λ _.
+    let front = c.in_err-write_all.ensures.err in
+    let next = state_of c.answer_asked.new.opened in
+    let skipped : is_skipped c.args.line.now ≡ false = sym c.is_skipped.ensures ∙ c.if-is_skipped.false in
+    record {
+      front = front.0;
+      rest = front.1;
+      next = next;
+      answer = subst (λ b. AnswersLine c.args.plan.now (state_of c.args.opened.now) c.args.line.now b next) (sym c.bytes.ensures ∙ front.2)
+          (line_answer c.args.plan.now (state_of c.args.opened.now) c.args.line.now c.in_ok-request.request c.in_ok-text.text next skipped c.in_ok-request.ensures c.in_ok-text.ensures.answers);
+      written = front.3;
+    }

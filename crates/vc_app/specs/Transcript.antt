@@ -1,0 +1,85 @@
+-- What is written for the lines of a script.
+use Rattle.std.specs.Prelude.{◌≡◌, ℕ, Bool, true, false, List, [], ◌∷◌, ◌++◌, length, nat_lt, Option, None, Some, if◌then◌else◌}
+use Rattle.std.specs.Io.KnownBytes.{Appends}
+use Rattle.vc_base.specs.Runs.{Run}
+use Rattle.vc_plan.specs.declared.first.plans.Plan.{Plan}
+use Rattle.vc_app.specs.State.{State, start_state}
+use Rattle.vc_app.specs.Script.{lines_of, is_skipped}
+use Rattle.vc_app.specs.Requests.{request_of}
+use Rattle.vc_app.specs.Replies.{reply_text}
+use Rattle.vc_app.specs.Answers.{Apply}
+use Rattle.vc_app.specs.declared.requests.Request.{Request}
+use Rattle.vc_app.specs.declared.replies.Reply.{Reply}
+use Rattle.vc_app.specs.declared.replies.Reply.TheVariants.{NotARequest}
+
+-- the most bytes of a line that may be a request
+abbrev pub line_limit : ℕ
+line_limit = 4096
+
+-- the request of a line that isn't too long
+abbrev pub asked_by : List ℕ → Option Request
+asked_by line = if nat_lt line_limit (length line) then None else request_of line
+
+-- the answer to a line that isn't skipped: that to its request, or that it is none
+abbrev pub AnswersAsked : Plan → State → Option Request → List ℕ → State → Type 0
+AnswersAsked plan state None bytes next = (bytes ≡ reply_text plan NotARequest) × (next ≡ state)
+AnswersAsked plan state (Some request) bytes next = (reply : Reply) × Apply plan state request reply next × (bytes ≡ reply_text plan reply)
+
+-- a skipped line is answered by nothing
+abbrev pub AnswersBy : Plan → State → Bool → List ℕ → List ℕ → State → Type 0
+AnswersBy plan state true line bytes next = (bytes ≡ []) × (next ≡ state)
+AnswersBy plan state false line bytes next = AnswersAsked plan state (asked_by line) bytes next
+
+-- one line of a script: from a state it writes these bytes and leaves that state
+abbrev pub AnswersLine : Plan → State → List ℕ → List ℕ → State → Type 0
+AnswersLine plan state line bytes next = AnswersBy plan state (is_skipped line) line bytes next
+
+-- these lines, from the start, write these bytes and leave that state
+abbrev pub Transcript : Plan → List (List ℕ) → List ℕ → State → Type 0
+Transcript plan lines bytes next = Run (AnswersLine plan) start_state lines bytes next
+
+-- all lines of the script are answered
+pub record IsAnswered (plan : Plan) (script : List ℕ) (old new : Option (List ℕ)) : Type 0 where
+  pub bytes : List ℕ
+  pub last : State
+  pub transcript : Transcript plan (lines_of script) bytes last
+  pub written : Appends old new bytes
+
+-- the first lines of the script are answered, and no other
+pub record IsAnsweredSoFar (plan : Plan) (script : List ℕ) (old new : Option (List ℕ)) : Type 0 where
+  pub done : List (List ℕ)
+  pub left : List (List ℕ)
+  pub lines : lines_of script ≡ done ++ left
+  pub bytes : List ℕ
+  pub last : State
+  pub transcript : Transcript plan done bytes last
+  pub written : Appends old new bytes
+
+-- the first lines of the script are answered, and of the answer to the next line a front was written
+pub record IsCutShort (plan : Plan) (script : List ℕ) (old new : Option (List ℕ)) : Type 0 where
+  pub done : List (List ℕ)
+  pub line : List ℕ
+  pub left : List (List ℕ)
+  pub lines : lines_of script ≡ done ++ (line ∷ left)
+  pub bytes : List ℕ
+  pub last : State
+  pub transcript : Transcript plan done bytes last
+  pub front : List ℕ
+  pub rest : List ℕ
+  pub next : State
+  pub answer : AnswersLine plan last line (front ++ rest) next
+  pub written : Appends old new (bytes ++ front)
+
+-- the line is answered, and the answer written
+pub record LineDone (plan : Plan) (state : State) (line : List ℕ) (next : State) (old new : Option (List ℕ)) : Type 0 where
+  pub bytes : List ℕ
+  pub answer : AnswersLine plan state line bytes next
+  pub written : Appends old new bytes
+
+-- a front of the line's answer is written
+pub record LineCut (plan : Plan) (state : State) (line : List ℕ) (old new : Option (List ℕ)) : Type 0 where
+  pub front : List ℕ
+  pub rest : List ℕ
+  pub next : State
+  pub answer : AnswersLine plan state line (front ++ rest) next
+  pub written : Appends old new front

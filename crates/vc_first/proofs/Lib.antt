@@ -1,0 +1,10 @@
+pub mod Cleanness
+pub mod Cuts
+pub mod Drafting
+pub mod Joins
+pub mod LineFeeds
+pub mod Numbers
+pub mod Parts
+pub mod Planning
+pub mod Rereading
+pub mod Restricting

@@ -1,0 +1,6 @@
+pub mod Drafts
+pub mod Forms
+pub mod Lines
+pub mod Names
+pub mod Plans
+pub mod Spelling
