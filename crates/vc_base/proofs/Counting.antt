@@ -4,7 +4,7 @@ use Rattle.std.specs.List.{list_any, list_all, IsDistinct}
 use Rattle.vc_base.specs.Growing.{Grows}
 use Rattle.vc_base.specs.Rounds.{Given, is_clash, atoms_of, System, Settlement, broken, settled, some_clash, all_given, next_round, settle}
 use Rattle.vc_base.specs.Sets.{has, with_all, Within}
-use Rattle.vc_base.proofs.SetLaws.{same_test, told, both, has_front, has_more, has_first, has_cases, within_cons, with_all_left, with_all_right, with_all_cases, with_all_same, with_all_length, with_all_longer, with_all_distinct}
+use Rattle.vc_base.proofs.SetLaws.{same_test, told, both, has_either, has_front, has_back, has_more, has_first, has_cases, within_cons, with_all_left, with_all_right, with_all_cases, with_all_same, with_all_length, with_all_longer, with_all_distinct}
 use Rattle.vc_base.proofs.Settling.{Laws, IsClosed, IsIn, given_of, given_stands, calm_below, settle-next, settle-zero, EndsWithin, settles_within, grown_within, grown_clear}
 
 -- where an element of the one list isn't in the other, one can be named
@@ -164,62 +164,111 @@ module _ {A O : Type 0} (system : System A O) (laws : Laws system) where
     pub new : Within system.same fresh (now ++ base)
     pub only : (b : A) → has system.same (now ++ base) b ≡ true → (has system.same fresh b ≡ true) ⊎ (has system.same (added ++ base) b ≡ true)
 
-  -- a giver that gives, at a set that grew, an atom with which the set isn't clear
-  pub record Breaks (base : List A) (o : O) : Type 0 where
+  -- a giver that gives, at a set that grew within a whole, an atom of the whole with which the set isn't clear
+  pub record Breaks (base whole : List A) (o : O) : Type 0 where
     pub added : List A
     pub grows : Grows system base added
     pub atom : A
     pub given : has system.same (atoms_of (system.gives o (added ++ base))) atom ≡ true
     pub unclear : system.is_clear (atom ∷ (added ++ base)) ≡ false
+    pub inside : Within system.same (atom ∷ (added ++ base)) whole
 
   -- what a giver that never clashes gives at a part of a set that grew comes one by one, or at one atom the set isn't clear
-  pub grows_or_breaks : (base added start fresh : List A) (o : O) → IsIn o system.givers → ((T : List A) → is_clash (system.gives o T) ≡ false)
+  pub grows_or_breaks : (base whole added start fresh : List A) (o : O) → IsIn o system.givers → ((T : List A) → is_clash (system.gives o T) ≡ false)
       → system.is_clear base ≡ true → Grows system base added → Within system.same start (added ++ base)
+      → Within system.same (added ++ base) whole → Within system.same fresh whole
       → ((a : A) → has system.same fresh a ≡ true → has system.same (atoms_of (system.gives o start)) a ≡ true)
-      → Grown base added fresh ⊎ Breaks base o
-  grows_or_breaks base added start [] o i calm clear grows below given =
+      → Grown base added fresh ⊎ Breaks base whole o
+  grows_or_breaks base whole added start [] o i calm clear grows below in_old in_new given =
       inl (record { now = added; grows = grows; old = λ a h. h; new = λ a h. absurd (cc); only = λ b h. inr h })
-  grows_or_breaks base added start (a ∷ fresh) o i calm clear grows below given =
+  grows_or_breaks base whole added start (a ∷ fresh) o i calm clear grows below in_old in_new given =
       let S = added ++ base in
       let S_clear : system.is_clear S ≡ true = grown_clear system laws base added clear grows in
-      let given_here : has system.same (atoms_of (system.gives o start)) a ≡ true
-            = given a (has_first system.same laws.exact laws.itself a fresh) in
+      let first : has system.same (a ∷ fresh) a ≡ true = has_first system.same laws.exact laws.itself a fresh in
+      let more = has_more system.same laws.exact laws.itself a fresh in
       let later : (b : A) → has system.same fresh b ≡ true → has system.same (atoms_of (system.gives o start)) b ≡ true
-            = λ b h. given b (has_more system.same laws.exact laws.itself a fresh b h) in
-      elim (laws.atom o start S a i S_clear below given_here) [
-        inl stands ↦ elim (grows_or_breaks base added start fresh o i calm clear grows below later) [
+            = λ b h. given b (more b h) in
+      let in_later : Within system.same fresh whole = λ b h. in_new b (more b h) in
+      let in_next : Within system.same (a ∷ S) whole = within_cons system.same laws.exact laws.itself a S whole (in_new a first) in_old in
+      elim (laws.atom o start S a i S_clear below (given a first)) [
+        inl stands ↦ elim (grows_or_breaks base whole added start fresh o i calm clear grows below in_old in_later later) [
             inl g ↦ inl (record {
                 now = g.now;
                 grows = g.grows;
                 old = g.old;
                 new = within_cons system.same laws.exact laws.itself a fresh (g.now ++ base) (g.old a stands) g.new;
-                only = λ b h. elim (g.only b h) [ inl p ↦ inl (has_more system.same laws.exact laws.itself a fresh b p) | inr p ↦ inr p ]
+                only = λ b h. elim (g.only b h) [ inl p ↦ inl (more b p) | inr p ↦ inr p ]
               })
           | inr e ↦ inr e
           ]
       | inr r ↦ elim r [
           inl here ↦ elim (told (system.is_clear (a ∷ S))) [
               inl fine ↦
-                let more : Grows system base (a ∷ added)
+                let stand = has_more system.same laws.exact laws.itself a S in
+                let next : Grows system base (a ∷ added)
                       = (grows, given_of system laws (λ g. atoms_of (system.gives g S)) o system.givers a i here, fine) in
-                elim (grows_or_breaks base (a ∷ added) start fresh o i calm clear more (λ b h. has_more system.same laws.exact laws.itself a S b (below b h)) later) [
+                elim (grows_or_breaks base whole (a ∷ added) start fresh o i calm clear next (λ b h. stand b (below b h)) in_next in_later later) [
                   inl g ↦ inl (record {
                       now = g.now;
                       grows = g.grows;
-                      old = λ b h. g.old b (has_more system.same laws.exact laws.itself a S b h);
+                      old = λ b h. g.old b (stand b h);
                       new = within_cons system.same laws.exact laws.itself a fresh (g.now ++ base) (g.old a (has_first system.same laws.exact laws.itself a S)) g.new;
                       only = λ b h. elim (g.only b h) [
-                          inl p ↦ inl (has_more system.same laws.exact laws.itself a fresh b p)
+                          inl p ↦ inl (more b p)
                         | inr p ↦ elim (has_cases system.same laws.exact laws.itself a S b p) [
-                            inl q ↦ inl (subst (λ z. has system.same (a ∷ fresh) z ≡ true) (sym q) (has_first system.same laws.exact laws.itself a fresh))
+                            inl q ↦ inl (subst (λ z. has system.same (a ∷ fresh) z ≡ true) (sym q) first)
                           | inr q ↦ inr q
                           ]
                         ]
                     })
                 | inr e ↦ inr e
                 ]
-            | inr bad ↦ inr (record { added = added; grows = grows; atom = a; given = here; unclear = bad })
+            | inr bad ↦ inr (record { added = added; grows = grows; atom = a; given = here; unclear = bad; inside = in_next })
             ]
         | inr clashes ↦ absurd (both clashes (calm S))
         ]
+      ]
+
+  -- a set that grew, with all that a giver gives at it
+  abbrev pub with_given : O → List A → List A
+  with_given o set = atoms_of (system.gives o set) ++ set
+
+  pub front_within : (o : O) (set : List A) → Within system.same (atoms_of (system.gives o set)) (with_given o set)
+  front_within o set a h = has_front system.same laws.exact laws.itself (atoms_of (system.gives o set)) set a h
+
+  pub back_within : (o : O) (set : List A) → Within system.same set (with_given o set)
+  back_within o set a h = has_back system.same laws.exact laws.itself (atoms_of (system.gives o set)) set a h
+
+  pub grows_or_breaks_at : (base added : List A) (o : O) → IsIn o system.givers → ((T : List A) → is_clash (system.gives o T) ≡ false)
+      → system.is_clear base ≡ true → Grows system base added
+      → Grown base added (atoms_of (system.gives o (added ++ base))) ⊎ Breaks base (with_given o (added ++ base)) o
+  grows_or_breaks_at base added o i calm clear grows =
+      let set = added ++ base in
+      grows_or_breaks base (with_given o set) added set (atoms_of (system.gives o set)) o i calm clear grows (λ a h. h) (back_within o set)
+          (front_within o set) (λ a h. h)
+
+  -- where the set with all that a giver gives is clear, the set grows so; where it isn't, the giver breaks it
+  pub grows_all : (base added : List A) (o : O) → IsIn o system.givers → ((T : List A) → is_clash (system.gives o T) ≡ false)
+      → system.is_clear base ≡ true → Grows system base added → system.is_clear (with_given o (added ++ base)) ≡ true
+      → Grown base added (atoms_of (system.gives o (added ++ base)))
+  grows_all base added o i calm clear grows fine =
+      elim (grows_or_breaks_at base added o i calm clear grows) [
+        inl g ↦ g
+      | inr b ↦ absurd (both (laws.smaller (b.atom ∷ (b.added ++ base)) (with_given o (added ++ base)) b.inside fine) b.unclear)
+      ]
+
+  pub breaks_some : (base added : List A) (o : O) → IsIn o system.givers → ((T : List A) → is_clash (system.gives o T) ≡ false)
+      → system.is_clear base ≡ true → Grows system base added → system.is_clear (with_given o (added ++ base)) ≡ false
+      → Breaks base (with_given o (added ++ base)) o
+  breaks_some base added o i calm clear grows bad =
+      elim (grows_or_breaks_at base added o i calm clear grows) [
+        inl g ↦
+          let set = added ++ base in
+          let inside : Within system.same (with_given o set) (g.now ++ base)
+                = λ a h. elim (has_either system.same laws.exact laws.itself (atoms_of (system.gives o set)) set a h) [
+                    inl p ↦ g.new a p
+                  | inr p ↦ g.old a p
+                  ] in
+          absurd (both (laws.smaller (with_given o set) (g.now ++ base) inside (grown_clear system laws base g.now clear g.grows)) bad)
+      | inr b ↦ b
       ]

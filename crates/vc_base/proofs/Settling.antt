@@ -1,5 +1,5 @@
 -- The laws that a system of givers owes, and what follows for rounds and for sets that grow.
-use Rattle.std.proofs.Common.{◌≡◌, ℕ, zero, suc, ◌+◌, ◌<◌, ◌≤◌, Bool, true, false, cond, not, ◌&&◌, ◌||◌, ◌⊎◌, List, [], ◌∷◌, ◌++◌, length, refl, sym, ◌∙◌, ap, subst, inl, inr, arith}
+use Rattle.std.proofs.Common.{◌≡◌, ℕ, zero, suc, ◌+◌, ◌<◌, ◌≤◌, Bool, true, false, cond, not, ◌&&◌, ◌||◌, ◌⊎◌, List, [], ◌∷◌, ◌++◌, length, map, refl, sym, ◌∙◌, ap, subst, inl, inr, arith}
 use Rattle.std.specs.List.{list_any, list_all, flat_map, IsDistinct}
 use Rattle.std.proofs.lemmas.Bool.{or_cases, or_left, or_right}
 use Rattle.std.proofs.lemmas.List.Folds.{list_any-append}
@@ -140,3 +140,29 @@ module _ {A O : Type 0} (system : System A O) (laws : Laws system) where
   pub grown_clear : (base added : List A) → system.is_clear base ≡ true → Grows system base added → system.is_clear (added ++ base) ≡ true
   grown_clear base [] c g = c
   grown_clear base (a ∷ added) c g = g.2
+
+-- the givers of lists put together
+pub in_front : {O : Type 0} (o : O) (xs ys : List O) → IsIn o xs → IsIn o (xs ++ ys)
+in_front o [] ys i = absurd i
+in_front o (x ∷ xs) ys (inl e) = inl e
+in_front o (x ∷ xs) ys (inr i) = inr (in_front o xs ys i)
+
+pub in_back : {O : Type 0} (o : O) (xs ys : List O) → IsIn o ys → IsIn o (xs ++ ys)
+in_back o [] ys i = i
+in_back o (x ∷ xs) ys i = inr (in_back o xs ys i)
+
+pub in_either : {O : Type 0} (o : O) (xs ys : List O) → IsIn o (xs ++ ys) → IsIn o xs ⊎ IsIn o ys
+in_either o [] ys i = inr i
+in_either o (x ∷ xs) ys (inl e) = inl (inl e)
+in_either o (x ∷ xs) ys (inr i) = elim (in_either o xs ys i) [ inl a ↦ inl (inr a) | inr b ↦ inr b ]
+
+-- and of a mapped list
+pub in_map : {X O : Type 0} (f : X → O) (x : X) (xs : List X) → IsIn x xs → IsIn (f x) (map f xs)
+in_map f x [] i = absurd i
+in_map f x (y ∷ xs) (inl e) = inl (ap f e)
+in_map f x (y ∷ xs) (inr i) = inr (in_map f x xs i)
+
+pub map_in : {X O : Type 0} (f : X → O) (o : O) (xs : List X) → IsIn o (map f xs) → (x : X) × IsIn x xs × (o ≡ f x)
+map_in f o [] i = absurd i
+map_in f o (y ∷ xs) (inl e) = (y, inl refl, e)
+map_in {X = X} f o (y ∷ xs) (inr i) = let r : (x : X) × IsIn x xs × (o ≡ f x) = map_in f o xs i in (r.0, inr r.1, r.2)

@@ -7,12 +7,14 @@ ghost use Rattle.vc_plan.specs.First.Outcomes.{watching_value, IsWatched};
 use std::alloc::{AllocError, Global};
 use std::marker::Model;
 
+use vc_value::Listed;
+
 use crate::first::plans::Plan;
 
 /// For each variable and each of its texts the numbers of the rules whose condition it is.
 #[derive(Debug, Drop)]
 pub struct Watchers {
-    lists: Vec<Vec<Vec<usize>>>,
+    lists: Vec<Vec<Listed<usize>>>,
 }
 
 impl Model for Watchers {
@@ -20,7 +22,7 @@ impl Model for Watchers {
 
     ghost Value = { List (List (List ℕ)) };
 
-    ghost view = { λ w. map (λ texts. map (λ rules. rules.items) texts.items) w.lists.items };
+    ghost view = { λ w. map (λ texts. texts.items) w.lists.items };
 }
 
 impl Watchers {
@@ -54,8 +56,8 @@ impl Watchers {
 }
 
 /// An empty list for each text of each variable.
-fn empty_lists(alloc: Global, plan: &Plan) -> Result<Vec<Vec<Vec<usize>>>, AllocError>
-    ensures { IfOk result (λ lists. map (λ texts. map (λ rules. rules.items) texts.items) lists.items ≡ map (λ count. replicate count []) (counts_of plan.now)) }
+fn empty_lists(alloc: Global, plan: &Plan) -> Result<Vec<Vec<Listed<usize>>>, AllocError>
+    ensures { IfOk result (λ lists. map (λ texts. texts.items) lists.items ≡ map (λ count. replicate count []) (counts_of plan.now)) }
 {
     let mut lists = Vec::new(alloc);
     for variable in plan.variables.as_slice() {
@@ -65,12 +67,12 @@ fn empty_lists(alloc: Global, plan: &Plan) -> Result<Vec<Vec<Vec<usize>>>, Alloc
 }
 
 /// So many empty lists.
-fn empty_list(alloc: Global, count: usize) -> Result<Vec<Vec<usize>>, AllocError>
-    ensures { IfOk result (λ lists. map (λ rules. rules.items) lists.items ≡ replicate count []) }
+fn empty_list(alloc: Global, count: usize) -> Result<Vec<Listed<usize>>, AllocError>
+    ensures { IfOk result (λ lists. lists.items ≡ replicate count []) }
 {
     let mut lists = Vec::new(alloc);
     for _text in 0..count {
-        lists.push(Vec::new(alloc))?;
+        lists.push(Listed::new(alloc))?;
     }
     Ok(lists)
 }
