@@ -1,10 +1,10 @@
 -- Worked rows: what small plans come to, by computing.
-use Rattle.std.proofs.Common.{◌≡◌, ℕ, ◌+◌, ◌<◌, Bool, true, false, List, [], ◌∷◌, ◌++◌, length, refl}
+use Rattle.std.proofs.Common.{◌≡◌, ℕ, Bool, true, false, List, [], ◌∷◌, refl}
 use Rattle.std.specs.Prelude.{Option, None, Some}
 use Rattle.vc_plan.specs.declared.first.plans.Plan.{Plan}
 use Rattle.vc_plan.specs.declared.first.plans.Rule.{Rule}
 use Rattle.vc_plan.specs.declared.first.plans.Variable.{Variable}
-use Rattle.vc_plan.specs.First.Evaluations.{evaluation_of, Reading}
+use Rattle.vc_plan.specs.First.Evaluations.{evaluation_of}
 
 -- a variable with so many texts; names and texts don't matter here
 abbrev variable : List (List ℕ) → Variable
