@@ -1,6 +1,6 @@
 -- Clear sets of atoms, read as facts on what stands.
-use Rattle.std.proofs.Common.{◌≡◌, ℕ, zero, suc, ◌+◌, ◌<◌, ◌≤◌, Bool, true, false, cond, not, ◌&&◌, ◌||◌, ◌⊎◌, List, [], ◌∷◌, ◌++◌, length, map, get_or, refl, sym, ◌∙◌, ap, subst, inl, inr, arith}
-use Rattle.std.specs.Prelude.{◌==◌, nat_eq, nat_lt}
+use Rattle.std.proofs.Common.{◌≡◌, ℕ, ◌+◌, ◌<◌, ◌≤◌, Bool, true, false, not, ◌&&◌, List, length, refl, sym, ◌∙◌, ap, arith}
+use Rattle.std.specs.Prelude.{◌==◌, nat_eq}
 use Rattle.std.specs.List.{list_any, list_all}
 use Rattle.std.proofs.lemmas.Bool.{and_parts, and_from, not-true, not_from_false, false_from_ne_true}
 use Rattle.vc_base.specs.Sets.{has}
@@ -48,18 +48,18 @@ facts plan set clear =
     let pairs = list_all (λ a. not (list_any (collides a) set)) set in
     let some = list_any (is_exhausted plan stands) (numbers_below (length plan.variables)) in
     let outer : ((names && pairs) ≡ true) × (not (stands here && some) ≡ true)
-          = and_parts (names && pairs) (not (stands here && some)) clear in
+    = and_parts (names && pairs) (not (stands here && some)) clear in
     let inner : (names ≡ true) × (pairs ≡ true) = and_parts names pairs outer.0 in
     record {
       named = λ a h. all_at same_atom atom_exact atom_itself (is_named plan) set a inner.0 h;
       apart = λ a b h k.
-        none_at same_atom atom_exact atom_itself (collides a) set b
-            (not-true (list_any (collides a) set)
-                (all_at same_atom atom_exact atom_itself (λ c. not (list_any (collides c) set)) set a inner.1 h)) k;
+          none_at same_atom atom_exact atom_itself (collides a) set b
+          (not-true (list_any (collides a) set)
+          (all_at same_atom atom_exact atom_itself (λ c. not (list_any (collides c) set)) set a inner.1 h)) k;
       room = λ h v below.
-        let none : some ≡ false = sym (ap (λ b. b && some) h) ∙ not-true (stands here && some) outer.1 in
-        none_at nat_eq number_exact number_itself (is_exhausted plan stands) (numbers_below (length plan.variables)) v none
-            (range_has 0 (length plan.variables) v (omega arith) (omega arith))
+          let none : some ≡ false = sym (ap (λ b. b && some) h) ∙ not-true (stands here && some) outer.1 in
+          none_at nat_eq number_exact number_itself (is_exhausted plan stands) (numbers_below (length plan.variables)) v none
+          (range_has 0 (length plan.variables) v (omega arith) (omega arith));
     }
 
 pub clear_from : (plan : Plan) (set : List Atom) → Facts plan (has same_atom set) → is_clear plan set ≡ true
@@ -70,18 +70,18 @@ clear_from plan set f =
     let some = list_any (is_exhausted plan stands) (numbers_below (length plan.variables)) in
     let all_named : names ≡ true = all_from same_atom atom_exact atom_itself (is_named plan) set f.named in
     let all_apart : pairs ≡ true
-          = all_from same_atom atom_exact atom_itself (λ c. not (list_any (collides c) set)) set
-              (λ a h. not_from_false (list_any (collides a) set)
-                  (none_passes same_atom atom_exact atom_itself (collides a) set (λ b k. f.apart a b h k))) in
+    = all_from same_atom atom_exact atom_itself (λ c. not (list_any (collides c) set)) set
+    (λ a h. not_from_false (list_any (collides a) set)
+    (none_passes same_atom atom_exact atom_itself (collides a) set (λ b k. f.apart a b h k))) in
     let rooms : (stands here && some) ≡ false
-          = false_from_ne_true (stands here && some) (λ e.
-              let p : (stands here ≡ true) × (some ≡ true) = and_parts (stands here) some e in
-              both p.1
-                  (none_passes nat_eq number_exact number_itself (is_exhausted plan stands) (numbers_below (length plan.variables)) (λ v h.
-                      let r : (0 ≤ v) × (v < 0 + length plan.variables) = has_range 0 (length plan.variables) v h in
-                      f.room p.0 v (omega arith)))) in
+    = false_from_ne_true (stands here && some) (λ e.
+    let p : (stands here ≡ true) × (some ≡ true) = and_parts (stands here) some e in
+    both p.1
+    (none_passes nat_eq number_exact number_itself (is_exhausted plan stands) (numbers_below (length plan.variables)) (λ v h.
+    let r : (0 ≤ v) × (v < 0 + length plan.variables) = has_range 0 (length plan.variables) v h in
+    f.room p.0 v (omega arith)))) in
     and_from (names && pairs) (not (stands here && some)) (and_from names pairs all_named all_apart)
-        (not_from_false (stands here && some) rooms)
+    (not_from_false (stands here && some) rooms)
 
 -- what a part says is as apart, and has as much room
 pub fewer : (plan : Plan) (S T : Atom → Bool) → Below S T → Facts plan T → Facts plan S
@@ -90,11 +90,11 @@ fewer plan S T below f =
       named = λ a h. f.named a (below a h);
       apart = λ a b h k. f.apart a b (below a h) (below b k);
       room = λ h v within.
-        false_from_ne_true (is_exhausted plan S v) (λ e.
-            both
-                (all_from nat_eq number_exact number_itself (λ g. T (out v g)) (numbers_below (count_of plan v)) (λ g k.
-                    below (out v g) (all_at nat_eq number_exact number_itself (λ i. S (out v i)) (numbers_below (count_of plan v)) g e k)))
-                (f.room (below here h) v within))
+          false_from_ne_true (is_exhausted plan S v) (λ e.
+          both
+          (all_from nat_eq number_exact number_itself (λ g. T (out v g)) (numbers_below (count_of plan v)) (λ g k.
+          below (out v g) (all_at nat_eq number_exact number_itself (λ i. S (out v i)) (numbers_below (count_of plan v)) g e k)))
+          (f.room (below here h) v within));
     }
 
 -- two tests that say the same are the same test

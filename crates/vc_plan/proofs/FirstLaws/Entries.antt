@@ -1,22 +1,20 @@
 -- What entries say: when it is clear, and how it changes with one entry.
-use Rattle.std.proofs.Common.{◌≡◌, ◌≢◌, ℕ, zero, suc, ◌+◌, ◌<◌, ◌≤◌, Bool, true, false, cond, not, ◌&&◌, ◌||◌, ◌⊎◌, List, [], ◌∷◌, ◌++◌, length, map, set, get_or, refl, sym, ◌∙◌, ap, subst, inl, inr, arith}
+use Rattle.std.proofs.Common.{◌≡◌, ◌≢◌, ℕ, ◌+◌, ◌<◌, ◌≤◌, Bool, true, false, cond, not, ◌&&◌, ◌⊎◌, List, [], ◌∷◌, length, set, get_or, refl, sym, ◌∙◌, ap, subst, inl, inr, arith}
 use Rattle.std.specs.Prelude.{◌==◌, nat_eq, nat_lt, Option, None, Some}
-use Rattle.std.specs.List.{list_any, list_all, filter}
+use Rattle.std.specs.List.{list_all, filter}
 use Rattle.std.proofs.Math.ListN.{get_or-map}
 use Rattle.std.proofs.lemmas.Bool.{and_parts, and_from, lt-ltb, ltb-true, not-true, not_from_false, false_from_ne_true, cases_lt, cases_eq}
 use Rattle.std.proofs.lemmas.List.{length-map, get_or_past, get_or-set_same, get_or-set_other}
 use Rattle.vc_base.specs.Sets.{has}
-use Rattle.vc_base.proofs.SetLaws.{told, both, all_at, all_from, has_cases, has_filter, filter_has}
-use Rattle.vc_plan.specs.declared.first.entries.Narrowed.{Narrowed}
+use Rattle.vc_base.proofs.SetLaws.{both, all_at, has_cases, has_filter, filter_has}
 use Rattle.vc_plan.specs.declared.first.entries.Narrowed.TheVariants.{Contradicted, Follows, Open}
 use Rattle.vc_plan.specs.declared.first.plans.Plan.{Plan}
-use Rattle.vc_plan.specs.First.Atoms.{Atom, here, out, is, same_atom, is_named, collides, is_exhausted, is_clear}
-use Rattle.vc_plan.specs.First.Entries.{no_entry, left_in, narrowed_to, narrowed_by, narrowed_of, is_value, standing}
+use Rattle.vc_plan.specs.First.Atoms.{Atom, here, out, is, is_named, collides}
+use Rattle.vc_plan.specs.First.Entries.{no_entry, left_in, narrowed_to, narrowed_by, is_value, standing}
 use Rattle.vc_plan.specs.First.Held.{Entry}
-use Rattle.vc_plan.specs.First.Plans.{numbers_below, counts_of, count_of}
+use Rattle.vc_plan.specs.First.Plans.{numbers_below, count_of}
 use Rattle.vc_plan.specs.First.Working.{Fits}
-use Rattle.vc_plan.proofs.FirstLaws.Clear.{atom_exact, atom_itself, Facts, facts, clear_from, same_stands}
-use Rattle.vc_plan.proofs.FirstLaws.Givers.{count_past}
+use Rattle.vc_plan.proofs.FirstLaws.Clear.{Facts}
 use Rattle.vc_plan.proofs.FirstLaws.Lists.{number_exact, number_itself, range_has, has_range, set_flag, filter_none, none_filter}
 
 -- the entry of a variable
@@ -54,14 +52,14 @@ pub says_variable : (plan : Plan) (entries : List Entry) → Fits plan entries �
     → (standing entries (out v g) ≡ true) ⊎ (standing entries (is v g) ≡ true) → v < length plan.variables
 says_variable plan entries fits v g h =
     elim (cases_lt v (length plan.variables)) [
-      inl below ↦ below
-    | inr past ↦
-      let long : length entries ≡ length plan.variables = fits_length plan entries fits in
-      let none : entry_at entries v ≡ no_entry = get_or_past entries v no_entry (omega arith) in
-      elim h [
-        inl a ↦ let b : false ≡ true = sym (ap (λ (e : Entry). get_or e.out g false) none) ∙ a in absurd (cc)
-      | inr a ↦ let b : false ≡ true = sym (ap (λ (e : Entry). is_value e.value g) none) ∙ a in absurd (cc)
-      ]
+      | inl below ↦ below
+      | inr past ↦
+          let long : length entries ≡ length plan.variables = fits_length plan entries fits in
+          let none : entry_at entries v ≡ no_entry = get_or_past entries v no_entry (omega arith) in
+          elim h [
+            | inl a ↦ let b : false ≡ true = sym (ap (λ (e : Entry). get_or e.out g false) none) ∙ a in absurd (cc)
+            | inr a ↦ let b : false ≡ true = sym (ap (λ (e : Entry). is_value e.value g) none) ∙ a in absurd (cc)
+          ]
     ]
 
 -- entries that say what is clear are sound, and the other way
@@ -71,15 +69,14 @@ sound_from plan entries fits f v below =
     let count : length (entry_at entries v).out ≡ count_of plan v = fits_count plan entries fits v in
     record {
       value_open = λ g h.
-        let named : (nat_lt v (length plan.variables) ≡ true) × (nat_lt g (count_of plan v) ≡ true)
-              = and_parts (nat_lt v (length plan.variables)) (nat_lt g (count_of plan v)) (f.named (is v g) h) in
-        let inside : g < count_of plan v = ltb-true g (count_of plan v) named.1 in
-        (
-          omega arith,
-          false_from_ne_true (get_or (entry_at entries v).out g false) (λ k.
-              both (and_from (v == v) (g == g) (number_itself v) (number_itself g)) (f.apart (is v g) (out v g) h k))
-        );
-      some_left = ap (λ n. list_all (λ g. get_or (entry_at entries v).out g false) (numbers_below n)) count ∙ f.room refl v below
+          let named : (nat_lt v (length plan.variables) ≡ true) × (nat_lt g (count_of plan v) ≡ true)
+          = and_parts (nat_lt v (length plan.variables)) (nat_lt g (count_of plan v)) (f.named (is v g) h) in
+          let inside : g < count_of plan v = ltb-true g (count_of plan v) named.1 in (
+            omega arith,
+            false_from_ne_true (get_or (entry_at entries v).out g false) (λ k.
+                both (and_from (v == v) (g == g) (number_itself v) (number_itself g)) (f.apart (is v g) (out v g) h k)),
+          );
+      some_left = ap (λ n. list_all (λ g. get_or (entry_at entries v).out g false) (numbers_below n)) count ∙ f.room refl v below;
     }
 
 pub facts_from : (plan : Plan) (entries : List Entry) → Fits plan entries
@@ -89,8 +86,8 @@ facts_from plan entries fits sound =
       named = named;
       apart = apart;
       room = λ h v below.
-        ap (λ n. list_all (λ g. get_or (entry_at entries v).out g false) (numbers_below n)) (sym (fits_count plan entries fits v))
-            ∙ (sound v below).some_left
+          ap (λ n. list_all (λ g. get_or (entry_at entries v).out g false) (numbers_below n)) (sym (fits_count plan entries fits v))
+          ∙ (sound v below).some_left;
     }
   where
     in_plan : (v g : ℕ) → v < length plan.variables → g < length (entry_at entries v).out
@@ -98,6 +95,7 @@ facts_from plan entries fits sound =
     in_plan v g below inside =
         let count : length (entry_at entries v).out ≡ count_of plan v = fits_count plan entries fits v in
         and_from (nat_lt v (length plan.variables)) (nat_lt g (count_of plan v)) (lt-ltb v (length plan.variables) below) (lt-ltb g (count_of plan v) (omega arith))
+
     named : (a : Atom) → standing entries a ≡ true → is_named plan a ≡ true
     named here h = refl
     named (out v g) h = in_plan v g (says_variable plan entries fits v g (inl h)) (set_flag (entry_at entries v).out g h)
@@ -105,6 +103,7 @@ facts_from plan entries fits sound =
         let below : v < length plan.variables = says_variable plan entries fits v g (inr h) in
         let free : (g < length (entry_at entries v).out) × (get_or (entry_at entries v).out g false ≡ false) = (sound v below).value_open g h in
         in_plan v g below free.0
+
     apart : (a b : Atom) → standing entries a ≡ true → standing entries b ≡ true → collides a b ≡ false
     apart here b h k = refl
     apart (out v g) b h k = refl
@@ -113,17 +112,17 @@ facts_from plan entries fits sound =
         let below : v < length plan.variables = says_variable plan entries fits v g (inr h) in
         let free : (g < length (entry_at entries v).out) × (get_or (entry_at entries v).out g false ≡ false) = (sound v below).value_open g h in
         false_from_ne_true ((v == w) && (g == i)) (λ e.
-            let p : ((v == w) ≡ true) × ((g == i) ≡ true) = and_parts (v == w) (g == i) e in
-            let same : standing entries (out v g) ≡ true
-                  = ap (λ z. standing entries (out z g)) (number_exact v w p.0) ∙ (ap (λ z. standing entries (out w z)) (number_exact g i p.1) ∙ k) in
-            both same free.1)
+        let p : ((v == w) ≡ true) × ((g == i) ≡ true) = and_parts (v == w) (g == i) e in
+        let same : standing entries (out v g) ≡ true
+        = ap (λ z. standing entries (out z g)) (number_exact v w p.0) ∙ (ap (λ z. standing entries (out w z)) (number_exact g i p.1) ∙ k) in
+        both same free.1)
     apart (is v g) (is w i) h k =
         false_from_ne_true ((v == w) && not (g == i)) (λ e.
-            let p : ((v == w) ≡ true) × (not (g == i) ≡ true) = and_parts (v == w) (not (g == i)) e in
-            let other : is_value (entry_at entries v).value i ≡ true
-                  = ap (λ z. is_value (entry_at entries z).value i) (number_exact v w p.0) ∙ k in
-            let same : g ≡ i = is_value_one (entry_at entries v).value g i h other in
-            both (ap (λ z. g == z) (sym same) ∙ number_itself g) (not-true (g == i) p.1))
+        let p : ((v == w) ≡ true) × (not (g == i) ≡ true) = and_parts (v == w) (not (g == i)) e in
+        let other : is_value (entry_at entries v).value i ≡ true
+        = ap (λ z. is_value (entry_at entries z).value i) (number_exact v w p.0) ∙ k in
+        let same : g ≡ i = is_value_one (entry_at entries v).value g i h other in
+        both (ap (λ z. g == z) (sym same) ∙ number_itself g) (not-true (g == i) p.1))
 
 -- an entry after a change at one variable: the new one there, and elsewhere the one before
 pub data After (entries : List Entry) (v : ℕ) (e : Entry) (w : ℕ) : Type 0 where
@@ -133,8 +132,8 @@ pub data After (entries : List Entry) (v : ℕ) (e : Entry) (w : ℕ) : Type 0 w
 pub after : (entries : List Entry) (v : ℕ) (e : Entry) (w : ℕ) → v < length entries → After entries v e w
 after entries v e w below =
     elim (cases_eq w v) [
-      inl same ↦ changed same (ap (λ z. entry_at (set entries v e) z) same ∙ get_or-set_same entries v e no_entry below)
-    | inr other ↦ unchanged other (get_or-set_other entries v w e no_entry other)
+      | inl same ↦ changed same (ap (λ z. entry_at (set entries v e) z) same ∙ get_or-set_same entries v e no_entry below)
+      | inr other ↦ unchanged other (get_or-set_other entries v w e no_entry other)
     ]
 
 -- soundness with one entry changed
@@ -143,15 +142,15 @@ pub sound_after : (plan : Plan) (entries : List Entry) (v : ℕ) (e : Entry) →
     → (w : ℕ) → w < length plan.variables → IsSound (entry_at (set entries v e) w)
 sound_after plan entries v e within sound all w below =
     elim (after entries v e w within) [
-      changed same now ↦ subst IsSound (sym now) sound
-    | unchanged other now ↦ subst IsSound (sym now) (all w below)
+      | changed same now ↦ subst IsSound (sym now) sound
+      | unchanged other now ↦ subst IsSound (sym now) (all w below)
     ]
 
 -- a text is left or out
 pub left_has : (flags : List Bool) (g : ℕ) → g < length flags → get_or flags g false ≡ false → has nat_eq (left_in flags) g ≡ true
 left_has flags g below free =
     filter_has_number (λ i. not (get_or flags i false)) (numbers_below (length flags)) g
-        (range_has 0 (length flags) g (omega arith) (omega arith)) (not_from_false (get_or flags g false) free)
+    (range_has 0 (length flags) g (omega arith) (omega arith)) (not_from_false (get_or flags g false) free)
   where
     filter_has_number : (p : ℕ → Bool) (xs : List ℕ) (i : ℕ) → has nat_eq xs i ≡ true → p i ≡ true → has nat_eq (filter p xs) i ≡ true
     filter_has_number p xs i h k = filter_has nat_eq number_exact number_itself p xs i h k
@@ -159,7 +158,7 @@ left_has flags g below free =
 pub has_left : (flags : List Bool) (g : ℕ) → has nat_eq (left_in flags) g ≡ true → (g < length flags) × (get_or flags g false ≡ false)
 has_left flags g h =
     let p : (has nat_eq (numbers_below (length flags)) g ≡ true) × (not (get_or flags g false) ≡ true)
-          = has_filter nat_eq number_exact number_itself (λ i. not (get_or flags i false)) (numbers_below (length flags)) g h in
+    = has_filter nat_eq number_exact number_itself (λ i. not (get_or flags i false)) (numbers_below (length flags)) g h in
     let r : (0 ≤ g) × (g < 0 + length flags) = has_range 0 (length flags) g p.0 in
     (omega arith, not-true (get_or flags g false) p.1)
 
@@ -196,16 +195,16 @@ narrowed_sound e None known inside free =
     record {
       value_open = λ g h. let now : false ≡ true = sym (ap (λ z. is_value z g) known) ∙ h in absurd (cc);
       some_left = false_from_ne_true (list_all (λ g. get_or e.out g false) (numbers_below (length e.out))) (λ all.
-          free (ap narrowed_to (none_filter (λ g. get_or e.out g false) (numbers_below (length e.out)) all)))
+          free (ap narrowed_to (none_filter (λ g. get_or e.out g false) (numbers_below (length e.out)) all)));
     }
 narrowed_sound e (Some k) known inside free =
     let flag : get_or e.out k false ≡ false
-          = false_from_ne_true (get_or e.out k false) (λ t. free (ap (λ b. cond b Contradicted Open) t)) in
+    = false_from_ne_true (get_or e.out k false) (λ t. free (ap (λ b. cond b Contradicted Open) t)) in
     record {
       value_open = λ g h.
-        let same : k ≡ g = is_value_one e.value k g (value_is e.value k known) h in
-        (subst (λ z. z < length e.out) same (inside k refl), ap (λ z. get_or e.out z false) (sym same) ∙ flag);
+          let same : k ≡ g = is_value_one e.value k g (value_is e.value k known) h in
+          (subst (λ z. z < length e.out) same (inside k refl), ap (λ z. get_or e.out z false) (sym same) ∙ flag);
       some_left = false_from_ne_true (list_all (λ g. get_or e.out g false) (numbers_below (length e.out))) (λ all.
           both (all_at nat_eq number_exact number_itself (λ g. get_or e.out g false) (numbers_below (length e.out)) k all
-              (range_has 0 (length e.out) k (omega arith) (let i : k < length e.out = inside k refl in omega arith))) flag)
+          (range_has 0 (length e.out) k (omega arith) (let i : k < length e.out = inside k refl in omega arith))) flag);
     }

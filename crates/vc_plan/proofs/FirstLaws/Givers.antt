@@ -1,16 +1,15 @@
 -- The laws of rules, last texts and the user's values, and of the system that they make.
-use Rattle.std.proofs.Common.{◌≡◌, ℕ, zero, suc, ◌+◌, ◌<◌, ◌≤◌, Bool, true, false, cond, not, ◌&&◌, ◌||◌, ◌⊎◌, List, [], ◌∷◌, ◌++◌, length, map, get_or, refl, sym, ◌∙◌, ap, subst, inl, inr, arith}
-use Rattle.std.specs.Prelude.{◌==◌, nat_eq, Option, None, Some, slice_index_or}
-use Rattle.std.specs.List.{list_any, list_all, filter}
+use Rattle.std.proofs.Common.{◌≡◌, ℕ, ◌≤◌, Bool, true, false, cond, not, List, [], ◌∷◌, length, map, refl, sym, ◌∙◌, ap, subst, inl, inr, arith}
+use Rattle.std.specs.Prelude.{Option, None, Some}
+use Rattle.std.specs.List.{filter}
 use Rattle.std.proofs.lemmas.Bool.{not-true, not_from_false, false_from_ne_true, cases_lt}
 use Rattle.std.proofs.lemmas.List.{get_or_past, length-map}
-use Rattle.vc_base.specs.Rounds.{atoms_of, is_clash, System}
-use Rattle.vc_base.specs.Sets.{has, Within}
+use Rattle.vc_base.specs.Rounds.{atoms_of}
+use Rattle.vc_base.specs.Sets.{has}
 use Rattle.vc_base.proofs.SetLaws.{told, both, has_cases, has_first, has_filter, filter_has}
-use Rattle.vc_base.proofs.Settling.{Laws, IsIn}
+use Rattle.vc_base.proofs.Settling.{Laws}
 use Rattle.vc_plan.specs.declared.first.plans.Plan.{Plan}
-use Rattle.vc_plan.specs.declared.first.plans.Rule.{Rule}
-use Rattle.vc_plan.specs.First.Atoms.{Atom, here, out, is, same_atom, is_clear, is_exhausted}
+use Rattle.vc_plan.specs.First.Atoms.{Atom, here, out, is, same_atom}
 use Rattle.vc_plan.specs.First.Gives.{Giver, by_rule, by_last, by_user, condition_holds, has_text, refused_by, left_of, last_of, called_for, gives, system_of}
 use Rattle.vc_plan.specs.First.Plans.{numbers_below, counts_of, count_of}
 use Rattle.vc_plan.proofs.FirstLaws.Clear.{atom_exact, atom_itself, Below, Facts, facts, clear_from, fewer}
@@ -37,9 +36,9 @@ given_parts plan users giver set a h =
     let stands = has same_atom set in
     let called = called_for plan users giver stands in
     let p : (stands here ≡ true) × (has same_atom (filter (λ b. not (stands b)) called) a ≡ true)
-          = when_in (stands here) (filter (λ b. not (stands b)) called) a h in
+    = when_in (stands here) (filter (λ b. not (stands b)) called) a h in
     let q : (has same_atom called a ≡ true) × (not (stands a) ≡ true)
-          = has_filter same_atom atom_exact atom_itself (λ b. not (stands b)) called a p.1 in
+    = has_filter same_atom atom_exact atom_itself (λ b. not (stands b)) called a p.1 in
     record { present = p.0; called = q.0; fresh = not-true (stands a) q.1 }
 
 pub given_from : (plan : Plan) (users : List (Option ℕ)) (giver : Giver) (set : List Atom) (a : Atom)
@@ -48,7 +47,7 @@ given_from plan users giver set a is_given =
     let stands = has same_atom set in
     let called = called_for plan users giver stands in
     in_when (stands here) (filter (λ b. not (stands b)) called) a is_given.present
-        (filter_has same_atom atom_exact atom_itself (λ b. not (stands b)) called a is_given.called (not_from_false (stands a) is_given.fresh))
+    (filter_has same_atom atom_exact atom_itself (λ b. not (stands b)) called a is_given.called (not_from_false (stands a) is_given.fresh))
 
 -- a condition that holds goes on holding
 pub text_below : (S T : Atom → Bool) (v : ℕ) (text : Option ℕ) → Below S T → has_text S v text ≡ true → has_text T v text ≡ true
@@ -77,17 +76,17 @@ pub last_below : (plan : Plan) (S T : Atom → Bool) (v : ℕ) (a : Atom) → Be
 last_below plan S T v a below f present h =
     let r : (g : ℕ) × (left_of plan S v ≡ g ∷ []) × (a ≡ is v g) = last_in v (left_of plan S v) a h in
     let shrinks : (g : ℕ) → not (T (out v g)) ≡ true → not (S (out v g)) ≡ true
-          = λ g e. not_from_false (S (out v g)) (false_from_ne_true (S (out v g)) (λ k. both (below (out v g) k) (not-true (T (out v g)) e))) in
+    = λ g e. not_from_false (S (out v g)) (false_from_ne_true (S (out v g)) (λ k. both (below (out v g) k) (not-true (T (out v g)) e))) in
     elim (filter_one_stays (λ g. not (S (out v g))) (λ g. not (T (out v g))) shrinks (numbers_below (count_of plan v)) r.0 r.1) [
-      inl none ↦ elim (cases_lt v (length plan.variables)) [
-          inl within ↦ absurd (both (filter_none (λ g. T (out v g)) (numbers_below (count_of plan v)) none) (f.room present v within))
+      | inl none ↦ elim (cases_lt v (length plan.variables)) [
+        | inl within ↦ absurd (both (filter_none (λ g. T (out v g)) (numbers_below (count_of plan v)) none) (f.room present v within))
         | inr past ↦
-          let empty : left_of plan S v ≡ []
-                = ap (λ n. filter (λ g. not (S (out v g))) (numbers_below n)) (count_past plan v past) in
-          let clash : r.0 ∷ [] ≡ [] = sym r.1 ∙ empty in
-          absurd (cc)
-        ]
-    | inr one ↦ subst (λ z. has same_atom (last_of v (left_of plan T v)) z ≡ true) (sym r.2) (in_last v r.0 (left_of plan T v) one)
+            let empty : left_of plan S v ≡ []
+            = ap (λ n. filter (λ g. not (S (out v g))) (numbers_below n)) (count_past plan v past) in
+            let clash : r.0 ∷ [] ≡ [] = sym r.1 ∙ empty in
+            absurd (cc)
+      ]
+      | inr one ↦ subst (λ z. has same_atom (last_of v (left_of plan T v)) z ≡ true) (sym r.2) (in_last v r.0 (left_of plan T v) one)
     ]
 
 -- what is called for at a part is called for at a larger set with room
@@ -108,14 +107,14 @@ system_laws plan users = record {
   smaller = λ P S below clear. clear_from plan P (fewer plan (has same_atom P) (has same_atom S) below (facts plan S clear));
   clash = λ o P S i clear below h. absurd (cc);
   atom = λ o P S a i clear below h.
-    let p : IsGiven plan users o P a = given_parts plan users o P a h in
-    let present : has same_atom S here ≡ true = below here p.present in
-    elim (told (has same_atom S a)) [
-      inl e ↦ inl e
-    | inr e ↦ inr (inl (given_from plan users o S a (record {
+      let p : IsGiven plan users o P a = given_parts plan users o P a h in
+      let present : has same_atom S here ≡ true = below here p.present in
+      elim (told (has same_atom S a)) [
+        | inl e ↦ inl e
+        | inr e ↦ inr (inl (given_from plan users o S a (record {
           present = present;
           called = called_below plan users o (has same_atom P) (has same_atom S) a below (facts plan S clear) present p.called;
-          fresh = e
+          fresh = e;
         })))
-    ]
+      ];
 }

@@ -1,7 +1,7 @@
 -- Which givers a plan has.
-use Rattle.std.proofs.Common.{◌≡◌, ℕ, zero, suc, ◌+◌, ◌<◌, ◌≤◌, Bool, true, false, ◌⊎◌, List, [], ◌∷◌, ◌++◌, length, map, get_or, refl, sym, ◌∙◌, ap, subst, inl, inr, arith}
-use Rattle.std.specs.Prelude.{nat_eq, Option, None, Some, slice_get}
-use Rattle.std.specs.List.{range_with_len, All}
+use Rattle.std.proofs.Common.{◌≡◌, ℕ, zero, suc, ◌+◌, ◌<◌, ◌≤◌, true, List, [], ◌∷◌, ◌++◌, length, map, get_or, refl, sym, ap, subst, inl, inr, arith}
+use Rattle.std.specs.Prelude.{nat_eq, Some, slice_get}
+use Rattle.std.specs.List.{range_with_len}
 use Rattle.std.proofs.lemmas.Bool.{cases_eq}
 use Rattle.vc_base.specs.Sets.{has}
 use Rattle.vc_base.proofs.SetLaws.{has_first, has_more}
@@ -49,34 +49,34 @@ rule_among plan r rule at =
 pub last_among : (plan : Plan) (v : ℕ) → v < length plan.variables → IsIn (by_last v) (givers_of plan)
 last_among plan v below =
     in_back (by_last v) (map by_rule plan.rules) (lasts plan ++ entered plan)
-        (in_front (by_last v) (lasts plan) (entered plan)
-            (in_map by_last v (numbers_below (length plan.variables)) (in_range 0 (length plan.variables) v (omega arith) (omega arith))))
+    (in_front (by_last v) (lasts plan) (entered plan)
+    (in_map by_last v (numbers_below (length plan.variables)) (in_range 0 (length plan.variables) v (omega arith) (omega arith))))
 
 pub user_among : (plan : Plan) (v : ℕ) → v < length plan.variables → IsIn (by_user v) (givers_of plan)
 user_among plan v below =
     in_back (by_user v) (map by_rule plan.rules) (lasts plan ++ entered plan)
-        (in_back (by_user v) (lasts plan) (entered plan)
-            (in_map by_user v (numbers_below (length plan.variables)) (in_range 0 (length plan.variables) v (omega arith) (omega arith))))
+    (in_back (by_user v) (lasts plan) (entered plan)
+    (in_map by_user v (numbers_below (length plan.variables)) (in_range 0 (length plan.variables) v (omega arith) (omega arith))))
 
 -- what each rule, each Last and each of the user's values has, each giver has
 pub each_giver : (plan : Plan) (P : Giver → Type 0) → ((r : ℕ) (rule : Rule) → slice_get plan.rules r ≡ Some rule → P (by_rule rule))
     → ((v : ℕ) → P (by_last v)) → ((v : ℕ) → P (by_user v)) → (o : Giver) → IsIn o (givers_of plan) → P o
 each_giver plan P rules last user o among =
     elim (in_either o (map by_rule plan.rules) (lasts plan ++ entered plan) among) [
-      inl i ↦
-        let m : (rule : Rule) × IsIn rule plan.rules × (o ≡ by_rule rule) = map_in by_rule o plan.rules i in
-        let s : (r : ℕ) × (slice_get plan.rules r ≡ Some m.0) = slice_in plan.rules m.0 m.1 in
-        subst P (sym m.2) (rules s.0 m.0 s.1)
-    | inr i ↦ elim (in_either o (lasts plan) (entered plan) i) [
-          inl j ↦
+      | inl i ↦
+          let m : (rule : Rule) × IsIn rule plan.rules × (o ≡ by_rule rule) = map_in by_rule o plan.rules i in
+          let s : (r : ℕ) × (slice_get plan.rules r ≡ Some m.0) = slice_in plan.rules m.0 m.1 in
+          subst P (sym m.2) (rules s.0 m.0 s.1)
+      | inr i ↦ elim (in_either o (lasts plan) (entered plan) i) [
+        | inl j ↦
             let m : (v : ℕ) × IsIn v (numbers_below (length plan.variables)) × (o ≡ by_last v)
-                  = map_in by_last o (numbers_below (length plan.variables)) j in
+            = map_in by_last o (numbers_below (length plan.variables)) j in
             subst P (sym m.2) (last m.0)
         | inr j ↦
             let m : (v : ℕ) × IsIn v (numbers_below (length plan.variables)) × (o ≡ by_user v)
-                  = map_in by_user o (numbers_below (length plan.variables)) j in
+            = map_in by_user o (numbers_below (length plan.variables)) j in
             subst P (sym m.2) (user m.0)
-        ]
+      ]
     ]
 
 -- an element at a place within the list, with any default

@@ -51,4 +51,4 @@ abbrev pub with_rule : Rule → Agenda → Option Agenda
 with_rule rule agenda =
     let entry = refused_entry rule agenda.entries in
     with_narrowed rule.variable (narrowed_of entry)
-        (record { entries = slice_set agenda.entries rule.variable entry; waiting = agenda.waiting })
+    (record { entries = slice_set agenda.entries rule.variable entry; waiting = agenda.waiting })

@@ -44,4 +44,4 @@ abbrev pub is_clear : Plan → List Atom → Bool
 is_clear plan set =
     let stands = λ (a : Atom). list_any (same_atom a) set in
     (list_all (is_named plan) set && list_all (λ a. not (list_any (collides a) set)) set)
-        && not (stands here && list_any (is_exhausted plan stands) (numbers_below (length plan.variables)))
+    && not (stands here && list_any (is_exhausted plan stands) (numbers_below (length plan.variables)))

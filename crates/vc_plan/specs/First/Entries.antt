@@ -1,5 +1,5 @@
 -- What the program keeps of each variable, and which atoms stand by it.
-use Rattle.std.specs.Prelude.{ℕ, ◌+◌, Bool, true, false, not, ◌||◌, ◌==◌, if◌then◌else◌, List, [], ◌∷◌, length, map, replicate, slice_index_or, Option, None, Some}
+use Rattle.std.specs.Prelude.{ℕ, Bool, true, false, not, ◌||◌, ◌==◌, if◌then◌else◌, List, [], ◌∷◌, length, map, replicate, slice_index_or, Option, None, Some}
 use Rattle.std.specs.List.{filter}
 use Rattle.vc_plan.specs.declared.first.entries.Narrowed.{Narrowed}
 use Rattle.vc_plan.specs.declared.first.entries.Narrowed.TheVariants.{Contradicted, Follows, Open}

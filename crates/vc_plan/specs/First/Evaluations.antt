@@ -1,5 +1,5 @@
 -- What is read off the settled set, and what a contradiction blames.
-use Rattle.std.specs.Prelude.{◌≡◌, ℕ, ◌<◌, Bool, true, false, List, ◌∷◌, ◌++◌, length, map, slice_get, Option, None, Some}
+use Rattle.std.specs.Prelude.{◌≡◌, ℕ, Bool, true, false, List, ◌∷◌, ◌++◌, length, map, slice_get, Option, None, Some}
 use Rattle.std.specs.List.{find}
 use Rattle.vc_base.specs.Growing.{Grows}
 use Rattle.vc_base.specs.Rounds.{Settlement, broken, settled, atoms_of}

@@ -1,5 +1,5 @@
 -- What rules, a last remaining text and the user's values give at a set of atoms, and where settling ends.
-use Rattle.std.specs.Prelude.{ℕ, Bool, true, false, not, ◌&&◌, ◌==◌, if◌then◌else◌, List, [], ◌∷◌, ◌++◌, length, map, slice_index_or, Option, None, Some}
+use Rattle.std.specs.Prelude.{ℕ, Bool, true, false, not, if◌then◌else◌, List, [], ◌∷◌, ◌++◌, length, map, slice_index_or, Option, None, Some}
 use Rattle.std.specs.List.{filter}
 use Rattle.vc_base.specs.Rounds.{Given, atoms, System, Settlement, settle}
 use Rattle.vc_base.specs.Sets.{has}
@@ -63,7 +63,7 @@ gives plan users giver set =
 abbrev pub givers_of : Plan → List Giver
 givers_of plan =
     map by_rule plan.rules
-        ++ (map by_last (numbers_below (length plan.variables)) ++ map by_user (numbers_below (length plan.variables)))
+    ++ (map by_last (numbers_below (length plan.variables)) ++ map by_user (numbers_below (length plan.variables)))
 
 -- the system of a plan and the user's values
 abbrev pub system_of : Plan → List (Option ℕ) → System Atom Giver

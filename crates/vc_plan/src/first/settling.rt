@@ -8,12 +8,11 @@ ghost use Rattle.vc_plan.specs.First.Outcomes.{IsFor, OutcomeIs, IsWatched};
 ghost use Rattle.vc_plan.specs.First.Plans.{IsValid, AreUsers};
 ghost use Rattle.vc_plan.specs.First.Working.{Fits, Working, FollowsUp, Starting};
 
-use std::alloc::{AllocError, Global};
-use std::marker::Model;
-
 use crate::first::plans::Plan;
 use crate::first::standing::Standing;
 use crate::first::watching::Watchers;
+use std::alloc::{AllocError, Global};
+use std::marker::Model;
 
 /// How settling ends.
 #[derive(Debug, Drop)]
@@ -84,10 +83,8 @@ impl Evaluation {
 fn begin(standing: &mut Standing, users: &[Option<usize>])
     requires each { length users.now ≡ length standing.old.entries }
     requires unknown { All (λ entry. entry.value ≡ None) standing.old.entries }
-    ensures {
-        (plan : Plan) → IsValid plan → AreUsers plan users.now → Starting plan users.now standing.old 0
-            → Starting plan users.now standing.new (length users.now)
-    }
+    ensures { (plan : Plan) → IsValid plan → AreUsers plan users.now → Starting plan users.now standing.old 0
+        → Starting plan users.now standing.new (length users.now) }
 {
     for (variable, user) in users.iter().enumerate() {
         standing.begin(variable, *user);
@@ -99,15 +96,11 @@ fn follow(standing: &mut Standing, plan: &Plan, rules: &[usize]) -> Option<usize
     requires valid { IsValid plan.now }
     requires fits { Fits plan.now standing.old.entries }
     requires rules { All (λ rule. rule < length plan.now.rules) rules.now }
-    ensures follows {
-        (users : List (Option ℕ)) → AreUsers plan.now users → Working plan.now users standing.old rules.now
-            → FollowsUp plan.now users standing.new result
-    }
+    ensures follows { (users : List (Option ℕ)) → AreUsers plan.now users → Working plan.now users standing.old rules.now
+        → FollowsUp plan.now users standing.new result }
     ensures fits { Fits plan.now standing.new.entries }
-    ensures work {
-        IfNone result (length standing.new.waiting + unknown_count standing.new.entries
-            ≡ length standing.old.waiting + unknown_count standing.old.entries)
-    }
+    ensures work { IfNone result (length standing.new.waiting + unknown_count standing.new.entries
+        ≡ length standing.old.waiting + unknown_count standing.old.entries) }
 {
     for number in rules {
         if !standing.apply(&plan.rules.as_slice()[*number]) {
@@ -122,10 +115,8 @@ fn follow_all(standing: &mut Standing, watchers: &Watchers, plan: &Plan) -> Outc
     requires valid { IsValid plan.now }
     requires fits { Fits plan.now standing.old.entries }
     requires watched { IsWatched plan.now.rules watchers.now }
-    ensures outcome {
-        (users : List (Option ℕ)) → AreUsers plan.now users → Working plan.now users standing.old []
-            → OutcomeIs plan.now users result (reading_in standing.new.entries)
-    }
+    ensures outcome { (users : List (Option ℕ)) → AreUsers plan.now users → Working plan.now users standing.old []
+        → OutcomeIs plan.now users result (reading_in standing.new.entries) }
     ensures fits { Fits plan.now standing.new.entries }
 {
     while let Some(variable) = standing.pop() {

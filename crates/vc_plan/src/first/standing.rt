@@ -5,11 +5,10 @@ ghost use Rattle.vc_plan.specs.First.Agendas.{with_value, with_start, with_rule,
 ghost use Rattle.vc_plan.specs.First.Entries.{blank, no_entry, narrowed_of};
 ghost use Rattle.vc_plan.specs.First.Plans.{counts_of};
 
-use std::alloc::{AllocError, Global};
-use std::marker::Model;
-
 use crate::first::entries::{Entry, Narrowed};
 use crate::first::plans::{Plan, Rule};
+use std::alloc::{AllocError, Global};
+use std::marker::Model;
 
 /// An entry for each variable, and the variables whose value is known and not followed yet.
 #[derive(Debug, Drop)]
@@ -30,8 +29,7 @@ impl Model for Standing {
     // The agenda has room for each variable whose value isn't known yet, and for all after `clear`.
     ghost invariant = { λ s.
         (vec_len s.agenda + unknown_count s.entries.items ≤ vec_capacity s.agenda)
-            × (vec_len s.entries ≤ vec_capacity s.agenda)
-    };
+        × (vec_len s.entries ≤ vec_capacity s.agenda) };
 }
 
 impl Standing {

@@ -4,12 +4,10 @@ ghost use Rattle.std.specs.Prelude.{◌≡◌, [], length, map, replicate, IfOk}
 ghost use Rattle.vc_plan.specs.First.Plans.{counts_of, IsValid};
 ghost use Rattle.vc_plan.specs.First.Outcomes.{watching_value, IsWatched};
 
+use crate::first::plans::Plan;
 use std::alloc::{AllocError, Global};
 use std::marker::Model;
-
 use vc_value::Listed;
-
-use crate::first::plans::Plan;
 
 /// For each variable and each of its texts the numbers of the rules whose condition it is.
 #[derive(Debug, Drop)]

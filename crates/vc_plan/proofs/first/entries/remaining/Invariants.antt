@@ -1,4 +1,4 @@
-use Rattle.std.proofs.Common.{◌≡◌, Bool, false, not, get_or}
+use Rattle.std.proofs.Common.{◌≡◌, false, not, get_or}
 use Rattle.std.specs.Option.{option_to_list}
 use Rattle.std.specs.List.{filter}
 use Rattle.vc_plan.specs.First.Plans.{numbers_below}

@@ -11,5 +11,5 @@ invariant-loop-variable l = record {
   each : length l.standing.entries ≡ length l.fn.standing.entries;
   later : (v : ℕ) → l.variable ≤ v → (get_or l.standing.entries v no_entry).value ≡ None;
   starts : (plan : Plan) → IsValid plan → AreUsers plan l.users → Starting plan l.users l.fn.standing 0
-      → Starting plan l.users l.standing l.variable
+      → Starting plan l.users l.standing l.variable;
 }

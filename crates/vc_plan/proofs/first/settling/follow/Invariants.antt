@@ -10,5 +10,5 @@ invariant-loop-number l = record {
   fits : Fits l.plan l.standing.entries;
   works : (users : List (Option ℕ)) → AreUsers l.plan users → Working l.plan users l.fn.standing l.rules
       → Working l.plan users l.standing (drop l.number-index l.rules);
-  work : length l.standing.waiting + unknown_count l.standing.entries ≡ length l.fn.standing.waiting + unknown_count l.fn.standing.entries
+  work : length l.standing.waiting + unknown_count l.standing.entries ≡ length l.fn.standing.waiting + unknown_count l.fn.standing.entries;
 }

@@ -8,7 +8,7 @@ use Rattle.vc_plan.proofs.first.settling.follow_all.Given as goal
 abbrev pub invariant-loop-variable : goal.invariant-loop-variable
 invariant-loop-variable l = record {
   fits : Fits l.plan l.standing.entries;
-  works : (users : List (Option ℕ)) → AreUsers l.plan users → Working l.plan users l.fn.standing [] → Working l.plan users l.standing []
+  works : (users : List (Option ℕ)) → AreUsers l.plan users → Working l.plan users l.fn.standing [] → Working l.plan users l.standing [];
 }
 
 abbrev pub decreases-loop-variable : goal.decreases-loop-variable

@@ -6,5 +6,5 @@ use Rattle.vc_plan.proofs.first.watching.Watchers.new.Given as goal
 abbrev pub invariant-loop-number : goal.invariant-loop-number
 invariant-loop-number l = record {
   lengths : map (λ list. length list) (map (λ texts. texts.items) l.lists.items) ≡ counts_of l.plan;
-  watched : IsWatched (take l.number l.rule-items) (map (λ texts. texts.items) l.lists.items)
+  watched : IsWatched (take l.number l.rule-items) (map (λ texts. texts.items) l.lists.items);
 }
