@@ -1,3 +1,6 @@
+pub mod EndingLaws
+pub mod ExactnessLaws
 pub mod ScriptLines
+pub mod SinkLaws
 pub mod StateLaws
 pub mod TranscriptLaws

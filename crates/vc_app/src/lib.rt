@@ -1,9 +1,17 @@
 //! The top call: from the words of the command line to what is written.
 #![tactic(auto)]
 
+pub mod ending;
+pub mod loading;
 pub mod replies;
 pub mod requests;
 pub mod rows;
 pub mod script;
 pub mod sessions;
+pub mod top;
 pub mod transcript;
+
+pub use top::desk;
+
+#[cfg(test)]
+mod tests;

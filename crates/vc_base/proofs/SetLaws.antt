@@ -1,7 +1,7 @@
 -- Laws of sets as lists.
-use Rattle.std.proofs.Common.{◌≡◌, ℕ, ◌+◌, ◌<◌, ◌≤◌, Bool, true, false, cond, ◌||◌, ◌⊎◌, List, [], ◌∷◌, ◌++◌, length, refl, sym, ◌∙◌, ap, subst, inl, inr, arith}
-use Rattle.std.specs.List.{list_any, IsDistinct, AllByRecursion}
-use Rattle.std.proofs.lemmas.Bool.{or_cases, or_left, or_right}
+use Rattle.std.proofs.Common.{◌≡◌, ◌<◌, ◌≤◌, Bool, true, false, cond, ◌||◌, ◌⊎◌, List, [], ◌∷◌, ◌++◌, length, refl, sym, ◌∙◌, ap, subst, inl, inr, arith}
+use Rattle.std.specs.List.{list_any, list_all, filter, IsDistinct, AllByRecursion}
+use Rattle.std.proofs.lemmas.Bool.{or_cases, or_left, or_right, or_parts, or_from, and_parts, and_from}
 use Rattle.std.proofs.lemmas.List.Folds.{list_any-append}
 use Rattle.vc_base.specs.Sets.{has, with_all, Within}
 
@@ -62,8 +62,8 @@ module _ {A : Type 0} (same : A → A → Bool) (exact : (a b : A) → same a b 
   with_all_left xs [] a h = h
   with_all_left xs (y ∷ ys) a h =
       elim (has same xs y) as (λ b. has same (with_all same (cond b xs (y ∷ xs)) ys) a ≡ true) [
-        true ↦ with_all_left xs ys a h
-      | false ↦ with_all_left (y ∷ xs) ys a (has_more y xs a h)
+        | true ↦ with_all_left xs ys a h
+        | false ↦ with_all_left (y ∷ xs) ys a (has_more y xs a h)
       ]
 
   -- each of the others comes
@@ -71,11 +71,11 @@ module _ {A : Type 0} (same : A → A → Bool) (exact : (a b : A) → same a b 
   with_all_right xs [] a h = absurd (cc)
   with_all_right xs (y ∷ ys) a h =
       elim (has_cases y ys a h) [
-        inl p ↦ elim (has same xs y) as (λ b. has same xs y ≡ b → has same (with_all same (cond b xs (y ∷ xs)) ys) a ≡ true) [
-            true ↦ λ e. with_all_left xs ys a (ap (has same xs) p ∙ e)
+        | inl p ↦ elim (has same xs y) as (λ b. has same xs y ≡ b → has same (with_all same (cond b xs (y ∷ xs)) ys) a ≡ true) [
+          | true ↦ λ e. with_all_left xs ys a (ap (has same xs) p ∙ e)
           | false ↦ λ e. with_all_left (y ∷ xs) ys a (subst (λ z. has same (y ∷ xs) z ≡ true) (sym p) (has_first y xs))
-          ] refl
-      | inr p ↦ with_all_right (cond (has same xs y) xs (y ∷ xs)) ys a p
+        ] refl
+        | inr p ↦ with_all_right (cond (has same xs y) xs (y ∷ xs)) ys a p
       ]
 
   -- nothing else comes
@@ -83,11 +83,11 @@ module _ {A : Type 0} (same : A → A → Bool) (exact : (a b : A) → same a b 
   with_all_cases xs [] a h = inl h
   with_all_cases xs (y ∷ ys) a h =
       elim (has same xs y) as (λ b. has same (with_all same (cond b xs (y ∷ xs)) ys) a ≡ true → (has same xs a ≡ true) ⊎ (has same (y ∷ ys) a ≡ true)) [
-        true ↦ λ e. elim (with_all_cases xs ys a e) [ inl p ↦ inl p | inr p ↦ inr (has_more y ys a p) ]
-      | false ↦ λ e. elim (with_all_cases (y ∷ xs) ys a e) [
-            inl p ↦ elim (has_cases y xs a p) [ inl q ↦ inr (subst (λ z. has same (y ∷ ys) z ≡ true) (sym q) (has_first y ys)) | inr q ↦ inl q ]
+        | true ↦ λ e. elim (with_all_cases xs ys a e) [ inl p ↦ inl p | inr p ↦ inr (has_more y ys a p) ]
+        | false ↦ λ e. elim (with_all_cases (y ∷ xs) ys a e) [
+          | inl p ↦ elim (has_cases y xs a p) [ inl q ↦ inr (subst (λ z. has same (y ∷ ys) z ≡ true) (sym q) (has_first y ys)) | inr q ↦ inl q ]
           | inr p ↦ inr (has_more y ys a p)
-          ]
+        ]
       ] h
 
   -- a set stays as it is where all that comes stands already
@@ -95,23 +95,23 @@ module _ {A : Type 0} (same : A → A → Bool) (exact : (a b : A) → same a b 
   with_all_same xs [] w = refl
   with_all_same xs (y ∷ ys) w =
       ap (λ b. with_all same (cond b xs (y ∷ xs)) ys) (w y (has_first y ys))
-          ∙ with_all_same xs ys (λ a h. w a (has_more y ys a h))
+      ∙ with_all_same xs ys (λ a h. w a (has_more y ys a h))
 
   -- no set gets shorter, and it gets longer by an element that it didn't have
   pub with_all_length : (xs ys : List A) → length xs ≤ length (with_all same xs ys)
   with_all_length xs [] = omega arith
   with_all_length xs (y ∷ ys) =
       elim (has same xs y) as (λ b. length xs ≤ length (with_all same (cond b xs (y ∷ xs)) ys)) [
-        true ↦ with_all_length xs ys
-      | false ↦ let h : length (y ∷ xs) ≤ length (with_all same (y ∷ xs) ys) = with_all_length (y ∷ xs) ys in omega arith
+        | true ↦ with_all_length xs ys
+        | false ↦ let h : length (y ∷ xs) ≤ length (with_all same (y ∷ xs) ys) = with_all_length (y ∷ xs) ys in omega arith
       ]
 
   pub with_all_longer : (xs ys : List A) (a : A) → has same ys a ≡ true → has same xs a ≡ false → length xs < length (with_all same xs ys)
   with_all_longer xs [] a h n = absurd (cc)
   with_all_longer xs (y ∷ ys) a h n =
       elim (has same xs y) as (λ b. has same xs y ≡ b → length xs < length (with_all same (cond b xs (y ∷ xs)) ys)) [
-        true ↦ λ e. elim (has_cases y ys a h) [ inl p ↦ absurd (both (ap (has same xs) p ∙ e) n) | inr p ↦ with_all_longer xs ys a p n ]
-      | false ↦ λ e. let h : length (y ∷ xs) ≤ length (with_all same (y ∷ xs) ys) = with_all_length (y ∷ xs) ys in omega arith
+        | true ↦ λ e. elim (has_cases y ys a h) [ inl p ↦ absurd (both (ap (has same xs) p ∙ e) n) | inr p ↦ with_all_longer xs ys a p n ]
+        | false ↦ λ e. let h : length (y ∷ xs) ≤ length (with_all same (y ∷ xs) ys) = with_all_length (y ∷ xs) ys in omega arith
       ] refl
 
   -- a set without doubles stays one
@@ -120,6 +120,54 @@ module _ {A : Type 0} (same : A → A → Bool) (exact : (a b : A) → same a b 
   with_all_distinct xs [] d = d
   with_all_distinct xs (y ∷ ys) d =
       elim (has same xs y) as (λ b. has same xs y ≡ b → IsDistinct same (with_all same (cond b xs (y ∷ xs)) ys)) [
-        true ↦ λ e. with_all_distinct xs ys d
-      | false ↦ λ e. with_all_distinct (y ∷ xs) ys (none_from (same y) xs e, d)
+        | true ↦ λ e. with_all_distinct xs ys d
+        | false ↦ λ e. with_all_distinct (y ∷ xs) ys (none_from (same y) xs e, d)
+      ] refl
+
+  -- what each element passes, one of them passes, and the other way
+  pub all_at : (p : A → Bool) (xs : List A) (a : A) → list_all p xs ≡ true → has same xs a ≡ true → p a ≡ true
+  all_at p [] a all h = absurd (cc)
+  all_at p (x ∷ xs) a all h =
+      let both_parts : (p x ≡ true) × (list_all p xs ≡ true) = and_parts (p x) (list_all p xs) all in
+      elim (has_cases x xs a h) [ inl q ↦ ap p q ∙ both_parts.0 | inr q ↦ all_at p xs a both_parts.1 q ]
+
+  pub all_from : (p : A → Bool) (xs : List A) → ((a : A) → has same xs a ≡ true → p a ≡ true) → list_all p xs ≡ true
+  all_from p [] f = refl
+  all_from p (x ∷ xs) f = and_from (p x) (list_all p xs) (f x (has_first x xs)) (all_from p xs (λ a h. f a (has_more x xs a h)))
+
+  -- what no element passes, one of them fails, and the other way
+  pub none_at : (p : A → Bool) (xs : List A) (a : A) → list_any p xs ≡ false → has same xs a ≡ true → p a ≡ false
+  none_at p [] a none h = absurd (cc)
+  none_at p (x ∷ xs) a none h =
+      let both_parts : (p x ≡ false) × (list_any p xs ≡ false) = or_parts (p x) (list_any p xs) none in
+      elim (has_cases x xs a h) [ inl q ↦ ap p q ∙ both_parts.0 | inr q ↦ none_at p xs a both_parts.1 q ]
+
+  pub none_passes : (p : A → Bool) (xs : List A) → ((a : A) → has same xs a ≡ true → p a ≡ false) → list_any p xs ≡ false
+  none_passes p [] f = refl
+  none_passes p (x ∷ xs) f = or_from (p x) (list_any p xs) (f x (has_first x xs)) (none_passes p xs (λ a h. f a (has_more x xs a h)))
+
+  -- the elements that pass a test
+  pub has_filter : (p : A → Bool) (xs : List A) (a : A) → has same (filter p xs) a ≡ true → (has same xs a ≡ true) × (p a ≡ true)
+  has_filter p [] a h = absurd (cc)
+  has_filter p (x ∷ xs) a h =
+      elim (p x) as (λ b. p x ≡ b → has same (cond b (x ∷ filter p xs) (filter p xs)) a ≡ true → (has same (x ∷ xs) a ≡ true) × (p a ≡ true)) [
+        | true ↦ λ e k. elim (has_cases x (filter p xs) a k) [
+          | inl q ↦ (subst (λ z. has same (x ∷ xs) z ≡ true) (sym q) (has_first x xs), ap p q ∙ e)
+          | inr q ↦ let r : (has same xs a ≡ true) × (p a ≡ true) = has_filter p xs a q in (has_more x xs a r.0, r.1)
+        ]
+        | false ↦ λ e k. let r : (has same xs a ≡ true) × (p a ≡ true) = has_filter p xs a k in (has_more x xs a r.0, r.1)
+      ] refl h
+
+  pub filter_has : (p : A → Bool) (xs : List A) (a : A) → has same xs a ≡ true → p a ≡ true → has same (filter p xs) a ≡ true
+  filter_has p [] a h e = absurd (cc)
+  filter_has p (x ∷ xs) a h e =
+      elim (p x) as (λ b. p x ≡ b → has same (cond b (x ∷ filter p xs) (filter p xs)) a ≡ true) [
+        | true ↦ λ k. elim (has_cases x xs a h) [
+          | inl q ↦ subst (λ z. has same (x ∷ filter p xs) z ≡ true) (sym q) (has_first x (filter p xs))
+          | inr q ↦ has_more x (filter p xs) a (filter_has p xs a q e)
+        ]
+        | false ↦ λ k. elim (has_cases x xs a h) [
+          | inl q ↦ absurd (both e (ap p q ∙ k))
+          | inr q ↦ filter_has p xs a q e
+        ]
       ] refl

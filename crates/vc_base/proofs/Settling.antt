@@ -1,12 +1,11 @@
 -- The laws that a system of givers owes, and what follows for rounds and for sets that grow.
-use Rattle.std.proofs.Common.{◌≡◌, ℕ, zero, suc, ◌+◌, ◌<◌, ◌≤◌, Bool, true, false, cond, not, ◌&&◌, ◌||◌, ◌⊎◌, List, [], ◌∷◌, ◌++◌, length, refl, sym, ◌∙◌, ap, subst, inl, inr, arith}
-use Rattle.std.specs.List.{list_any, list_all, flat_map, IsDistinct}
+use Rattle.std.proofs.Common.{◌≡◌, ℕ, zero, suc, Bool, true, false, cond, ◌⊎◌, List, [], ◌∷◌, ◌++◌, map, refl, ◌∙◌, ap, subst, inl, inr}
+use Rattle.std.specs.List.{list_any, flat_map}
 use Rattle.std.proofs.lemmas.Bool.{or_cases, or_left, or_right}
-use Rattle.std.proofs.lemmas.List.Folds.{list_any-append}
 use Rattle.vc_base.specs.Growing.{Grows}
-use Rattle.vc_base.specs.Rounds.{Given, clash, atoms, is_clash, atoms_of, System, Settlement, broken, settled, some_clash, all_given, next_round, settle}
-use Rattle.vc_base.specs.Sets.{has, with_all, Within}
-use Rattle.vc_base.proofs.SetLaws.{same_test, told, both, has_either, has_front, has_back, has_more, has_first, has_cases, within_cons, with_all_left, with_all_right, with_all_cases, with_all_same, with_all_length, with_all_longer, with_all_distinct}
+use Rattle.vc_base.specs.Rounds.{is_clash, atoms_of, System, broken, settled, some_clash, all_given, next_round, settle}
+use Rattle.vc_base.specs.Sets.{has, Within}
+use Rattle.vc_base.proofs.SetLaws.{told, both, has_either, has_front, has_back, within_cons, with_all_cases}
 
 -- the giver is one of the list
 abbrev pub IsIn : {O : Type 0} → O → List O → Type 0
@@ -24,7 +23,7 @@ pub record Laws {A O : Type 0} (system : System A O) : Type 0 where
   pub atom : (o : O) (P S : List A) (a : A) → IsIn o system.givers → system.is_clear S ≡ true → Within system.same P S
       → has system.same (atoms_of (system.gives o P)) a ≡ true
       → (has system.same S a ≡ true)
-          ⊎ ((has system.same (atoms_of (system.gives o S)) a ≡ true) ⊎ (is_clash (system.gives o S) ≡ true))
+      ⊎ ((has system.same (atoms_of (system.gives o S)) a ≡ true) ⊎ (is_clash (system.gives o S) ≡ true))
 
 -- nothing is to be added to the set: it is clear, no giver clashes at it, and all that is given stands
 pub record IsClosed {A O : Type 0} (system : System A O) (set : List A) : Type 0 where
@@ -37,8 +36,8 @@ pub any_at : {O : Type 0} (p : O → Bool) (os : List O) → list_any p os ≡ t
 any_at p [] h = absurd (cc)
 any_at p (o ∷ os) h =
     elim (or_cases (p o) (list_any p os) h) [
-      inl e ↦ (o, inl refl, e)
-    | inr e ↦ let r : (o : _) × IsIn o os × (p o ≡ true) = any_at p os e in (r.0, inr r.1, r.2)
+      | inl e ↦ (o, inl refl, e)
+      | inr e ↦ let r : (o : _) × IsIn o os × (p o ≡ true) = any_at p os e in (r.0, inr r.1, r.2)
     ]
 
 pub at_any : {O : Type 0} (p : O → Bool) (o : O) (os : List O) → IsIn o os → p o ≡ true → list_any p os ≡ true
@@ -53,8 +52,8 @@ module _ {A O : Type 0} (system : System A O) (laws : Laws system) where
   giver_of f [] a h = absurd (cc)
   giver_of f (o ∷ os) a h =
       elim (has_either system.same laws.exact laws.itself (f o) (flat_map f os) a h) [
-        inl e ↦ (o, inl refl, e)
-      | inr e ↦ let r : (o : O) × IsIn o os × (has system.same (f o) a ≡ true) = giver_of f os a e in (r.0, inr r.1, r.2)
+        | inl e ↦ (o, inl refl, e)
+        | inr e ↦ let r : (o : O) × IsIn o os × (has system.same (f o) a ≡ true) = giver_of f os a e in (r.0, inr r.1, r.2)
       ]
 
   pub given_of : (f : O → List A) (o : O) (os : List O) (a : A) → IsIn o os → has system.same (f o) a ≡ true
@@ -69,34 +68,34 @@ module _ {A O : Type 0} (system : System A O) (laws : Laws system) where
       → has system.same (atoms_of (system.gives o P)) a ≡ true → has system.same N a ≡ true
   given_stands P N o a i closed w h =
       elim (laws.atom o P N a i closed.clear w h) [
-        inl e ↦ e
-      | inr r ↦ elim r [
-          inl e ↦ closed.given a (given_of (λ g. atoms_of (system.gives g N)) o system.givers a i e)
-        | inr e ↦ absurd (both (at_any (λ g. is_clash (system.gives g N)) o system.givers i e) closed.calm)
+        | inl e ↦ e
+        | inr r ↦ elim r [
+          | inl e ↦ closed.given a (given_of (λ g. atoms_of (system.gives g N)) o system.givers a i e)
+          | inr e ↦ absurd (both (at_any (λ g. is_clash (system.gives g N)) o system.givers i e) closed.calm)
         ]
       ]
 
   pub all_stand : (P N : List A) → IsClosed system N → Within system.same P N → Within system.same (all_given system P) N
   all_stand P N closed w a h =
       let r : (o : O) × IsIn o system.givers × (has system.same (atoms_of (system.gives o P)) a ≡ true)
-            = giver_of (λ g. atoms_of (system.gives g P)) system.givers a h in
+      = giver_of (λ g. atoms_of (system.gives g P)) system.givers a h in
       given_stands P N r.0 a r.1 closed w r.2
 
   pub calm_below : (P N : List A) → IsClosed system N → Within system.same P N → some_clash system P ≡ false
   calm_below P N closed w =
       elim (told (some_clash system P)) [
-        inl e ↦
-          let r : (o : O) × IsIn o system.givers × (is_clash (system.gives o P) ≡ true)
-                = any_at (λ g. is_clash (system.gives g P)) system.givers e in
-          absurd (both (at_any (λ g. is_clash (system.gives g N)) r.0 system.givers r.1 (laws.clash r.0 P N r.1 closed.clear w r.2)) closed.calm)
-      | inr e ↦ e
+        | inl e ↦
+            let r : (o : O) × IsIn o system.givers × (is_clash (system.gives o P) ≡ true)
+            = any_at (λ g. is_clash (system.gives g P)) system.givers e in
+            absurd (both (at_any (λ g. is_clash (system.gives g N)) r.0 system.givers r.1 (laws.clash r.0 P N r.1 closed.clear w r.2)) closed.calm)
+        | inr e ↦ e
       ]
 
   pub next_within : (P N : List A) → IsClosed system N → Within system.same P N → Within system.same (next_round system P) N
   next_within P N closed w a h =
       elim (with_all_cases system.same laws.exact laws.itself P (all_given system P) a h) [
-        inl e ↦ w a e
-      | inr e ↦ all_stand P N closed w a e
+        | inl e ↦ w a e
+        | inr e ↦ all_stand P N closed w a e
       ]
 
   -- one round at a calm set whose next set is clear, and none at a calm set
@@ -104,7 +103,7 @@ module _ {A O : Type 0} (system : System A O) (laws : Laws system) where
       → settle system (suc n) S ≡ settle system n (next_round system S)
   settle-next n S calm clear =
       ap (λ b. cond b broken (cond (system.is_clear (next_round system S)) (settle system n (next_round system S)) broken)) calm
-          ∙ ap (λ b. cond b (settle system n (next_round system S)) broken) clear
+      ∙ ap (λ b. cond b (settle system n (next_round system S)) broken) clear
 
   pub settle-zero : (S : List A) → some_clash system S ≡ false → settle system zero S ≡ settled S
   settle-zero S calm = ap (λ b. cond b broken (settled S)) calm
@@ -125,7 +124,7 @@ module _ {A O : Type 0} (system : System A O) (laws : Laws system) where
       record {
         set = rest.set;
         is = settle-next n S (calm_below S N closed w) (laws.smaller next N inside closed.clear) ∙ rest.is;
-        within = rest.within
+        within = rest.within;
       }
 
   -- a set that grew from a part of a closed set is within it
@@ -140,3 +139,29 @@ module _ {A O : Type 0} (system : System A O) (laws : Laws system) where
   pub grown_clear : (base added : List A) → system.is_clear base ≡ true → Grows system base added → system.is_clear (added ++ base) ≡ true
   grown_clear base [] c g = c
   grown_clear base (a ∷ added) c g = g.2
+
+-- the givers of lists put together
+pub in_front : {O : Type 0} (o : O) (xs ys : List O) → IsIn o xs → IsIn o (xs ++ ys)
+in_front o [] ys i = absurd i
+in_front o (x ∷ xs) ys (inl e) = inl e
+in_front o (x ∷ xs) ys (inr i) = inr (in_front o xs ys i)
+
+pub in_back : {O : Type 0} (o : O) (xs ys : List O) → IsIn o ys → IsIn o (xs ++ ys)
+in_back o [] ys i = i
+in_back o (x ∷ xs) ys i = inr (in_back o xs ys i)
+
+pub in_either : {O : Type 0} (o : O) (xs ys : List O) → IsIn o (xs ++ ys) → IsIn o xs ⊎ IsIn o ys
+in_either o [] ys i = inr i
+in_either o (x ∷ xs) ys (inl e) = inl (inl e)
+in_either o (x ∷ xs) ys (inr i) = elim (in_either o xs ys i) [ inl a ↦ inl (inr a) | inr b ↦ inr b ]
+
+-- and of a mapped list
+pub in_map : {X O : Type 0} (f : X → O) (x : X) (xs : List X) → IsIn x xs → IsIn (f x) (map f xs)
+in_map f x [] i = absurd i
+in_map f x (y ∷ xs) (inl e) = inl (ap f e)
+in_map f x (y ∷ xs) (inr i) = inr (in_map f x xs i)
+
+pub map_in : {X O : Type 0} (f : X → O) (o : O) (xs : List X) → IsIn o (map f xs) → (x : X) × IsIn x xs × (o ≡ f x)
+map_in f o [] i = absurd i
+map_in f o (y ∷ xs) (inl e) = (y, inl refl, e)
+map_in {X = X} f o (y ∷ xs) (inr i) = let r : (x : X) × IsIn x xs × (o ≡ f x) = map_in f o xs i in (r.0, inr r.1, r.2)

@@ -8,5 +8,5 @@ abbrev pub Grows : {A O : Type 0} → System A O → List A → List A → Type 
 Grows system base [] = Unit {0}
 Grows system base (atom ∷ earlier) =
     Grows system base earlier
-        × (has system.same (all_given system (earlier ++ base)) atom ≡ true)
-        × (system.is_clear ((atom ∷ earlier) ++ base) ≡ true)
+    × (has system.same (all_given system (earlier ++ base)) atom ≡ true)
+    × (system.is_clear ((atom ∷ earlier) ++ base) ≡ true)

@@ -1,2 +1,4 @@
+pub mod Decimals
+pub mod Grains
 pub mod Words
 pub mod Names

@@ -2,13 +2,18 @@
 #![tactic(auto)]
 
 pub mod decimal;
+pub mod grains;
 pub mod listed;
 pub mod names;
 pub mod value;
 pub mod word;
 
-pub use decimal::Dec;
+pub use decimal::{Dec, NumFault};
+pub use grains::{Grain, GrainList};
 pub use listed::Listed;
 pub use names::{is_name, is_session_name};
 pub use value::Value;
 pub use word::{Word, equals_ignoring_case};
+
+#[cfg(test)]
+mod tests;

@@ -1,0 +1,239 @@
+-- How the program ends, why, and what it has written then.
+use Rattle.std.specs.Prelude.{◌≡◌, ℕ, ◌<◌, ◌≤◌, List, [], ◌∷◌, ◌++◌, length, map, codes, slice_get, Option, Some, string_bytes}
+use Rattle.std.specs.Option.{option_map_or}
+use Rattle.std.specs.Io.KnownBytes.{Appends}
+use Rattle.std.specs.declared.string.String.{String}
+use Rattle.std.specs.declared.alloc.Global.{Global}
+use Rattle.vc_outside.specs.Faults.{Raised}
+use Rattle.vc_outside.specs.Shelves.{Files, Holds, Lacks, Exceeds}
+use Rattle.vc_outside.specs.Sinks.{AppendsFront}
+use Rattle.vc_outside.specs.declared.file.FileFault.{FileFault}
+use Rattle.vc_outside.specs.declared.file.FileFault.TheVariants as faults
+use Rattle.vc_outside.specs.declared.file.TheConstants.{FILE_LIMIT}
+use Rattle.vc_plan.specs.declared.first.plans.Plan.{Plan}
+use Rattle.vc_app.specs.Transcript.{IsAnswered, IsAnsweredSoFar, IsCutShort}
+use Rattle.vc_first.specs.declared.form.FirstForm.{FirstForm}
+use Rattle.vc_first.specs.Lines.{Spells}
+use Rattle.vc_first.specs.Plans.{plan_of}
+use Rattle.vc_app.specs.declared.loading.Job.{Job}
+use Rattle.vc_app.specs.declared.ending.NamedFile.{NamedFile}
+use Rattle.vc_app.specs.declared.ending.NamedFile.TheVariants.{Model, Script}
+use Rattle.vc_app.specs.declared.ending.Stop.{Stop}
+use Rattle.vc_app.specs.declared.ending.Stop.TheVariants as stops
+use Rattle.vc_app.specs.declared.ending.Ending.{Ending}
+use Rattle.vc_app.specs.declared.ending.Ending.TheVariants as endings
+
+abbrev pub Words : Type 0
+Words = List (String Global)
+
+-- what lies outside: the files that the shelf tells, and before and after the call the shelf's faults, what the sink
+-- tells, and the sink's faults
+pub record Outside : Type 0 where
+  pub files : Option Files
+  pub shelf_before : ℕ
+  pub shelf_after : ℕ
+  pub written_before : Option (List ℕ)
+  pub written_after : Option (List ℕ)
+  pub sink_before : ℕ
+  pub sink_after : ℕ
+
+abbrev pub outside : Option Files → ℕ → ℕ → Option (List ℕ) → Option (List ℕ) → ℕ → ℕ → Outside
+outside files shelf_before shelf_after written_before written_after sink_before sink_after = record {
+  files = files;
+  shelf_before = shelf_before;
+  shelf_after = shelf_after;
+  written_before = written_before;
+  written_after = written_after;
+  sink_before = sink_before;
+  sink_after = sink_after;
+}
+
+-- the words are `run` and two names
+abbrev pub IsRun : Words → List ℕ → List ℕ → Type 0
+IsRun words model script = map string_bytes words ≡ codes "run" ∷ (model ∷ (script ∷ []))
+
+-- the words are no command
+abbrev pub IsNoCommand : Words → Type 0
+IsNoCommand words = (model script : List ℕ) → ¬ IsRun words model script
+
+-- the text spells a model, and the plan is that model's
+abbrev pub IsText : List ℕ → Plan → Type 0
+IsText text plan = (form : FirstForm) × Spells text form × (plan ≡ plan_of form)
+
+-- the text spells no model
+abbrev pub IsNoText : List ℕ → Type 0
+IsNoText text = (form : FirstForm) → ¬ Spells text form
+
+-- why a text gives no plan: it spells no model, or memory was wanting
+abbrev pub StopsText : List ℕ → Stop → Type 0
+StopsText text stops.Usage = ⊥
+StopsText text stops.ModelRefused = IsNoText text
+StopsText text (stops.Unread file fault) = ⊥
+StopsText text stops.OutOfMemory = Unit {0}
+
+-- the model's file, where it is told, holds the text of this plan
+pub record Loads (files : Option Files) (name : List ℕ) (plan : Plan) : Type 0 where
+  pub text : List ℕ
+  pub held : Holds files name text
+  pub small : length text ≤ FILE_LIMIT
+  pub spelled : IsText text plan
+
+-- the model's file, where it is told, holds a text of no model
+pub record Refuses (files : Option Files) (name : List ℕ) : Type 0 where
+  pub text : List ℕ
+  pub held : Holds files name text
+  pub small : length text ≤ FILE_LIMIT
+  pub unspelled : IsNoText text
+
+-- the files, where they are told, hold the job's plan and script
+pub record LoadsJob (files : Option Files) (model script : List ℕ) (job : Job) : Type 0 where
+  pub loads : Loads files model job.plan
+  pub held : Holds files script job.script
+  pub small : length job.script ≤ FILE_LIMIT
+
+-- the words are `run` and two names, and the files hold the job
+abbrev pub LoadsRun : Words → Option Files → Job → Type 0
+LoadsRun words files job = (model : List ℕ) × (script : List ℕ) × IsRun words model script × LoadsJob files model script job
+
+-- why a file was not read: it isn't there, the shelf's count of faults rose, it is too large, or memory was wanting
+abbrev pub IsUnread : Option Files → ℕ → ℕ → List ℕ → FileFault → Type 0
+IsUnread files before after name faults.Missing = Lacks files name
+IsUnread files before after name faults.Failed = Raised before after
+IsUnread files before after name faults.TooLarge = Exceeds FILE_LIMIT files name
+IsUnread files before after name faults.OutOfMemory = Unit {0}
+
+-- why a file of the command was not read: the model's comes first, and the script's once that is a model's
+abbrev pub IsFileUnread : Option Files → ℕ → ℕ → List ℕ → List ℕ → NamedFile → FileFault → Type 0
+IsFileUnread files before after model script Model fault = IsUnread files before after model fault
+IsFileUnread files before after model script Script fault = (plan : Plan) × Loads files model plan × IsUnread files before after script fault
+
+-- why the model and the script of these names are not there to be run
+abbrev pub StopsJob : Option Files → ℕ → ℕ → List ℕ → List ℕ → Stop → Type 0
+StopsJob files before after model script stops.Usage = ⊥
+StopsJob files before after model script stops.ModelRefused = Refuses files model
+StopsJob files before after model script (stops.Unread file fault) = IsFileUnread files before after model script file fault
+StopsJob files before after model script stops.OutOfMemory = Unit {0}
+
+-- the words are `run` and two names, and what they name can't be run
+abbrev pub StopsRun : Words → Option Files → ℕ → ℕ → Stop → Type 0
+StopsRun words files before after stop =
+    (model : List ℕ) × (script : List ℕ) × IsRun words model script × StopsJob files before after model script stop
+
+-- why nothing was answered: the words are no command, or what they name can't be run
+abbrev pub Causes : Words → Option Files → ℕ → ℕ → Stop → Type 0
+Causes words files before after stops.Usage = IsNoCommand words
+Causes words files before after stops.ModelRefused = StopsRun words files before after stops.ModelRefused
+Causes words files before after (stops.Unread file fault) = StopsRun words files before after (stops.Unread file fault)
+Causes words files before after stops.OutOfMemory = StopsRun words files before after stops.OutOfMemory
+
+-- the place of a file's name among the words
+abbrev pub place_of : NamedFile → ℕ
+place_of Model = 1
+place_of Script = 2
+
+-- the name of the file
+abbrev pub name_in : Words → NamedFile → List ℕ
+name_in words file = option_map_or string_bytes (slice_get words (place_of file)) []
+
+-- what is said of a file that was not read
+abbrev pub fault_line : List ℕ → FileFault → List ℕ
+fault_line name faults.Missing = codes "no such file: " ++ (name ++ codes "\n")
+fault_line name faults.Failed = codes "read fault: " ++ (name ++ codes "\n")
+fault_line name faults.TooLarge = codes "too large: " ++ (name ++ codes "\n")
+fault_line name faults.OutOfMemory = codes "no memory\n"
+
+-- the line that says why nothing was answered
+abbrev pub stop_line : Words → Stop → List ℕ
+stop_line words stops.Usage = codes "usage: configd check MODEL, run MODEL SCRIPT [KEEPFILE], serve MODEL ADDRESS N [KEEPFILE], verify MODEL CHAIN, gen N\n"
+stop_line words stops.ModelRefused = codes "model refused: text 0 line 0\n"
+stop_line words (stops.Unread file fault) = fault_line (name_in words file) fault
+stop_line words stops.OutOfMemory = codes "no memory\n"
+
+-- the status of a file that was not read
+abbrev pub fault_status : FileFault → ℕ
+fault_status faults.Missing = 3
+fault_status faults.Failed = 4
+fault_status faults.TooLarge = 11
+fault_status faults.OutOfMemory = 8
+
+-- the status where nothing was answered
+abbrev pub stop_status : Stop → ℕ
+stop_status stops.Usage = 1
+stop_status stops.ModelRefused = 2
+stop_status (stops.Unread file fault) = fault_status fault
+stop_status stops.OutOfMemory = 8
+
+-- the exit status
+abbrev pub status_of : Ending → ℕ
+status_of endings.Answered = 0
+status_of (endings.Stopped stop) = stop_status stop
+status_of endings.Exhausted = 8
+status_of (endings.MessageCut stop) = 5
+status_of endings.AnswerCut = 5
+status_of endings.ExhaustedCut = 5
+
+-- what is said where memory was wanting at a line
+abbrev pub memory_line : List ℕ
+memory_line = codes "no memory\n"
+
+-- the first lines of the script are answered, and then the text is written, or a front of it
+pub record IsAnsweredThen (plan : Plan) (script : List ℕ) (old new : Option (List ℕ)) (Adds : Option (List ℕ) → Option (List ℕ) → Type 0) : Type 0 where
+  pub between : Option (List ℕ)
+  pub answered : IsAnsweredSoFar plan script old between
+  pub added : Adds between new
+
+-- how saying that memory was wanting ends
+abbrev pub EndsExhausted : Option (List ℕ) → Option (List ℕ) → Ending → Type 0
+EndsExhausted old new endings.Exhausted = Appends old new memory_line
+EndsExhausted old new endings.ExhaustedCut = AppendsFront old new memory_line
+EndsExhausted old new endings.Answered = ⊥
+EndsExhausted old new endings.AnswerCut = ⊥
+EndsExhausted old new (endings.Stopped stop) = ⊥
+EndsExhausted old new (endings.MessageCut stop) = ⊥
+
+-- how a job ends, and what it has written then
+abbrev pub EndsJob : Job → Option (List ℕ) → Option (List ℕ) → Ending → Type 0
+EndsJob job old new endings.Answered = IsAnswered job.plan job.script old new
+EndsJob job old new endings.Exhausted = IsAnsweredThen job.plan job.script old new (λ a b. Appends a b memory_line)
+EndsJob job old new endings.AnswerCut = IsCutShort job.plan job.script old new
+EndsJob job old new endings.ExhaustedCut = IsAnsweredThen job.plan job.script old new (λ a b. AppendsFront a b memory_line)
+EndsJob job old new (endings.Stopped stop) = ⊥
+EndsJob job old new (endings.MessageCut stop) = ⊥
+
+-- how saying why nothing is answered ends, and what it has written then
+abbrev pub EndsStop : Words → Stop → Option (List ℕ) → Option (List ℕ) → Ending → Type 0
+EndsStop words stop old new (endings.Stopped said) = (said ≡ stop) × Appends old new (stop_line words stop)
+EndsStop words stop old new (endings.MessageCut said) = (said ≡ stop) × AppendsFront old new (stop_line words stop)
+EndsStop words stop old new endings.Answered = ⊥
+EndsStop words stop old new endings.Exhausted = ⊥
+EndsStop words stop old new endings.AnswerCut = ⊥
+EndsStop words stop old new endings.ExhaustedCut = ⊥
+
+-- an ending in which the sink failed is one where its count of faults rose
+abbrev pub HasSinkCause : ℕ → ℕ → Ending → Type 0
+HasSinkCause before after (endings.MessageCut stop) = Raised before after
+HasSinkCause before after endings.AnswerCut = Raised before after
+HasSinkCause before after endings.ExhaustedCut = Raised before after
+HasSinkCause before after endings.Answered = Unit {0}
+HasSinkCause before after endings.Exhausted = Unit {0}
+HasSinkCause before after (endings.Stopped stop) = Unit {0}
+
+-- the words are `run` and two names, the files hold the job, and it ends so
+abbrev pub EndsRun : Words → Outside → Ending → Type 0
+EndsRun words o ending = (job : Job) × LoadsRun words o.files job × EndsJob job o.written_before o.written_after ending
+
+-- how the program ends, why, and what it has written then
+abbrev pub Ends : Words → Outside → Ending → Type 0
+Ends words o (endings.Stopped stop) = Causes words o.files o.shelf_before o.shelf_after stop × Appends o.written_before o.written_after (stop_line words stop)
+Ends words o (endings.MessageCut stop) = Causes words o.files o.shelf_before o.shelf_after stop × AppendsFront o.written_before o.written_after (stop_line words stop)
+Ends words o endings.Answered = EndsRun words o endings.Answered
+Ends words o endings.Exhausted = EndsRun words o endings.Exhausted
+Ends words o endings.AnswerCut = EndsRun words o endings.AnswerCut
+Ends words o endings.ExhaustedCut = EndsRun words o endings.ExhaustedCut
+
+-- the exit status is that of an ending of the program, in which the sink failed only where its count of faults rose
+pub record EndsWith (words : Words) (o : Outside) (status : ℕ) : Type 0 where
+  pub ending : Ending
+  pub number : status ≡ status_of ending
+  pub ends : Ends words o ending
+  pub cause : HasSinkCause o.sink_before o.sink_after ending

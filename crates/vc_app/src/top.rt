@@ -1,0 +1,60 @@
+//! The top call.
+
+ghost use Rattle.std.specs.Prelude.{◌≡◌, ◌≤◌};
+ghost use Rattle.vc_plan.specs.First.Plans.{IsValid};
+ghost use Rattle.vc_app.specs.Endings as endings;
+ghost use Rattle.vc_app.specs.Exactness.{IsExact};
+
+use std::alloc::Global;
+use vc_outside::{Failed, Shelf, Sink};
+
+use crate::ending::{say_stop, write_text, Ending};
+use crate::loading::{load_job, Job};
+use crate::transcript::{answer_script, ScriptFault};
+
+/// Says that memory was wanting at a line.
+fn say_exhausted<S: Sink>(out: &mut S) -> Ending
+    ensures ends { endings.EndsExhausted (S.written out.old) (S.written out.new) result }
+    ensures cause { endings.HasSinkCause (S.faults out.old) (S.faults out.new) result }
+    ensures later { S.faults out.old ≤ S.faults out.new }
+{
+    match write_text(out, "no memory\n") {
+        Ok(()) => Ending::Exhausted,
+        Err(Failed) => Ending::ExhaustedCut,
+    }
+}
+
+fn run_job<S: Sink>(alloc: Global, job: &Job, out: &mut S) -> Ending
+    requires { IsValid job.now.plan }
+    ensures ends { endings.EndsJob job.now (S.written out.old) (S.written out.new) result }
+    ensures cause { endings.HasSinkCause (S.faults out.old) (S.faults out.new) result }
+    ensures later { S.faults out.old ≤ S.faults out.new }
+{
+    match answer_script(alloc, &job.plan, job.script.bytes(), out) {
+        Ok(()) => Ending::Answered,
+        Err(ScriptFault::Sink) => Ending::AnswerCut,
+        Err(ScriptFault::OutOfMemory) => say_exhausted(out),
+    }
+}
+
+/// Does what the words ask, and says how it ended.
+fn end<F: Shelf, S: Sink>(alloc: Global, words: &[String], shelf: &mut F, out: &mut S) -> Ending
+    ensures ends { endings.Ends words.now (endings.outside (F.files shelf.old) (F.faults shelf.old) (F.faults shelf.new) (S.written out.old) (S.written out.new) (S.faults out.old) (S.faults out.new)) result }
+    ensures cause { endings.HasSinkCause (S.faults out.old) (S.faults out.new) result }
+    ensures later { S.faults out.old ≤ S.faults out.new }
+{
+    match load_job(alloc, shelf, words) {
+        Ok(job) => run_job(alloc, &job, out),
+        Err(stop) => say_stop(out, words, stop),
+    }
+}
+
+/// Does what the words ask, which stand behind the program's name, and answers the exit status: 0 where each line of the
+/// script was answered, 1 for words that are no command, 2 for a text that is no model's, 3 for a file that isn't there,
+/// 4 for a fault of the shelf, 5 for one of the sink, 8 for want of memory, 11 for a file that is too large.
+pub fn desk<F: Shelf, S: Sink>(alloc: Global, words: &[String], shelf: &mut F, out: &mut S) -> u8
+    ensures ends { endings.EndsWith words.now (endings.outside (F.files shelf.old) (F.faults shelf.old) (F.faults shelf.new) (S.written out.old) (S.written out.new) (S.faults out.old) (S.faults out.new)) result }
+    ensures exact { IsExact words.now (endings.outside (F.files shelf.old) (F.faults shelf.old) (F.faults shelf.new) (S.written out.old) (S.written out.new) (S.faults out.old) (S.faults out.new)) result }
+{
+    end(alloc, words, shelf, out).status()
+}

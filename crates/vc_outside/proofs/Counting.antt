@@ -1,0 +1,13 @@
+-- How the count of the numbers at most a limit grows with the limit.
+use Rattle.std.proofs.Common.{◌≡◌, ℕ, zero, suc, ◌<◌, ◌≤◌, List, [], ◌∷◌, length, arith, slice_index_or}
+use Rattle.std.proofs.lemmas.Bool.Decides.{nat_tests}
+use Rattle.vc_outside.specs.Faults.{count_upto}
+
+pub count_upto-le : (numbers : List ℕ) (n m : ℕ) → n ≤ m → count_upto n numbers ≤ count_upto m numbers
+count_upto-le [] n m below = omega arith
+count_upto-le (x ∷ xs) n m below = let rest = count_upto-le xs n m below in grind (arith, nat_tests)
+
+pub count_upto-lt : (numbers : List ℕ) (n m : ℕ) → n < m → (k : ℕ) → k < length numbers → slice_index_or numbers k m ≡ m → count_upto n numbers < count_upto m numbers
+count_upto-lt [] n m below k inside is = absurd (omega arith)
+count_upto-lt (x ∷ xs) n m below zero inside is = let rest = count_upto-le xs n m (omega arith) in let here : x ≡ m = is in grind (arith, nat_tests)
+count_upto-lt (x ∷ xs) n m below (suc k) inside is = let rest = count_upto-lt xs n m below k (omega arith) is in grind (arith, nat_tests)

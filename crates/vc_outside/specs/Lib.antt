@@ -1,0 +1,5 @@
+pub mod Faults
+pub mod MemoryShelves
+pub mod MemorySinks
+pub mod Shelves
+pub mod Sinks

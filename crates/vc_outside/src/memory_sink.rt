@@ -1,0 +1,82 @@
+//! A sink in memory, for tests.
+
+ghost use Rattle.std.specs.Prelude.{◌≡◌, ◌+◌, ◌-◌, ◌^◌, ◌<◌, ◌≤◌, [], ◌∷◌, ◌++◌, length, vec_len, IfOk, OnOk, OnErr};
+ghost use Rattle.vc_outside.specs.Faults.{faults_of};
+
+use crate::fault::{Failed, Failures};
+use crate::sink::Sink;
+use std::alloc::{AllocError, Global};
+use std::marker::Model;
+
+/// Bytes in memory, with room for so many and with calls that are to fail.
+#[derive(Debug, Drop)]
+pub struct MemSink {
+    written: Vec<u8>,
+    room: usize,
+    refused: u64,
+    failures: Failures,
+}
+
+impl Model for MemSink {
+    ghost use Rattle.std.specs.Prelude.{vec_capacity, vec_len, ◌≤◌};
+    ghost use Rattle.vc_outside.specs.MemorySinks.{SinkState};
+
+    ghost Value = { SinkState };
+
+    ghost view = { λ s. record { written = s.written.items; room = s.room; refused = s.refused; calls = s.failures } };
+
+    ghost invariant = { λ s. (s.room ≤ vec_capacity s.written) × (vec_len s.written ≤ s.room) };
+}
+
+impl MemSink {
+    /// An empty sink with room for so many bytes, of which no call is to fail.
+    pub fn with_room(alloc: Global, room: usize) -> Result<MemSink, AllocError>
+        ensures { IfOk result (λ sink. sink ≡ record { written = []; room = room; refused = 0; calls = record { made = 0; failing = [] } }) }
+    {
+        let written = Vec::with_capacity(alloc, room)?;
+        Ok(MemSink {
+            written,
+            room,
+            refused: 0,
+            failures: Failures::new(alloc),
+        })
+    }
+
+    /// Lets the call of this number, counted from 1, fail. After an error nothing changed.
+    pub fn fail_at(&mut self, call: u64) -> Result<(), AllocError>
+        ensures ok { OnOk result (self.new ≡ record self.old { calls = record self.old.calls { failing = self.old.calls.failing ++ call ∷ [] } }) }
+        ensures err { OnErr result (self.new ≡ self.old) }
+    {
+        self.failures.fail_at(call)
+    }
+
+    /// The bytes that were written.
+    pub fn written(&self) -> &[u8]
+        ensures { result.now ≡ self.now.written }
+    {
+        self.written.as_slice()
+    }
+}
+
+impl Sink for MemSink {
+    ghost use Rattle.std.specs.Prelude.{Some};
+
+    ghost written = { λ s. Some s.written };
+
+    ghost faults = { λ s. faults_of s.calls + s.refused };
+
+    fn write(&mut self, bytes: &[u8]) -> Result<usize, Failed> {
+        if self.failures.next_fails() {
+            return Err(Failed);
+        }
+        let taken = bytes.len().min(self.room - self.written.len());
+        if taken == 0 && !bytes.is_empty() {
+            self.refused = self.refused.saturating_add(1);
+            return Err(Failed);
+        }
+        match self.written.extend_from_slice(&bytes[..taken]) {
+            Ok(()) => Ok(taken),
+            Err(_) => unreachable!(),
+        }
+    }
+}

@@ -1,0 +1,87 @@
+//! Reads and writes, in memory and at the edge, with calls that fail.
+
+use crate::{
+    FILE_LIMIT, Failed, FileFault, FileShelf, Found, MemShelf, MemSink, Shelf, Sink, StdSink,
+    read_whole, write_all,
+};
+use std::test::Fail;
+use std::time::{SystemTime, UNIX_EPOCH};
+use std::{env, fs};
+
+#[test]
+fn reads_files_in_memory(rt: HostRuntime) -> Result<(), Fail> {
+    let mut shelf = MemShelf::new(rt.alloc());
+    shelf.add(rt.alloc(), "plan", b"MODEL PUMPS".as_slice())?;
+    shelf.add(rt.alloc(), "empty", &[])?;
+    let plan = read_whole(rt.alloc(), &mut shelf, "plan");
+    assert!(rt; plan.is_ok_and(|text| text.as_slice() == b"MODEL PUMPS".as_slice()));
+    let empty = read_whole(rt.alloc(), &mut shelf, "empty");
+    assert!(rt; empty.is_ok_and(|text| text.is_empty()));
+    assert_eq!(rt; shelf.begin("plans"), Ok(Found::Missing));
+    Ok(())
+}
+
+#[test]
+fn fails_at_the_calls_named(rt: HostRuntime) -> Result<(), Fail> {
+    let mut shelf = MemShelf::new(rt.alloc());
+    shelf.add(rt.alloc(), "plan", b"MODEL PUMPS".as_slice())?;
+    shelf.fail_at(1)?;
+    shelf.fail_at(3)?;
+    for _ in 0..2 {
+        let plan = read_whole(rt.alloc(), &mut shelf, "plan");
+        assert!(rt; plan.is_err_and(|fault| fault == FileFault::Failed));
+    }
+    let plan = read_whole(rt.alloc(), &mut shelf, "plan");
+    assert!(rt; plan.is_ok_and(|text| text.len() == 11));
+    Ok(())
+}
+
+#[test]
+fn reads_up_to_the_limit(rt: HostRuntime) -> Result<(), Fail> {
+    for (length, fits) in [(FILE_LIMIT, true), (FILE_LIMIT + 1, false)] {
+        let mut shelf = MemShelf::new(rt.alloc());
+        let bytes = vec![in rt.alloc(); 7u8; length]?;
+        shelf.add(rt.alloc(), "table", bytes.as_slice())?;
+        let table = read_whole(rt.alloc(), &mut shelf, "table");
+        assert_eq!(rt; table.is_ok_and(|text| text.len() == length), fits);
+    }
+    Ok(())
+}
+
+#[test]
+fn writes_to_memory(rt: HostRuntime) -> Result<(), Fail> {
+    let mut sink = MemSink::with_room(rt.alloc(), 5)?;
+    sink.fail_at(2)?;
+    assert_eq!(rt; write_all(&mut sink, b"abc".as_slice()), Ok(()));
+    assert_eq!(rt; write_all(&mut sink, b"x".as_slice()), Err(Failed));
+    assert_eq!(rt; write_all(&mut sink, b"defg".as_slice()), Err(Failed));
+    assert!(rt; sink.written() == b"abcde".as_slice());
+    Ok(())
+}
+
+#[test]
+fn reads_a_real_file(rt: HostRuntime) -> Result<(), Fail> {
+    let since_epoch = SystemTime::now(&rt)?.duration_since(UNIX_EPOCH)?;
+    let folder = env::temp_dir(&rt)?;
+    let path = format!(in rt.alloc(); "{}/plan-{}", folder.as_str(), since_epoch.as_nanos())?;
+    fs::write(&rt, path.as_str(), "MODEL PUMPS")?;
+    let mut shelf = FileShelf::new(&rt);
+    let text = read_whole(rt.alloc(), &mut shelf, path.as_str());
+    fs::remove_file(&rt, path.as_str())?;
+    assert!(rt; text.is_ok_and(|text| text.as_slice() == b"MODEL PUMPS".as_slice()));
+    let missing = read_whole(rt.alloc(), &mut shelf, path.as_str());
+    assert!(rt; missing.is_err_and(|fault| fault == FileFault::Missing));
+    let folder = read_whole(rt.alloc(), &mut shelf, "/");
+    assert!(rt; folder.is_err_and(|fault| fault == FileFault::Failed));
+    Ok(())
+}
+
+#[test]
+fn writes_through_a_writer(rt: HostRuntime) -> Result<(), Fail> {
+    let mut room = [0u8; 4];
+    let mut sink = StdSink::new(room.as_mut_slice());
+    assert_eq!(rt; write_all(&mut sink, b"abc".as_slice()), Ok(()));
+    assert_eq!(rt; sink.write(b"def".as_slice()), Ok(1));
+    assert_eq!(rt; write_all(&mut sink, b"ef".as_slice()), Err(Failed));
+    Ok(())
+}

@@ -1,0 +1,10 @@
+//! Plans of one object whose characteristics have listed texts, and their evaluation.
+
+mod entries;
+mod plans;
+mod settling;
+mod standing;
+mod watching;
+
+pub use plans::{Plan, Rule, Variable};
+pub use settling::{Evaluation, Outcome};

@@ -1,0 +1,4 @@
+pub mod CutLemmas
+pub mod DigitLemmas
+pub mod GrainLemmas
+pub mod PowerLemmas
