@@ -74,13 +74,19 @@ impl Plan {
     fn has_texts(&self) -> bool
         ensures { result ≡ list_all has_text self.now.variables }
     {
-        self.variables.as_slice().iter().all(|variable| variable.texts.len() > 0)
+        self.variables
+            .as_slice()
+            .iter()
+            .all(|variable| variable.texts.len() > 0)
     }
 
     fn has_valid_rules(&self) -> bool
         ensures { result ≡ list_all (is_valid_rule self.now) self.now.rules }
     {
-        self.rules.as_slice().iter().all(|rule| self.is_valid_rule(rule))
+        self.rules
+            .as_slice()
+            .iter()
+            .all(|rule| self.is_valid_rule(rule))
     }
 
     fn is_valid_rule(&self, rule: &Rule) -> bool
