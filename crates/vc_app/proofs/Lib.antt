@@ -1,4 +1,5 @@
 pub mod EndingLaws
+pub mod ExactnessLaws
 pub mod ScriptLines
 pub mod SinkLaws
 pub mod StateLaws

@@ -14,6 +14,7 @@ use Rattle.vc_plan.specs.declared.first.plans.Plan.{Plan}
 use Rattle.vc_app.specs.Transcript.{IsAnswered, IsAnsweredSoFar, IsCutShort}
 use Rattle.vc_first.specs.declared.form.FirstForm.{FirstForm}
 use Rattle.vc_first.specs.Lines.{Spells}
+use Rattle.vc_first.specs.Plans.{plan_of}
 use Rattle.vc_app.specs.declared.loading.Job.{Job}
 use Rattle.vc_app.specs.declared.ending.NamedFile.{NamedFile}
 use Rattle.vc_app.specs.declared.ending.NamedFile.TheVariants.{Model, Script}
@@ -57,7 +58,7 @@ IsNoCommand words = (model script : List ℕ) → ¬ IsRun words model script
 
 -- the text spells a model, and the plan is that model's
 abbrev pub IsText : List ℕ → Plan → Type 0
-IsText text plan = (form : FirstForm) × Spells text form
+IsText text plan = (form : FirstForm) × Spells text form × (plan ≡ plan_of form)
 
 -- the text spells no model
 abbrev pub IsNoText : List ℕ → Type 0

@@ -1,5 +1,6 @@
 pub mod Answers
 pub mod Endings
+pub mod Exactness
 pub mod Replies
 pub mod Requests
 pub mod Rows

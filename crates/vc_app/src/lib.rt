@@ -12,3 +12,6 @@ pub mod top;
 pub mod transcript;
 
 pub use top::desk;
+
+#[cfg(test)]
+mod tests;

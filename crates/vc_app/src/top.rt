@@ -3,6 +3,7 @@
 ghost use Rattle.std.specs.Prelude.{◌≡◌, ◌≤◌};
 ghost use Rattle.vc_plan.specs.First.Plans.{IsValid};
 ghost use Rattle.vc_app.specs.Endings as endings;
+ghost use Rattle.vc_app.specs.Exactness.{IsExact};
 
 use std::alloc::Global;
 use vc_outside::{Failed, Shelf, Sink};
@@ -53,6 +54,7 @@ fn end<F: Shelf, S: Sink>(alloc: Global, words: &[String], shelf: &mut F, out: &
 /// 4 for a fault of the shelf, 5 for one of the sink, 8 for want of memory, 11 for a file that is too large.
 pub fn desk<F: Shelf, S: Sink>(alloc: Global, words: &[String], shelf: &mut F, out: &mut S) -> u8
     ensures ends { endings.EndsWith words.now (endings.outside (F.files shelf.old) (F.faults shelf.old) (F.faults shelf.new) (S.written out.old) (S.written out.new) (S.faults out.old) (S.faults out.new)) result }
+    ensures exact { IsExact words.now (endings.outside (F.files shelf.old) (F.faults shelf.old) (F.faults shelf.new) (S.written out.old) (S.written out.new) (S.faults out.old) (S.faults out.new)) result }
 {
     end(alloc, words, shelf, out).status()
 }

@@ -1,16 +1,12 @@
 -- What the lines of a model make, read from the last to the first.
-use Rattle.std.proofs.Common.{◌≡◌, ℕ, ◌∙◌, List, [], ◌∷◌, ◌++◌, Bool, true, false, not, ◌&&◌, map, ap, refl, sym, codes, eqb}
-use Rattle.std.specs.List.{flat_map, list_all, join_by, slice_split}
-use Rattle.std.proofs.lemmas.List.{append-nil}
-use Rattle.std.proofs.Common.{append_assoc}
+use Rattle.std.proofs.Common.{◌≡◌, ℕ, ◌∙◌, List, [], ◌∷◌, ◌++◌, map, ap, refl, codes}
 use Rattle.vc_first.specs.declared.drafts.Draft.{Draft}
-use Rattle.vc_first.specs.declared.form.Characteristic.{Characteristic}
 use Rattle.vc_first.specs.declared.form.Block.{Block}
 use Rattle.vc_first.specs.declared.form.Restriction.{Restriction}
-use Rattle.vc_first.specs.Drafts.{before, after, between_quotes, texts_in, restriction_in, no_restriction, with_line, with_lines}
-use Rattle.vc_first.specs.Lines.{line, quoted, operand, listed, value_line, characteristic_lines, has_line, restriction_line, object_line, inference_line, block_lines, uses_line}
-use Rattle.vc_first.proofs.Cleanness.{AllLack, quoted_lacks, operand_lacks}
-use Rattle.vc_first.proofs.Cuts.{Lacks, lacks-append, before-stop, after-stop, after-skip, slice_split-stop, slice_split-whole}
+use Rattle.vc_first.specs.Drafts.{before, after, no_restriction, with_line, with_lines}
+use Rattle.vc_first.specs.Lines.{line, quoted, value_line, has_line, object_line, inference_line, uses_line}
+use Rattle.vc_first.proofs.Cleanness.{AllLack}
+use Rattle.vc_first.proofs.Cuts.{Lacks, before-stop, after-stop}
 
 -- lines in front of lines
 pub with_lines-append : (ls ms : List (List ℕ)) (d : Draft) → with_lines (ls ++ ms) d ≡ with_lines ls (with_lines ms d)
@@ -18,20 +14,20 @@ with_lines-append [] ms d = refl
 with_lines-append (l ∷ ls) ms d = ap (with_line l) (with_lines-append ls ms d)
 
 pub model-line : (n v : List ℕ) (d : Draft) → Lacks 32 n
-  → with_line (line (codes "MODEL" ∷ n ∷ codes "VERSION" ∷ v ∷ [])) d ≡ record d { name = n; version = v }
+    → with_line (line (codes "MODEL" ∷ n ∷ codes "VERSION" ∷ v ∷ [])) d ≡ record d { name = n; version = v }
 unfolding line
 model-line n v d h =
-  ap (λ m. record d { name = m; version = after 32 (after 32 (n ++ 32 ∷ (codes "VERSION" ++ 32 ∷ v))) }) (before-stop 32 n (codes "VERSION" ++ 32 ∷ v) h)
-  ∙ ap (λ r. record d { name = n; version = after 32 r }) (after-stop 32 n (codes "VERSION" ++ 32 ∷ v) h)
+    ap (λ m. record d { name = m; version = after 32 (after 32 (n ++ 32 ∷ (codes "VERSION" ++ 32 ∷ v))) }) (before-stop 32 n (codes "VERSION" ++ 32 ∷ v) h)
+    ∙ ap (λ r. record d { name = n; version = after 32 r }) (after-stop 32 n (codes "VERSION" ++ 32 ∷ v) h)
 
 pub char-line : (n l : List ℕ) (d : Draft) → Lacks 32 n → Lacks 32 l
-  → with_line (line (codes "CHAR" ∷ n ∷ l ∷ codes "RESTRICTABLE" ∷ [])) d
+    → with_line (line (codes "CHAR" ∷ n ∷ l ∷ codes "RESTRICTABLE" ∷ [])) d
     ≡ record d { characteristics = record { name = n; length = l; values = d.values } ∷ d.characteristics; values = [] }
 unfolding line
 char-line n l d h k =
-  ap (λ m. record d { characteristics = record { name = m; length = before 32 (after 32 (n ++ 32 ∷ (l ++ 32 ∷ codes "RESTRICTABLE"))); values = d.values } ∷ d.characteristics; values = [] })
+    ap (λ m. record d { characteristics = record { name = m; length = before 32 (after 32 (n ++ 32 ∷ (l ++ 32 ∷ codes "RESTRICTABLE"))); values = d.values } ∷ d.characteristics; values = [] })
     (before-stop 32 n (l ++ 32 ∷ codes "RESTRICTABLE") h)
-  ∙ ap (λ m. record d { characteristics = record { name = n; length = m; values = d.values } ∷ d.characteristics; values = [] })
+    ∙ ap (λ m. record d { characteristics = record { name = n; length = m; values = d.values } ∷ d.characteristics; values = [] })
     (ap (before 32) (after-stop 32 n (l ++ 32 ∷ codes "RESTRICTABLE") h) ∙ before-stop 32 l (codes "RESTRICTABLE") k)
 
 pub value-line : (t : List ℕ) (d : Draft) → Lacks 39 t → with_line (value_line t) d ≡ record d { values = t ∷ d.values }
@@ -47,7 +43,7 @@ unfolding line
 has-line n d = refl
 
 pub constraint-line : (n : List ℕ) (d : Draft) → with_line (line (codes "CONSTRAINT" ∷ n ∷ [])) d
-  ≡ record d { blocks = record { constraint = n; restriction = d.restriction } ∷ d.blocks; restriction = no_restriction }
+    ≡ record d { blocks = record { constraint = n; restriction = d.restriction } ∷ d.blocks; restriction = no_restriction }
 unfolding line
 constraint-line n d = refl
 
@@ -91,4 +87,3 @@ members-lines (n ∷ ns) d = ap (with_line (has_line n)) (members-lines ns d) �
 pub uses-lines : (bs : List Block) (d : Draft) → with_lines (map (λ b. uses_line b.constraint) bs) d ≡ d
 uses-lines [] d = refl
 uses-lines (b ∷ bs) d = ap (with_line (uses_line b.constraint)) (uses-lines bs d) ∙ uses-line b.constraint d
-

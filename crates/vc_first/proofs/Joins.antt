@@ -1,6 +1,6 @@
 -- Words with a byte between, and lines one after the other.
 use Rattle.std.proofs.Common.{◌≡◌, ℕ, ◌+◌, ◌<◌, ◌≤◌, ◌-◌, List, [], ◌∷◌, ◌++◌, length, get_or, take, drop, map, ap, sym, ◌∙◌, refl, arith, append_assoc}
-use Rattle.std.specs.List.{flat_map, join_by, join_with_byte}
+use Rattle.std.specs.List.{flat_map, join_by}
 use Rattle.std.proofs.lemmas.Grind.{common_steps, flat_map-append}
 use Rattle.std.proofs.lemmas.List.Folds.{flat_map-map}
 use Rattle.vc_first.proofs.Cuts.{take-whole}
@@ -16,12 +16,12 @@ more-cons x xs = grind (arith, common_steps)
 
 -- the first element, and each later one after the separator
 pub join_by-put : {X : Type 0} (f : X → List ℕ) (sep : List ℕ) (xs : List X) (d : X) (i : ℕ) (o p q : List ℕ) → 1 ≤ length xs
-  → p ≡ o ++ f (get_or xs 0 d) → q ≡ p ++ flat_map (λ x. sep ++ f x) (take i (more xs)) → length (more xs) ≤ i
-  → q ≡ o ++ join_by f sep xs
+    → p ≡ o ++ f (get_or xs 0 d) → q ≡ p ++ flat_map (λ x. sep ++ f x) (take i (more xs)) → length (more xs) ≤ i
+    → q ≡ o ++ join_by f sep xs
 join_by-put f sep [] d i o p q h j k l = absurd (omega arith)
 join_by-put f sep (x ∷ xs) d i o p q h j k l =
-  let e : take i (more (x ∷ xs)) ≡ xs = take-whole i (more (x ∷ xs)) l ∙ more-cons x xs in
-  k ∙ ap (λ r. p ++ flat_map (λ y. sep ++ f y) r) e ∙ ap (λ r. r ++ flat_map (λ y. sep ++ f y) xs) j ∙ append_assoc o _ _
+    let e : take i (more (x ∷ xs)) ≡ xs = take-whole i (more (x ∷ xs)) l ∙ more-cons x xs in
+    k ∙ ap (λ r. p ++ flat_map (λ y. sep ++ f y) r) e ∙ ap (λ r. r ++ flat_map (λ y. sep ++ f y) xs) j ∙ append_assoc o _ _
 
 pub line-nil : line [] ≡ []
 unfolding line
@@ -43,22 +43,22 @@ text_of_lines-append ls ms = flat_map-append _ ls ms
 
 -- the lines of one element more
 pub text_of_lines-more : {X : Type 0} (f : X → List (List ℕ)) (o : List ℕ) (xs : List X) (i : ℕ) (d : X) → i < length xs
-  → (o ++ text_of_lines (flat_map f (take i xs))) ++ text_of_lines (f (get_or xs i d)) ≡ o ++ text_of_lines (flat_map f (take (i + 1) xs))
+    → (o ++ text_of_lines (flat_map f (take i xs))) ++ text_of_lines (f (get_or xs i d)) ≡ o ++ text_of_lines (flat_map f (take (i + 1) xs))
 text_of_lines-more f o xs i d h =
-  append_assoc o _ _
-  ∙ ap (λ r. o ++ r) (
+    append_assoc o _ _
+    ∙ ap (λ r. o ++ r) (
     sym (text_of_lines-append (flat_map f (take i xs)) (f (get_or xs i d)))
     ∙ ap text_of_lines (
-      ap (λ r. flat_map f (take i xs) ++ r) (sym (append-nil (f (get_or xs i d))))
-      ∙ sym (flat_map-append f (take i xs) (get_or xs i d ∷ []))
-      ∙ ap (flat_map f) (sym (take_more xs i d h))))
+    ap (λ r. flat_map f (take i xs) ++ r) (sym (append-nil (f (get_or xs i d))))
+    ∙ sym (flat_map-append f (take i xs) (get_or xs i d ∷ []))
+    ∙ ap (flat_map f) (sym (take_more xs i d h))))
 
 -- five pieces put one after the other
 pub five : (o a b c d e p q r s t : List ℕ) → p ≡ o ++ a → q ≡ p ++ b → r ≡ q ++ c → s ≡ r ++ d → t ≡ s ++ e
-  → t ≡ o ++ (a ++ (b ++ (c ++ (d ++ (e ++ [])))))
+    → t ≡ o ++ (a ++ (b ++ (c ++ (d ++ (e ++ [])))))
 five o a b c d e p q r s t h i j k l =
-  l ∙ ap (λ x. x ++ e) (k ∙ ap (λ x. x ++ d) (j ∙ ap (λ x. x ++ c) (i ∙ ap (λ x. x ++ b) h)))
-  ∙ simp (append_assoc, append-nil)
+    l ∙ ap (λ x. x ++ e) (k ∙ ap (λ x. x ++ d) (j ∙ ap (λ x. x ++ c) (i ∙ ap (λ x. x ++ b) h)))
+    ∙ simp (append_assoc, append-nil)
 
 -- a first word and more words of two lists
 pub cons-same : {X : Type 0} {x y : X} {xs ys : List X} → x ≡ y → xs ≡ ys → x ∷ xs ≡ y ∷ ys

@@ -2,6 +2,7 @@ pub mod Cleanness
 pub mod Cuts
 pub mod Drafting
 pub mod Joins
+pub mod LineCount
 pub mod LineFeeds
 pub mod Numbers
 pub mod Parts

@@ -1,5 +1,5 @@
 -- What is read of a line, whatever stands in it, and what lines make together, from the last to the first.
-use Rattle.std.specs.Prelude.{ℕ, ◌==◌, Bool, cond, List, [], ◌∷◌, map, codes, if◌then◌else◌}
+use Rattle.std.specs.Prelude.{ℕ, ◌==◌, cond, List, [], ◌∷◌, map, codes, if◌then◌else◌}
 use Rattle.std.specs.List.{slice_split}
 use Rattle.std.specs.Str.{bytes_eq}
 use Rattle.vc_first.specs.declared.form.FirstForm.{FirstForm}
@@ -33,21 +33,22 @@ restriction_in bytes = record {
   target = after 46 (before 32 bytes);
   allowed = texts_in (before 41 (after 40 bytes));
   condition = before 32 (after 46 (after 41 bytes));
-  condition_text = between_quotes (after 41 bytes) }
+  condition_text = between_quotes (after 41 bytes);
+}
 
 -- the keyword that the word is
 abbrev pub keyword_of : List ℕ → Keyword
 keyword_of word =
-  if bytes_eq word (codes "MODEL") then Model
-  else if bytes_eq word (codes "CHAR") then Char
-  else if bytes_eq word (codes "VALUE") then Value
-  else if bytes_eq word (codes "CLASS") then Class
-  else if bytes_eq word (codes "HAS") then Has
-  else if bytes_eq word (codes "CONSTRAINT") then Constraint
-  else if bytes_eq word (codes "RESTRICTIONS:") then Restrictions
-  else if bytes_eq word (codes "NET") then Net
-  else if bytes_eq word (codes "ROOT") then Root
-  else Other
+    if bytes_eq word (codes "MODEL") then Model
+    else if bytes_eq word (codes "CHAR") then Char
+    else if bytes_eq word (codes "VALUE") then Value
+    else if bytes_eq word (codes "CLASS") then Class
+    else if bytes_eq word (codes "HAS") then Has
+    else if bytes_eq word (codes "CONSTRAINT") then Constraint
+    else if bytes_eq word (codes "RESTRICTIONS:") then Restrictions
+    else if bytes_eq word (codes "NET") then Net
+    else if bytes_eq word (codes "ROOT") then Root
+    else Other
 
 -- no restriction
 abbrev pub no_restriction : Restriction
@@ -56,21 +57,32 @@ no_restriction = record { variable = []; target = []; allowed = []; condition = 
 -- nothing read
 abbrev pub empty_draft : Draft
 empty_draft = record {
-  name = []; version = []; characteristics = []; values = []; class = []; members = [];
-  blocks = []; restriction = no_restriction; net = []; material = [] }
+  name = [];
+  version = [];
+  characteristics = [];
+  values = [];
+  class = [];
+  members = [];
+  blocks = [];
+  restriction = no_restriction;
+  net = [];
+  material = [];
+}
 
 -- the draft with what stands after a keyword in front
 abbrev pub with_rest : Keyword → List ℕ → Draft → Draft
 with_rest Model rest draft = record draft { name = before 32 rest; version = after 32 (after 32 rest) }
 with_rest Char rest draft = record draft {
   characteristics = record { name = before 32 rest; length = before 32 (after 32 rest); values = draft.values } ∷ draft.characteristics;
-  values = [] }
+  values = [];
+}
 with_rest Value rest draft = record draft { values = between_quotes rest ∷ draft.values }
 with_rest Class rest draft = record draft { class = rest }
 with_rest Has rest draft = record draft { members = rest ∷ draft.members }
 with_rest Constraint rest draft = record draft {
   blocks = record { constraint = rest; restriction = draft.restriction } ∷ draft.blocks;
-  restriction = no_restriction }
+  restriction = no_restriction;
+}
 with_rest Restrictions rest draft = record draft { restriction = restriction_in rest }
 with_rest Net rest draft = record draft { net = rest }
 with_rest Root rest draft = record draft { material = rest }
@@ -88,5 +100,12 @@ with_lines (line ∷ lines) draft = with_line line (with_lines lines draft)
 -- the form that the draft holds
 abbrev pub form_of : Draft → FirstForm
 form_of draft = record {
-  name = draft.name; version = draft.version; characteristics = draft.characteristics; class = draft.class;
-  members = draft.members; blocks = draft.blocks; net = draft.net; material = draft.material }
+  name = draft.name;
+  version = draft.version;
+  characteristics = draft.characteristics;
+  class = draft.class;
+  members = draft.members;
+  blocks = draft.blocks;
+  net = draft.net;
+  material = draft.material;
+}

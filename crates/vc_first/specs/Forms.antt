@@ -8,17 +8,13 @@ use Rattle.vc_first.specs.declared.form.Restriction.{Restriction}
 use Rattle.vc_first.specs.Names.{has_name, are_distinct}
 use Rattle.vc_first.specs.Spelling.{is_free_name, is_material, is_text, is_count, is_some_up_to, number_of}
 
--- an empty list
-abbrev pub is_nothing : List (List ℕ) → Bool
-is_nothing words = length words == 0
-
 -- a text of at most so many bytes
 abbrev pub is_value : ℕ → List ℕ → Bool
 is_value limit text = is_text text && nat_le (length text) limit
 
 -- 1 to 64 texts of at most so many bytes, none twice
 abbrev pub are_values : ℕ → List (List ℕ) → Bool
-are_values limit texts = is_some_up_to 64 (length texts) && (list_all (is_value limit) texts && are_distinct (λ text. text) texts)
+are_values limit texts = is_some_up_to 64 (length texts) && list_all (is_value limit) texts && are_distinct (λ text. text) texts
 
 -- a length from 1 to 30, a name, and texts of at most this length
 abbrev pub is_characteristic : Characteristic → Bool
@@ -26,27 +22,21 @@ is_characteristic c = is_count 30 c.length && (is_free_name c.name && are_values
 
 -- 1 to 64 characteristics, no name twice
 abbrev pub are_characteristics : List Characteristic → Bool
-are_characteristics cs = is_some_up_to 64 (length cs) && (list_all is_characteristic cs && are_distinct (λ c. c.name) cs)
+are_characteristics cs = is_some_up_to 64 (length cs) && list_all is_characteristic cs && are_distinct (λ c. c.name) cs
 
--- one name or more, each of a characteristic, none twice
+-- one name or more, each of one of the at most 64 characteristics, none twice
 abbrev pub are_members : List Characteristic → List (List ℕ) → Bool
-are_members cs names = not (is_nothing names) && (list_all (has_name (λ c. c.name) cs) names && are_distinct (λ name. name) names)
+are_members cs names = is_some_up_to 64 (length names) && list_all (has_name (λ c. c.name) cs) names && are_distinct (λ name. name) names
 
--- both characteristics stand in the class
-abbrev pub are_operands : List (List ℕ) → Restriction → Bool
-are_operands members r = has_name (λ name. name) members r.target && has_name (λ name. name) members r.condition
-
--- one text or more
-abbrev pub are_allowed : List (List ℕ) → Bool
-are_allowed texts = not (is_nothing texts) && list_all is_text texts
-
--- allowed texts, and a condition's text
-abbrev pub are_texts : Restriction → Bool
-are_texts r = are_allowed r.allowed && is_text r.condition_text
-
--- a restriction on characteristics of the class
+-- both characteristics stand in the class, and one text or more is allowed
 abbrev pub is_restriction : List (List ℕ) → Restriction → Bool
-is_restriction members r = is_free_name r.variable && (are_operands members r && are_texts r)
+is_restriction members r =
+    is_free_name r.variable
+    && has_name (λ name. name) members r.target
+    && has_name (λ name. name) members r.condition
+    && not (length r.allowed == 0)
+    && list_all is_text r.allowed
+    && is_text r.condition_text
 
 -- a constraint on characteristics of the class
 abbrev pub is_block : List (List ℕ) → Block → Bool
@@ -54,7 +44,7 @@ is_block members b = is_free_name b.constraint && is_restriction members b.restr
 
 -- at most 100 constraints, no name twice
 abbrev pub are_blocks : List (List ℕ) → List Block → Bool
-are_blocks members blocks = nat_le (length blocks) 100 && (list_all (is_block members) blocks && are_distinct (λ b. b.constraint) blocks)
+are_blocks members blocks = nat_le (length blocks) 100 && list_all (is_block members) blocks && are_distinct (λ b. b.constraint) blocks
 
 -- a name and a version from 1 to 999,999
 abbrev pub is_head : FirstForm → Bool
@@ -64,22 +54,12 @@ is_head form = is_free_name form.name && is_count 999999 form.version
 abbrev pub is_class : FirstForm → Bool
 is_class form = is_free_name form.class && are_members form.characteristics form.members
 
--- a name that no constraint has
-abbrev pub is_net_name : List Block → List ℕ → Bool
-is_net_name blocks name = is_free_name name && not (has_name (λ b. b.constraint) blocks name)
-
--- constraints and their net
+-- constraints, and a net with a name of its own
 abbrev pub is_net : FirstForm → Bool
-is_net form = are_blocks form.members form.blocks && is_net_name form.blocks form.net
-
--- what stands before the class
-abbrev pub has_declarations : FirstForm → Bool
-has_declarations form = is_head form && are_characteristics form.characteristics
-
--- what stands after the class
-abbrev pub has_object : FirstForm → Bool
-has_object form = is_net form && is_material form.material
+is_net form =
+    are_blocks form.members form.blocks && is_free_name form.net && not (has_name (λ b. b.constraint) form.blocks form.net)
 
 -- the parts of a model of the first form
 abbrev pub are_parts : FirstForm → Bool
-are_parts form = has_declarations form && (is_class form && has_object form)
+are_parts form =
+    is_head form && are_characteristics form.characteristics && is_class form && is_net form && is_material form.material

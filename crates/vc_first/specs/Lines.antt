@@ -38,8 +38,8 @@ has_line name = line (codes "HAS" ∷ name ∷ [])
 -- the line of what a constraint restricts, and when
 abbrev pub restriction_line : Restriction → List ℕ
 restriction_line r = line (
-  codes "RESTRICTIONS:" ∷ operand r.variable r.target ∷ codes "IN" ∷ listed r.allowed
-  ∷ codes "IF" ∷ operand r.variable r.condition ∷ codes "=" ∷ (quoted r.condition_text ++ codes ".") ∷ [])
+    codes "RESTRICTIONS:" ∷ operand r.variable r.target ∷ codes "IN" ∷ listed r.allowed
+    ∷ codes "IF" ∷ operand r.variable r.condition ∷ codes "=" ∷ (quoted r.condition_text ++ codes ".") ∷ [])
 
 -- the line of the object on which a constraint stands
 abbrev pub object_line : List ℕ → List ℕ → List ℕ
@@ -52,12 +52,12 @@ inference_line r = line (codes "INFERENCES:" ∷ (operand r.variable r.target ++
 -- the five lines of a constraint on an object of the class
 abbrev pub block_lines : List ℕ → Block → List (List ℕ)
 block_lines class b =
-  line (codes "CONSTRAINT" ∷ b.constraint ∷ [])
-  ∷ object_line class b.restriction.variable
-  ∷ restriction_line b.restriction
-  ∷ inference_line b.restriction
-  ∷ line (codes "END" ∷ [])
-  ∷ []
+    line (codes "CONSTRAINT" ∷ b.constraint ∷ [])
+    ∷ object_line class b.restriction.variable
+    ∷ restriction_line b.restriction
+    ∷ inference_line b.restriction
+    ∷ line (codes "END" ∷ [])
+    ∷ []
 
 -- the line of what a net or an object uses
 abbrev pub uses_line : List ℕ → List ℕ
@@ -78,20 +78,20 @@ net_lines form = line (codes "NET" ∷ form.net ∷ []) ∷ map (λ b. uses_line
 -- the lines of the object, which is the root
 abbrev pub object_lines : FirstForm → List (List ℕ)
 object_lines form =
-  line (codes "OBJECT" ∷ form.material ∷ codes "CLASS" ∷ form.class ∷ [])
-  ∷ uses_line form.net
-  ∷ line (codes "ROOT" ∷ form.material ∷ [])
-  ∷ []
+    line (codes "OBJECT" ∷ form.material ∷ codes "CLASS" ∷ form.class ∷ [])
+    ∷ uses_line form.net
+    ∷ line (codes "ROOT" ∷ form.material ∷ [])
+    ∷ []
 
 -- the lines of a model
 abbrev pub lines_of : FirstForm → List (List ℕ)
 lines_of form =
-  model_lines form
-  ++ flat_map characteristic_lines form.characteristics
-  ++ class_lines form
-  ++ flat_map (block_lines form.class) form.blocks
-  ++ net_lines form
-  ++ object_lines form
+    model_lines form
+    ++ flat_map characteristic_lines form.characteristics
+    ++ class_lines form
+    ++ flat_map (block_lines form.class) form.blocks
+    ++ net_lines form
+    ++ object_lines form
 
 -- lines, each ended by a line feed
 abbrev pub text_of_lines : List (List ℕ) → List ℕ

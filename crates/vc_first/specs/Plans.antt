@@ -1,5 +1,5 @@
 -- The plan of a model of the first form.
-use Rattle.std.specs.Prelude.{ℕ, ◌≡◌, Bool, List, [], map, Option, None, Some}
+use Rattle.std.specs.Prelude.{ℕ, List, [], map, Option, None, Some}
 use Rattle.std.specs.List.{find, position, position_or_len}
 use Rattle.vc_value.specs.Words.{same_bytes}
 use Rattle.vc_plan.specs.declared.first.plans.Plan.{Plan}
@@ -38,7 +38,8 @@ rule_of form block = record {
   variable = place_of form.members block.restriction.target;
   allowed = map (has_name (λ text. text) block.restriction.allowed) (texts_of form.characteristics block.restriction.target);
   if_variable = place_of form.members block.restriction.condition;
-  if_value = position (λ text. same_bytes text block.restriction.condition_text) (texts_of form.characteristics block.restriction.condition) }
+  if_value = position (λ text. same_bytes text block.restriction.condition_text) (texts_of form.characteristics block.restriction.condition);
+}
 
 -- the object's material, its variables, and a rule for each constraint, in order
 abbrev pub plan_of : FirstForm → Plan

@@ -13,13 +13,9 @@ begins_name byte = is_ascii_uppercase byte || (byte == 95)
 abbrev pub is_name_byte : ℕ → Bool
 is_name_byte byte = begins_name byte || is_ascii_digit byte
 
--- a hyphen, a point or a slash
-abbrev pub is_material_mark : ℕ → Bool
-is_material_mark byte = (byte == 45) || (byte == 46) || (byte == 47)
-
 -- a byte of a name, a hyphen, a point or a slash
 abbrev pub is_material_byte : ℕ → Bool
-is_material_byte byte = is_name_byte byte || is_material_mark byte
+is_material_byte byte = is_name_byte byte || (byte == 45) || (byte == 46) || (byte == 47)
 
 -- a letter of either case or a digit
 abbrev pub is_text_byte : ℕ → Bool
@@ -33,14 +29,10 @@ is_digit byte = is_ascii_digit byte
 abbrev pub is_some_up_to : ℕ → ℕ → Bool
 is_some_up_to limit count = nat_lt 0 count && nat_le count limit
 
--- at most 29 bytes of a name
-abbrev pub ends_name : List ℕ → Bool
-ends_name bytes = nat_lt (length bytes) 30 && list_all is_name_byte bytes
-
 -- a letter or an underscore, then letters, digits and underscores, 1 to 30 in all
 abbrev pub is_name : List ℕ → Bool
 is_name [] = false
-is_name (first ∷ more) = begins_name first && ends_name more
+is_name (first ∷ more) = begins_name first && nat_lt (length more) 30 && list_all is_name_byte more
 
 -- a word of the dependency language
 abbrev pub is_reserved : List ℕ → Bool

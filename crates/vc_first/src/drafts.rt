@@ -1,11 +1,10 @@
 //! Reads the lines of a text from the last to the first, whatever stands in them, into the parts of a model.
 
 ghost use Rattle.std.specs.Prelude.{◌≡◌, ◌==◌, [], map, IfOk, OnOk, codes};
-ghost use Rattle.std.specs.List.{list_all, position, slice_split};
 ghost use Rattle.std.specs.Str.{bytes_eq};
 ghost use Rattle.vc_first.specs.Drafts as read;
-ghost use Rattle.vc_first.specs.Lines.{is_short};
 
+use crate::cutting::{after, before, between_quotes, split};
 use crate::form::{Block, Characteristic, FirstForm, Restriction};
 use crate::stack::Stack;
 use std::alloc::{AllocError, Global};
@@ -42,58 +41,6 @@ struct Draft {
     restriction: Restriction,
     net: Word,
     material: Word,
-}
-
-/// The parts between the separators.
-pub fn split(alloc: Global, bytes: &[u8], separator: u8) -> Result<Vec<&[u8]>, AllocError>
-    ensures { IfOk result (λ parts. map (λ part. part.now) parts.items ≡ slice_split (λ b. b == separator) bytes.now) }
-{
-    bytes.split(|b| *b == separator).collect(alloc)
-}
-
-/// Whether no line passes 1,000 bytes.
-pub fn are_short(lines: &[&[u8]]) -> bool
-    ensures { result ≡ list_all (λ line. is_short line.now) lines.now }
-{
-    lines.iter().all(|line| line.len() <= 1000)
-}
-
-/// What stands after the first such byte, or nothing.
-fn after(separator: u8, bytes: &[u8]) -> &[u8]
-    ensures { result.now ≡ read.after separator bytes.now }
-{
-    let mut rest = bytes;
-    while let [first, more @ ..] = rest {
-        rest = more;
-        if *first == separator {
-            return rest;
-        }
-    }
-    rest
-}
-
-/// Where the first such byte stands.
-fn position_of(separator: u8, bytes: &[u8]) -> Option<usize>
-    ensures { result ≡ position (λ b. b == separator) bytes.now }
-{
-    bytes.iter().position(|b| *b == separator)
-}
-
-/// What stands before the first such byte, or all.
-fn before(separator: u8, bytes: &[u8]) -> &[u8]
-    ensures { result.now ≡ read.before separator bytes.now }
-{
-    match position_of(separator, bytes) {
-        Some(at) => &bytes[..at],
-        None => bytes,
-    }
-}
-
-/// What stands between the first two quotes.
-fn between_quotes(bytes: &[u8]) -> &[u8]
-    ensures { result.now ≡ read.between_quotes bytes.now }
-{
-    before(b'\'', after(b'\'', bytes))
 }
 
 fn texts_in(alloc: Global, bytes: &[u8]) -> Result<Listed<Word>, AllocError>
@@ -224,7 +171,9 @@ impl Draft {
         match keyword {
             Keyword::Model => self.note_head(alloc, rest)?,
             Keyword::Char => self.note_characteristic(alloc, rest)?,
-            Keyword::Value => self.values.push_front(Word::from_bytes(alloc, between_quotes(rest))?)?,
+            Keyword::Value => self
+                .values
+                .push_front(Word::from_bytes(alloc, between_quotes(rest))?)?,
             Keyword::Class => self.class = Word::from_bytes(alloc, rest)?,
             Keyword::Has => self.members.push_front(Word::from_bytes(alloc, rest)?)?,
             Keyword::Constraint => self.note_constraint(alloc, rest)?,
@@ -246,7 +195,18 @@ impl Draft {
     fn into_form(self) -> FirstForm
         ensures { result ≡ read.form_of self }
     {
-        let Draft { name, version, characteristics, values: _, class, members, blocks, restriction: _, net, material } = self;
+        let Draft {
+            name,
+            version,
+            characteristics,
+            values: _,
+            class,
+            members,
+            blocks,
+            restriction: _,
+            net,
+            material,
+        } = self;
         FirstForm {
             name,
             version,

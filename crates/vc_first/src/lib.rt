@@ -2,6 +2,7 @@
 #![tactic(auto)]
 
 mod checks;
+mod cutting;
 mod drafts;
 pub mod form;
 mod named;
@@ -14,18 +15,25 @@ ghost use Rattle.std.specs.Prelude.{◌≡◌, IfOk, IfSome, IfNone};
 ghost use Rattle.vc_first.specs.declared.form.FirstForm.{FirstForm};
 ghost use Rattle.vc_first.specs.Lines.{Spells};
 
+pub use form::{Block, Characteristic, FirstForm, Restriction};
+pub use plans::plan_of_form;
 use std::alloc::{AllocError, Global};
 
-pub use plans::plan_of_form;
-pub use form::{Block, Characteristic, FirstForm, Restriction};
+/// The most lines of a model: a head, 64 characteristics of 65, a class of 65, 100 constraints of 5, a net of 101 and an
+/// object of 3.
+const MOST_LINES: usize = 4_830;
 
 /// The model that the text spells, or `None` where it spells none of the first form.
 pub fn read_first_form(alloc: Global, text: &[u8]) -> Result<Option<FirstForm>, AllocError>
     ensures found { IfOk result (λ found. IfSome found (Spells text.now)) }
     ensures none { IfOk result (λ found. IfNone found ((form : FirstForm) → ¬ Spells text.now form)) }
 {
-    let lines = drafts::split(alloc, text, b'\n')?;
-    if !drafts::are_short(&lines) {
+    // A text with more lines is refused before any of it is kept.
+    if cutting::count_of(b'\n', text) > MOST_LINES {
+        return Ok(None);
+    }
+    let lines = cutting::split(alloc, text, b'\n')?;
+    if !cutting::are_short(&lines) {
         return Ok(None);
     }
     let form = drafts::drafted(alloc, lines)?;
@@ -39,3 +47,6 @@ pub fn read_first_form(alloc: Global, text: &[u8]) -> Result<Option<FirstForm>, 
         Ok(None)
     }
 }
+
+#[cfg(test)]
+mod tests;

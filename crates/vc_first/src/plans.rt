@@ -64,7 +64,11 @@ fn flags_of(alloc: Global, allowed: &[Word], texts: &[Word]) -> Result<Listed<bo
     Ok(flags)
 }
 
-fn variable_of(alloc: Global, characteristics: &[Characteristic], name: &[u8]) -> Result<Variable, AllocError>
+fn variable_of(
+    alloc: Global,
+    characteristics: &[Characteristic],
+    name: &[u8],
+) -> Result<Variable, AllocError>
     ensures { IfOk result (λ variable. variable ≡ planned.variable_of characteristics.now name.now) }
 {
     Ok(Variable {
@@ -94,7 +98,11 @@ fn rule_of(alloc: Global, form: &FirstForm, block: &Block) -> Result<Rule, Alloc
     Ok(Rule {
         constraint: Word::from_bytes(alloc, block.constraint.bytes())?,
         variable: place_of(members, target),
-        allowed: flags_of(alloc, block.restriction.allowed.as_slice(), texts_of(characteristics, target))?,
+        allowed: flags_of(
+            alloc,
+            block.restriction.allowed.as_slice(),
+            texts_of(characteristics, target),
+        )?,
         if_variable: place_of(members, condition),
         if_value: position_of(texts_of(characteristics, condition), text),
     })

@@ -121,12 +121,19 @@ fn put_value(alloc: Global, out: &mut Word, text: &[u8]) -> Result<(), AllocErro
     Ok(())
 }
 
-fn put_characteristic(alloc: Global, out: &mut Word, characteristic: &Characteristic) -> Result<(), AllocError>
+fn put_characteristic(
+    alloc: Global,
+    out: &mut Word,
+    characteristic: &Characteristic,
+) -> Result<(), AllocError>
     ensures { OnOk result (out.new ≡ out.old ++ text_of_lines (grammar.characteristic_lines characteristic.now)) }
 {
     let name = characteristic.name.bytes();
     let length = characteristic.length.bytes();
-    put_line(out, &["CHAR".as_bytes(), name, length, "RESTRICTABLE".as_bytes()])?;
+    put_line(
+        out,
+        &["CHAR".as_bytes(), name, length, "RESTRICTABLE".as_bytes()],
+    )?;
     for value in characteristic.values.as_slice() {
         put_value(alloc, out, value.bytes())?;
     }
@@ -143,7 +150,11 @@ fn put_class(out: &mut Word, form: &FirstForm) -> Result<(), AllocError>
     Ok(())
 }
 
-fn put_restriction(alloc: Global, out: &mut Word, restriction: &Restriction) -> Result<(), AllocError>
+fn put_restriction(
+    alloc: Global,
+    out: &mut Word,
+    restriction: &Restriction,
+) -> Result<(), AllocError>
     ensures { OnOk result (out.new ≡ out.old ++ (grammar.restriction_line restriction.now ++ 10 ∷ [])) }
 {
     let variable = restriction.variable.bytes();
@@ -167,19 +178,36 @@ fn put_restriction(alloc: Global, out: &mut Word, restriction: &Restriction) -> 
     Ok(())
 }
 
-fn put_object(alloc: Global, out: &mut Word, class: &[u8], variable: &[u8]) -> Result<(), AllocError>
+fn put_object(
+    alloc: Global,
+    out: &mut Word,
+    class: &[u8],
+    variable: &[u8],
+) -> Result<(), AllocError>
     ensures { OnOk result (out.new ≡ out.old ++ (grammar.object_line class.now variable.now ++ 10 ∷ [])) }
 {
     let object = object_variable(alloc, variable)?;
     let class = with_point(typed_class(alloc, class)?)?;
-    put_line(out, &["OBJECTS:".as_bytes(), object.bytes(), "IS_A".as_bytes(), class.bytes()])?;
+    put_line(
+        out,
+        &[
+            "OBJECTS:".as_bytes(),
+            object.bytes(),
+            "IS_A".as_bytes(),
+            class.bytes(),
+        ],
+    )?;
     Ok(())
 }
 
 fn put_inference(alloc: Global, out: &mut Word, restriction: &Restriction) -> Result<(), AllocError>
     ensures { OnOk result (out.new ≡ out.old ++ (grammar.inference_line restriction.now ++ 10 ∷ [])) }
 {
-    let target = with_point(operand(alloc, restriction.variable.bytes(), restriction.target.bytes())?)?;
+    let target = with_point(operand(
+        alloc,
+        restriction.variable.bytes(),
+        restriction.target.bytes(),
+    )?)?;
     put_line(out, &["INFERENCES:".as_bytes(), target.bytes()])?;
     Ok(())
 }
@@ -208,7 +236,15 @@ fn put_net(out: &mut Word, form: &FirstForm) -> Result<(), AllocError>
 fn put_model_object(out: &mut Word, form: &FirstForm) -> Result<(), AllocError>
     ensures { OnOk result (out.new ≡ out.old ++ text_of_lines (grammar.object_lines form.now)) }
 {
-    put_line(out, &["OBJECT".as_bytes(), form.material.bytes(), "CLASS".as_bytes(), form.class.bytes()])?;
+    put_line(
+        out,
+        &[
+            "OBJECT".as_bytes(),
+            form.material.bytes(),
+            "CLASS".as_bytes(),
+            form.class.bytes(),
+        ],
+    )?;
     put_line(out, &["USES".as_bytes(), form.net.bytes()])?;
     put_line(out, &["ROOT".as_bytes(), form.material.bytes()])?;
     Ok(())
@@ -217,11 +253,23 @@ fn put_model_object(out: &mut Word, form: &FirstForm) -> Result<(), AllocError>
 fn put_model(out: &mut Word, form: &FirstForm) -> Result<(), AllocError>
     ensures { OnOk result (out.new ≡ out.old ++ text_of_lines (grammar.model_lines form.now)) }
 {
-    put_line(out, &["MODEL".as_bytes(), form.name.bytes(), "VERSION".as_bytes(), form.version.bytes()])?;
+    put_line(
+        out,
+        &[
+            "MODEL".as_bytes(),
+            form.name.bytes(),
+            "VERSION".as_bytes(),
+            form.version.bytes(),
+        ],
+    )?;
     Ok(())
 }
 
-fn put_characteristics(alloc: Global, out: &mut Word, characteristics: &[Characteristic]) -> Result<(), AllocError>
+fn put_characteristics(
+    alloc: Global,
+    out: &mut Word,
+    characteristics: &[Characteristic],
+) -> Result<(), AllocError>
     ensures { OnOk result (out.new ≡ out.old ++ text_of_lines (flat_map grammar.characteristic_lines characteristics.now)) }
 {
     for characteristic in characteristics {
@@ -230,7 +278,12 @@ fn put_characteristics(alloc: Global, out: &mut Word, characteristics: &[Charact
     Ok(())
 }
 
-fn put_blocks(alloc: Global, out: &mut Word, class: &[u8], blocks: &[Block]) -> Result<(), AllocError>
+fn put_blocks(
+    alloc: Global,
+    out: &mut Word,
+    class: &[u8],
+    blocks: &[Block],
+) -> Result<(), AllocError>
     ensures { OnOk result (out.new ≡ out.old ++ text_of_lines (flat_map (grammar.block_lines class.now) blocks.now)) }
 {
     for block in blocks {

@@ -7,9 +7,38 @@ ghost use Rattle.vc_first.specs.Spelling as spelled;
 
 /// The reserved words of the dependency language, which are no names.
 pub const RESERVED: [&str; 32] = [
-    "AND", "OR", "NOT", "IN", "IF", "SPECIFIED", "TABLE", "FALSE", "IS_A", "IS_OBJECT", "MATERIAL", "WHERE", "PART_OF",
-    "EQ", "NE", "LT", "LE", "GT", "GE", "OBJECTS", "CONDITION", "RESTRICTION", "RESTRICTIONS", "INFERENCES", "NR", "END",
-    "ABS", "SIGN", "TRUNC", "FLOOR", "CEIL", "FRAC",
+    "AND",
+    "OR",
+    "NOT",
+    "IN",
+    "IF",
+    "SPECIFIED",
+    "TABLE",
+    "FALSE",
+    "IS_A",
+    "IS_OBJECT",
+    "MATERIAL",
+    "WHERE",
+    "PART_OF",
+    "EQ",
+    "NE",
+    "LT",
+    "LE",
+    "GT",
+    "GE",
+    "OBJECTS",
+    "CONDITION",
+    "RESTRICTION",
+    "RESTRICTIONS",
+    "INFERENCES",
+    "NR",
+    "END",
+    "ABS",
+    "SIGN",
+    "TRUNC",
+    "FLOOR",
+    "CEIL",
+    "FRAC",
 ];
 
 /// One more than the largest count that is asked for.
@@ -27,16 +56,10 @@ fn is_name_byte(byte: u8) -> bool
     begins_name(byte) || byte.is_ascii_digit()
 }
 
-fn is_material_mark(byte: u8) -> bool
-    ensures { result ≡ spelled.is_material_mark byte }
-{
-    byte == b'-' || byte == b'.' || byte == b'/'
-}
-
 fn is_material_byte(byte: u8) -> bool
     ensures { result ≡ spelled.is_material_byte byte }
 {
-    is_name_byte(byte) || is_material_mark(byte)
+    is_name_byte(byte) || byte == b'-' || byte == b'.' || byte == b'/'
 }
 
 fn are_name_bytes(bytes: &[u8]) -> bool
@@ -70,18 +93,12 @@ pub fn is_some_up_to(limit: usize, count: usize) -> bool
     count > 0 && count <= limit
 }
 
-fn ends_name(bytes: &[u8]) -> bool
-    ensures { result ≡ spelled.ends_name bytes.now }
-{
-    bytes.len() < 30 && are_name_bytes(bytes)
-}
-
 /// Whether the bytes are a name in upper case.
 fn is_name(bytes: &[u8]) -> bool
     ensures { result ≡ spelled.is_name bytes.now }
 {
     match bytes {
-        [first, more @ ..] => begins_name(*first) && ends_name(more),
+        [first, more @ ..] => begins_name(*first) && more.len() < 30 && are_name_bytes(more),
         [] => false,
     }
 }
@@ -133,7 +150,9 @@ fn with_digit(number: u64, digit: u8) -> u64
 fn bounded_number(digits: &[u8]) -> u64
     ensures { result ≡ fold (λ number digit. min CEILING (number * 10 + (digit - 48))) 0 digits.now }
 {
-    digits.iter().fold(0, |number, digit| with_digit(number, *digit))
+    digits
+        .iter()
+        .fold(0, |number, digit| with_digit(number, *digit))
 }
 
 fn is_within(limit: u64, number: u64) -> bool

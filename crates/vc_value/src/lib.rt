@@ -14,3 +14,6 @@ pub use listed::Listed;
 pub use names::{is_name, is_session_name};
 pub use value::Value;
 pub use word::{Word, equals_ignoring_case};
+
+#[cfg(test)]
+mod tests;

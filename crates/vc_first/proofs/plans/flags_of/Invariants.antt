@@ -1,6 +1,5 @@
 use Rattle.std.proofs.Common.{◌≡◌, map, take}
 use Rattle.vc_first.specs.Names.{has_name}
-use Rattle.vc_first.specs.Plans.{variable_of, rule_of}
 use Rattle.vc_first.proofs.plans.flags_of.Given as goal
 
 abbrev pub invariant-loop-text : goal.invariant-loop-text

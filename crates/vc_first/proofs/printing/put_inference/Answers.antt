@@ -6,6 +6,6 @@ use Rattle.vc_first.proofs.printing.put_inference.Goals as goal
 
 pub returns : goal.returns
 returns c =
-  let target = c.bytes-3.ensures ∙ point-same c.in_ok-target.ensures (c.in_ok-operand.ensures ∙ operand-same c.bytes.ensures c.bytes-2.ensures) in
-  c.in_ok-put_line.ensures
-  ∙ ap (λ words. c.args.out.now ++ (line words ++ 10 ∷ [])) (cons-same c.as_bytes.ensures.value (cons-same target refl))
+    let target = c.bytes-3.ensures ∙ point-same c.in_ok-target.ensures (c.in_ok-operand.ensures ∙ operand-same c.bytes.ensures c.bytes-2.ensures) in
+    c.in_ok-put_line.ensures
+    ∙ ap (λ words. c.args.out.now ++ (line words ++ 10 ∷ [])) (cons-same c.as_bytes.ensures.value (cons-same target refl))

@@ -1,6 +1,5 @@
-use Rattle.std.proofs.Common.{sym, ◌∙◌, rules}
 use Rattle.vc_first.proofs.Cuts.{before-some, before-none}
-use Rattle.vc_first.proofs.drafts.before.Goals as goal
+use Rattle.vc_first.proofs.cutting.before.Goals as goal
 
 pub returns-in-Some : goal.returns-in-Some
 returns-in-Some c = before-some _ _ _ c.in-Some.ensures

@@ -2,12 +2,12 @@
 use Rattle.std.proofs.Common.{rules, ◌==◌}
 use Rattle.std.proofs.lemmas.Iterator.Consumers.{map_from_collect}
 use Rattle.std.proofs.lemmas.Iterator.Splits.{YieldsList-from_slice_split}
-use Rattle.vc_first.proofs.drafts.split.Goals as goal
+use Rattle.vc_first.proofs.cutting.split.Goals as goal
 
 pub returns : goal.returns
 returns c =
-  map_from_collect _ c.collect.ensures.ran
-  (YieldsList-from_slice_split
+    map_from_collect _ c.collect.ensures.ran
+    (YieldsList-from_slice_split
     _
     (λ b. b == c.args.separator)
     c.args.bytes.now
