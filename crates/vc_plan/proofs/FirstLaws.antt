@@ -11,4 +11,5 @@ pub mod Members
 pub mod Rows
 pub mod Starts
 pub mod Steps
+pub mod Validity
 pub mod Watching

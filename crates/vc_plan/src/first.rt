@@ -4,6 +4,8 @@ mod entries;
 mod plans;
 mod settling;
 mod standing;
+#[cfg(test)]
+mod tests;
 mod watching;
 
 pub use plans::{Plan, Rule, Variable};

@@ -48,7 +48,7 @@ blamed = record {
   grows = ((tt, refl, refl), refl, refl);
   atom = out 1 0;
   given = refl;
-  unclear = refl
+  unclear = refl;
 }
 
 -- a small lamp leaves the bulb free, and so does no size: a condition that isn't known isn't true
@@ -73,9 +73,9 @@ chain = plan (two ∷ two ∷ two ∷ []) (rule 2 (false ∷ true ∷ []) 1 (Som
 
 chained : evaluation_of chain (Some 1 ∷ None ∷ None ∷ [])
     ≡ Some (record {
-        values = Some 1 ∷ Some 1 ∷ Some 1 ∷ [];
-        out = (false ∷ false ∷ []) ∷ (true ∷ false ∷ []) ∷ (true ∷ false ∷ []) ∷ []
-      })
+      values = Some 1 ∷ Some 1 ∷ Some 1 ∷ [];
+      out = (false ∷ false ∷ []) ∷ (true ∷ false ∷ []) ∷ (true ∷ false ∷ []) ∷ [];
+    })
 chained = refl
 
 -- the only text of a variable is its value, and its rules act

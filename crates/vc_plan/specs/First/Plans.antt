@@ -1,8 +1,9 @@
 -- Plans of one object, which of them are valid, and the values that a user may give.
-use Rattle.std.specs.Prelude.{◌≡◌, ℕ, ◌+◌, ◌<◌, List, length, map, slice_index, slice_index_or, All, Option, None, IfSome}
+use Rattle.std.specs.Prelude.{Bool, true, ◌&&◌, ◌==◌, nat_lt, ◌≡◌, ℕ, ◌+◌, ◌<◌, List, length, map, slice_index, slice_index_or, All, Option, None, Some, IfSome}
 use Rattle.std.specs.List.{range_with_len, sum_by}
 use Rattle.vc_plan.specs.declared.first.plans.Plan.{Plan}
 use Rattle.vc_plan.specs.declared.first.plans.Rule.{Rule}
+use Rattle.vc_plan.specs.declared.first.plans.Variable.{Variable}
 
 -- the numbers from 0 up, so many
 abbrev pub numbers_below : ℕ → List ℕ
@@ -36,3 +37,20 @@ pub record IsValid (plan : Plan) : Type 0 where
 pub record AreUsers (plan : Plan) (users : List (Option ℕ)) : Type 0 where
   pub each : length users ≡ length plan.variables
   pub texts : (variable : ℕ) → IfSome (slice_index_or users variable None) (λ text. text < count_of plan variable)
+
+-- the tests of these facts: a variable's text, the variable that a rule restricts, its condition's, a rule
+abbrev pub has_text : Variable → Bool
+has_text variable = nat_lt 0 (length variable.texts)
+
+abbrev pub is_text_of : Plan → ℕ → Option ℕ → Bool
+is_text_of plan variable None = true
+is_text_of plan variable (Some text) = nat_lt text (count_of plan variable)
+
+abbrev pub has_restricted : Plan → Rule → Bool
+has_restricted plan rule = nat_lt rule.variable (length plan.variables) && (length rule.allowed == count_of plan rule.variable)
+
+abbrev pub has_condition : Plan → Rule → Bool
+has_condition plan rule = nat_lt rule.if_variable (length plan.variables) && is_text_of plan rule.if_variable rule.if_value
+
+abbrev pub is_valid_rule : Plan → Rule → Bool
+is_valid_rule plan rule = has_restricted plan rule && has_condition plan rule
