@@ -1,0 +1,4 @@
+//! Variant tables, read from comma-separated text.
+#![tactic(auto)]
+
+mod csv_records;
