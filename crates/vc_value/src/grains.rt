@@ -3,7 +3,7 @@
 ghost use Rattle.std.specs.Prelude.{◌≡◌, ◌+◌, ◌-◌, ◌^◌, ◌<◌, ◌≤◌, pos, ◌≤ℤ◌, ◌<ℤ◌, FitsSigned, option_to_list, [], ◌∷◌, ◌++◌, length, position, slice_get, flat_map, IsTrue, IfOk, OnOk, OnErr};
 ghost use Rattle.std.specs.List.{list_all};
 ghost use Rattle.std.specs.Int.{int_rem_euclid, w64};
-ghost use Rattle.vc_value.specs.Grains.{interval, holds, is_below, is_ordered, is_ascending, unit_of, ends_have_decimals, next_below, next_above, part_between, part_below, part_at, part_above, parts_of, cut_at};
+ghost use Rattle.vc_value.specs.Grains.{interval, holds, is_below, is_ordered, is_ascending, unit_of, ends_have_decimals, has_decimals, next_below, next_above, part_between, part_below, part_at, part_above, parts_of, cut_at};
 
 use crate::decimal::Dec;
 use std::alloc::{AllocError, Global};
@@ -14,6 +14,15 @@ use std::marker::Model;
 pub struct Grain {
     pub low: Dec,
     pub high: Dec,
+}
+
+impl Dec {
+    /// Whether the number has no more decimals than these.
+    pub fn has_decimals(self, decimals: u8) -> bool
+        ensures { result ≡ has_decimals decimals self }
+    {
+        rest_of(unit_of(decimals), self) == 0
+    }
 }
 
 impl Grain {
@@ -126,13 +135,12 @@ impl GrainList {
     }
 }
 
-// One at the last of the decimals, in millionths.
+// One at the last of the decimals, in millionths; with more than six decimals one millionth.
 fn unit_of(decimals: u8) -> u32
-    requires { decimals ≤ 6 }
     ensures unit { result ≡ unit_of decimals }
     ensures some { 0 < result }
 {
-    10u32.pow(u32::from(6 - decimals))
+    10u32.pow(u32::from(6u8.saturating_sub(decimals)))
 }
 
 // The parts of all grains, in order.
