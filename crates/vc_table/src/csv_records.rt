@@ -8,7 +8,11 @@ use csv::{ByteRecord, ReaderBuilder};
 use std::alloc::{AllocError, Global};
 
 // All records, or none where there are more than `most`.
-pub(crate) fn all_records(alloc: Global, text: &[u8], most: usize) -> Result<Option<Vec<ByteRecord>>, AllocError>
+pub(crate) fn all_records(
+    alloc: Global,
+    text: &[u8],
+    most: usize,
+) -> Result<Option<Vec<ByteRecord>>, AllocError>
     ensures records { IfOk result (λ o. IfSome o (λ rows. map fields_of rows.items ≡ records_of text.now)) }
     ensures few { IfOk result (λ o. IfSome o (λ rows. length rows.items ≤ most)) }
     ensures many { IfOk result (λ o. IfNone o (most < length (records_of text.now))) }

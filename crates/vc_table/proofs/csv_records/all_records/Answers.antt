@@ -1,4 +1,4 @@
-use Rattle.std.proofs.Common.{Bor, List, ℕ, ◌≡◌, ◌≤◌, ◌<◌, ◌+◌, ◌∙◌, sym, ap, refl, rules, inl, inr, true, map, Some, ◌∷◌, ◌++◌, [], arith, length, length-append}
+use Rattle.std.proofs.Common.{Bor, List, ℕ, ◌≡◌, ◌∙◌, sym, ap, refl, rules, inl, inr, true, map, Some, ◌∷◌, ◌++◌, [], arith, length, length-append}
 use Rattle.std.specs.Result.{is_ok}
 use Rattle.std.proofs.lemmas.List.{map-append, length-map}
 use Rattle.csv.specs.Reading.{Reached, default_config, strip_bom}
@@ -23,7 +23,7 @@ loop-row-init c =
       turns = left;
       config = rw (f, e) at fr.config ∙ c.new.ensures.config;
       few = omega arith;
-      reached = (strip_bom c.args.text.now, fr.source, (sym fr.state, refl))
+      reached = (strip_bom c.args.text.now, fr.source, (sym fr.state, refl));
     }
 
 pub loop-row-preserved : goal.loop-row-preserved
@@ -39,7 +39,7 @@ loop-row-preserved c =
       turns = s.2;
       config = s.0.2 ∙ inv.config;
       few = omega (arith, ap length items, length-append c.loop-row.rows.items (c.in-Ok.record ∷ []), c.if-len-most.false, c.len.ensures);
-      reached = (m.0, m.1, rw (items, map-append fields_of c.loop-row.rows.items (c.in-Ok.record ∷ [])) m.2)
+      reached = (m.0, m.1, rw (items, map-append fields_of c.loop-row.rows.items (c.in-Ok.record ∷ [])) m.2);
     }
 
 pub returns-then-len-most-clause-many : goal.returns-then-len-most-clause-many
@@ -56,4 +56,4 @@ returns-clause-records c =
     let inv = c.loop-row.invariant in
     let s = rw c.in-None.is at ((c.next.ensures.steps inv.turns inv.plain).0 inv.ready) in
     all_read default_config (strip_bom c.args.text.now) (map fields_of c.loop-row.rows.items) c.loop-row.row-iterator.rdr.state inv.reached.0 inv.reached.2
-        (rows-end (λ (s : Bor (List ℕ)). Some s.now) c.loop-row.row-iterator.rdr c.next.new.self.rdr [] default_config inv.reached.0 inv.config inv.reached.1 s)
+    (rows-end (λ (s : Bor (List ℕ)). Some s.now) c.loop-row.row-iterator.rdr c.next.new.self.rdr [] default_config inv.reached.0 inv.config inv.reached.1 s)
