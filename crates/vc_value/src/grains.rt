@@ -3,7 +3,7 @@
 ghost use Rattle.std.specs.Prelude.{◌≡◌, ◌+◌, ◌-◌, ◌^◌, ◌<◌, ◌≤◌, pos, ◌≤ℤ◌, ◌<ℤ◌, FitsSigned, option_to_list, [], ◌∷◌, ◌++◌, length, position, slice_get, flat_map, IsTrue, IfOk, OnOk, OnErr};
 ghost use Rattle.std.specs.List.{list_all};
 ghost use Rattle.std.specs.Int.{int_rem_euclid, w64};
-ghost use Rattle.vc_value.specs.Grains.{interval, holds, is_below, is_ordered, is_ascending, unit_of, ends_have_decimals, has_decimals, next_below, next_above, part_between, part_below, part_at, part_above, parts_of, cut_at};
+ghost use Rattle.vc_value.specs.Grains.{interval, holds, is_below, is_ordered, is_ascending, unit_of, has_decimals, next_below, next_above, part_between, part_below, part_at, part_above, parts_of, cut_at};
 
 use crate::decimal::Dec;
 use std::alloc::{AllocError, Global};
@@ -110,9 +110,7 @@ impl GrainList {
     /// Cuts at a number, so that no grain has numbers on both sides of it or beside it. After an
     /// error the list is as before.
     pub fn cut(&mut self, alloc: Global, decimals: u8, at: Dec) -> Result<(), AllocError>
-        requires decimals { decimals ≤ 6 }
-        requires ends { IsTrue (list_all (ends_have_decimals decimals) self.old) }
-        requires room { length self.old ≤ 2 ^ 32 - 3 }
+        requires { length self.old ≤ 2 ^ 32 - 3 }
         ensures ok { OnOk result (self.new ≡ cut_at decimals at self.old) }
         ensures err { OnErr result (self.new ≡ self.old) }
     {

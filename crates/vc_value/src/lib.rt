@@ -16,3 +16,6 @@ pub use names::{is_name, is_session_name};
 pub use table_header::{Column, Domain, Entry, TableHeader};
 pub use value::Value;
 pub use word::{Word, equals_ignoring_case};
+
+#[cfg(test)]
+mod tests;

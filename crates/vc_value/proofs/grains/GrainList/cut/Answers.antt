@@ -10,5 +10,5 @@ invariant_of-self c =
     let at = c.args.at.millionths in
     let is = c.in_ok-parts.ensures ∙ ap (flat_map (parts_of unit at)) c.deref.ensures.value in (
       ap is_ascending is ∙ cut_ascending unit at c.self.inside.grains.items c.unit_of.ensures.some c.self.invariant.0,
-      omega (arith, ap length is, cut_length unit at c.self.inside.grains.items c.unit_of.ensures.some c.self.invariant.0, c.requires.room, ap length c.self.view_is),
+      omega (arith, ap length is, cut_length unit at c.self.inside.grains.items c.unit_of.ensures.some c.self.invariant.0, c.requires, ap length c.self.view_is),
     )
