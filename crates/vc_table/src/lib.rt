@@ -7,3 +7,6 @@ mod keys;
 pub mod table;
 
 pub use table::{Row, TableFault, VariantTable, read_table};
+
+#[cfg(test)]
+mod tests;
