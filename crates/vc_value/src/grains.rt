@@ -3,7 +3,7 @@
 ghost use Rattle.std.specs.Prelude.{◌≡◌, ◌+◌, ◌-◌, ◌^◌, ◌<◌, ◌≤◌, pos, ◌≤ℤ◌, ◌<ℤ◌, FitsSigned, option_to_list, [], ◌∷◌, ◌++◌, length, position, slice_get, flat_map, IsTrue, IfOk, OnOk, OnErr};
 ghost use Rattle.std.specs.List.{list_all};
 ghost use Rattle.std.specs.Int.{int_rem_euclid, w64};
-ghost use Rattle.vc_value.specs.Grains.{interval, holds, is_below, is_ordered, is_ascending, unit_of, has_decimals, next_below, next_above, part_between, part_below, part_at, part_above, parts_of, cut_at};
+ghost use Rattle.vc_value.specs.Grains.{interval, holds, is_below, is_ordered, is_ascending, unit_of, has_decimals, next_below, next_above, part_between, part_below, part_at, part_above, parts_of, cut_at, is_apart, hold};
 
 use crate::decimal::Dec;
 use std::alloc::{AllocError, Global};
@@ -113,6 +113,10 @@ impl GrainList {
         requires { length self.old ≤ 2 ^ 32 - 3 }
         ensures ok { OnOk result (self.new ≡ cut_at decimals at self.old) }
         ensures err { OnErr result (self.new ≡ self.old) }
+
+        // No number of these decimals is lost, and none is added.
+        ensures apart { OnOk result (IsTrue (list_all (is_apart at) self.new)) }
+        ensures kept { OnOk result ((n : Dec) → IsTrue (has_decimals decimals n) → hold n self.new ≡ hold n self.old) }
     {
         let parts = parts_of_all(alloc, &self.grains, unit_of(decimals), at)?;
         self.grains = parts;
