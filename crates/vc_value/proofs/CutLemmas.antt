@@ -24,14 +24,14 @@ rest_of : (z : ℤ) (unit : ℕ) → 0 < unit → (rest : ℕ) × (int_rem_eucli
 rest_of (pos a) unit some = (a % unit, refl, omega arith)
 rest_of (negsuc a) unit some = (unit - 1 - a % unit, refl, omega arith)
 
-below_cut : (unit : ℕ) (at : ℤ) → 0 < unit → lt_z (next_below unit at) at ≡ true
+pub below_cut : (unit : ℕ) (at : ℤ) → 0 < unit → lt_z (next_below unit at) at ≡ true
 below_cut unit at some = let rest = rest_of at unit some in rw rest.1 (grind (arith, ints))
 
-above_cut : (unit : ℕ) (at : ℤ) → 0 < unit → lt_z at (next_above unit at) ≡ true
+pub above_cut : (unit : ℕ) (at : ℤ) → 0 < unit → lt_z at (next_above unit at) ≡ true
 above_cut unit at some = let rest = rest_of at unit some in rw rest.1 (grind (arith, ints))
 
 -- what holds of the interval, if there is one, holds of the part
-part_all : (p : Grain → Bool) (low high : ℤ) (grain : Grain)
+pub part_all : (p : Grain → Bool) (low high : ℤ) (grain : Grain)
     → (le_z (int_max grain.low.millionths low) (int_min grain.high.millionths high) ≡ true → p (interval (int_max grain.low.millionths low) (int_min grain.high.millionths high)) ≡ true)
     → list_all p (part_between low high grain) ≡ true
 part_all p low high grain holds =
@@ -61,7 +61,7 @@ part_at_most_one low high grain =
 part_none : (low high : ℤ) (grain : Grain) → le_z (int_max grain.low.millionths low) (int_min grain.high.millionths high) ≡ false → part_between low high grain ≡ []
 part_none low high grain none = ap (λ b. if b then interval (int_max grain.low.millionths low) (int_min grain.high.millionths high) ∷ [] else []) none
 
-part_at_all : (p : Grain → Bool) (unit : ℕ) (at : ℤ) (grain : Grain) → list_all p (part_between at at grain) ≡ true → list_all p (part_at unit at grain) ≡ true
+pub part_at_all : (p : Grain → Bool) (unit : ℕ) (at : ℤ) (grain : Grain) → list_all p (part_between at at grain) ≡ true → list_all p (part_at unit at grain) ≡ true
 part_at_all p unit at grain holds = elim (is_multiple unit at) as (λ b. list_all p (if b then part_between at at grain else []) ≡ true) [ true ↦ holds | false ↦ refl ]
 
 part_at_ascending : (unit : ℕ) (at : ℤ) (grain : Grain) → is_ascending (part_at unit at grain) ≡ true
@@ -70,7 +70,7 @@ part_at_ascending unit at grain = elim (is_multiple unit at) as (λ b. is_ascend
 part_at_at_most_one : (unit : ℕ) (at : ℤ) (grain : Grain) → length (part_at unit at grain) ≤ 1
 part_at_at_most_one unit at grain = elim (is_multiple unit at) as (λ b. length (if b then part_between at at grain else []) ≤ 1) [ true ↦ part_at_most_one at at grain | false ↦ omega arith ]
 
-all_append : {X : Type 0} (p : X → Bool) (xs ys : List X) → list_all p xs ≡ true → list_all p ys ≡ true → list_all p (xs ++ ys) ≡ true
+pub all_append : {X : Type 0} (p : X → Bool) (xs ys : List X) → list_all p xs ≡ true → list_all p ys ≡ true → list_all p (xs ++ ys) ≡ true
 all_append p xs ys a b = list_all-append p xs ys ∙ both_true (list_all p xs) (list_all p ys) a b
 
 all_weaker : {X : Type 0} (p q : X → Bool) (xs : List X) → ((x : X) → p x ≡ true → q x ≡ true) → list_all p xs ≡ true → list_all q xs ≡ true

@@ -29,7 +29,7 @@ all_from p [] d each = refl
 all_from p (x ∷ xs) d each = both_true (p x) (list_all p xs) (each 0 (omega arith)) (all_from p xs d (λ k inside. each (suc k) (omega arith)))
 
 -- what is at most another is below it or the same
-at_most : (i j : ℕ) → i ≤ j → (i < j) ⊎ (i ≡ j)
+pub at_most : (i j : ℕ) → i ≤ j → (i < j) ⊎ (i ≡ j)
 at_most i j le = elim (nat_lt i j) as (λ b. nat_lt i j ≡ b → (i < j) ⊎ (i ≡ j)) [ true ↦ λ e. inl (grind (arith, nat_tests)) | false ↦ λ e. inr (grind (arith, nat_tests)) ] refl
 
 -- a grain lies below each that follows it

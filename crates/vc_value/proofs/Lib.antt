@@ -1,3 +1,4 @@
+pub mod CutLaws
 pub mod CutLemmas
 pub mod DigitLemmas
 pub mod GrainLemmas

@@ -40,10 +40,6 @@ is_multiple unit millionths = int_eq (int_rem_euclid millionths (pos unit)) (pos
 abbrev pub has_decimals : ℕ → Dec → Bool
 has_decimals decimals n = is_multiple (unit_of decimals) n.millionths
 
--- both ends of the grain have no more decimals than these
-abbrev pub ends_have_decimals : ℕ → Grain → Bool
-ends_have_decimals decimals grain = has_decimals decimals grain.low && has_decimals decimals grain.high
-
 -- the greatest whole number of units below the count
 abbrev pub next_below : ℕ → ℤ → ℤ
 next_below unit at = let rest = int_rem_euclid at (pos unit) in at -ℤ (if int_eq rest (pos 0) then pos unit else rest)

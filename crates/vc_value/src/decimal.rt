@@ -7,7 +7,7 @@ ghost use Rattle.std.specs.Char.{is_ascii_digit};
 ghost use Rattle.vc_value.specs.Decimals.{is_negative, unsigned_text, is_point, whole_part, fraction_part, are_digits, is_fraction, significant, fraction_fits, number_of, fraction_of, millionths_of, signed, number_from, read_number};
 
 /// A stored number: a whole count of millionths, of at most nine digits before the point.
-#[derive(Clone, Copy, Debug, PartialEq, Eq)]
+#[derive(Clone, Copy, Debug, PartialEq, Eq, Hash)]
 pub struct Dec {
     pub millionths: i64,
 }

@@ -3,7 +3,7 @@
 ghost use Rattle.std.specs.Prelude.{◌≡◌, ◌+◌, ◌-◌, ◌^◌, ◌<◌, ◌≤◌, pos, ◌≤ℤ◌, ◌<ℤ◌, FitsSigned, option_to_list, [], ◌∷◌, ◌++◌, length, position, slice_get, flat_map, IsTrue, IfOk, OnOk, OnErr};
 ghost use Rattle.std.specs.List.{list_all};
 ghost use Rattle.std.specs.Int.{int_rem_euclid, w64};
-ghost use Rattle.vc_value.specs.Grains.{interval, holds, is_below, is_ordered, is_ascending, unit_of, ends_have_decimals, next_below, next_above, part_between, part_below, part_at, part_above, parts_of, cut_at};
+ghost use Rattle.vc_value.specs.Grains.{interval, holds, is_below, is_ordered, is_ascending, unit_of, has_decimals, next_below, next_above, part_between, part_below, part_at, part_above, parts_of, cut_at, is_apart, hold};
 
 use crate::decimal::Dec;
 use std::alloc::{AllocError, Global};
@@ -14,6 +14,15 @@ use std::marker::Model;
 pub struct Grain {
     pub low: Dec,
     pub high: Dec,
+}
+
+impl Dec {
+    /// Whether the number has no more decimals than these.
+    pub fn has_decimals(self, decimals: u8) -> bool
+        ensures { result ≡ has_decimals decimals self }
+    {
+        rest_of(unit_of(decimals), self) == 0
+    }
 }
 
 impl Grain {
@@ -101,11 +110,13 @@ impl GrainList {
     /// Cuts at a number, so that no grain has numbers on both sides of it or beside it. After an
     /// error the list is as before.
     pub fn cut(&mut self, alloc: Global, decimals: u8, at: Dec) -> Result<(), AllocError>
-        requires decimals { decimals ≤ 6 }
-        requires ends { IsTrue (list_all (ends_have_decimals decimals) self.old) }
-        requires room { length self.old ≤ 2 ^ 32 - 3 }
+        requires { length self.old ≤ 2 ^ 32 - 3 }
         ensures ok { OnOk result (self.new ≡ cut_at decimals at self.old) }
         ensures err { OnErr result (self.new ≡ self.old) }
+
+        // No number of these decimals is lost, and none is added.
+        ensures apart { OnOk result (IsTrue (list_all (is_apart at) self.new)) }
+        ensures kept { OnOk result ((n : Dec) → IsTrue (has_decimals decimals n) → hold n self.new ≡ hold n self.old) }
     {
         let parts = parts_of_all(alloc, &self.grains, unit_of(decimals), at)?;
         self.grains = parts;
@@ -126,13 +137,12 @@ impl GrainList {
     }
 }
 
-// One at the last of the decimals, in millionths.
+// One at the last of the decimals, in millionths; with more than six decimals one millionth.
 fn unit_of(decimals: u8) -> u32
-    requires { decimals ≤ 6 }
     ensures unit { result ≡ unit_of decimals }
     ensures some { 0 < result }
 {
-    10u32.pow(u32::from(6 - decimals))
+    10u32.pow(u32::from(6u8.saturating_sub(decimals)))
 }
 
 // The parts of all grains, in order.

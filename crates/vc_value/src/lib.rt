@@ -5,6 +5,7 @@ pub mod decimal;
 pub mod grains;
 pub mod listed;
 pub mod names;
+pub mod table_header;
 pub mod value;
 pub mod word;
 
@@ -12,6 +13,7 @@ pub use decimal::{Dec, NumFault};
 pub use grains::{Grain, GrainList};
 pub use listed::Listed;
 pub use names::{is_name, is_session_name};
+pub use table_header::{Column, Domain, Entry, TableHeader};
 pub use value::Value;
 pub use word::{Word, equals_ignoring_case};
 
