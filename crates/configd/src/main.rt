@@ -4,7 +4,6 @@
 use std::alloc::AllocError;
 use std::env;
 use std::process::ExitCode;
-
 use vc_app::desk;
 use vc_outside::{FileShelf, StdSink};
 

@@ -185,7 +185,7 @@ quiet_end words files o endings.ExhaustedCut told shelf sink memory ends cause =
 quiet_status : (words : Words) (files : Files) (o : Outside) (status : ℕ) → EndsWith words o status → IsQuiet o files status → HasVerdict words files status
 quiet_status words files o status e q =
     let found : HasVerdict words files (status_of e.ending) =
-        quiet_end words files o e.ending q.told q.shelf q.sink (λ eight. q.memory (e.number ∙ eight)) e.ends e.cause in
+    quiet_end words files o e.ending q.told q.shelf q.sink (λ eight. q.memory (e.number ∙ eight)) e.ends e.cause in
     (found.0, found.1, e.number ∙ found.2)
 
 -- what words and files decide has its status

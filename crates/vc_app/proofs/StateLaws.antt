@@ -46,9 +46,9 @@ hidden false x y z o e = e
 twice : (name : List ℕ) (old new : Users) → insert (insert none name old) name new ≡ insert none name new
 twice name old new =
     same_map nat_list_cmp_total (slice_cmp-IsAntisymmetric nat_cmp-IsAntisymmetric) _ _ (λ q.
-        get-insert nat_list_cmp_total (insert none name old) name new q
-        ∙ hidden (eq_by_cmp (slice_cmp nat_cmp) q name) (Some old) (get none q) (Some new) (get (insert none name old) q) (get-insert nat_list_cmp_total none name old q)
-        ∙ sym (get-insert nat_list_cmp_total none name new q))
+    get-insert nat_list_cmp_total (insert none name old) name new q
+    ∙ hidden (eq_by_cmp (slice_cmp nat_cmp) q name) (Some old) (get none q) (Some new) (get (insert none name old) q) (get-insert nat_list_cmp_total none name old q)
+    ∙ sym (get-insert nat_list_cmp_total none name new q))
 
 pub with_users-again : (name asked : List ℕ) (old new : Users) → same_bytes asked name ≡ true → with_users (one name old) asked new ≡ one name new
 with_users-again name asked old new h =

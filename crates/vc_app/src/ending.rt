@@ -6,7 +6,7 @@ ghost use Rattle.vc_outside.specs.Sinks.{AppendsFront};
 ghost use Rattle.std.specs.Io.KnownBytes.{Appends};
 ghost use Rattle.vc_app.specs.Endings as endings;
 
-use vc_outside::{write_all, Failed, FileFault, Sink};
+use vc_outside::{Failed, FileFault, Sink, write_all};
 
 /// A file that the command names.
 #[derive(Clone, Copy, Debug, PartialEq, Eq)]
@@ -136,7 +136,8 @@ fn write_fault<S: Sink>(out: &mut S, name: &str, fault: FileFault) -> Result<(),
     }
 }
 
-const USAGE: &str = "usage: configd check MODEL, run MODEL SCRIPT [KEEPFILE], serve MODEL ADDRESS N [KEEPFILE], verify MODEL CHAIN, gen N\n";
+const USAGE: &str =
+    "usage: configd check MODEL, run MODEL SCRIPT [KEEPFILE], serve MODEL ADDRESS N [KEEPFILE], verify MODEL CHAIN, gen N\n";
 
 fn write_stop<S: Sink>(out: &mut S, words: &[String], stop: Stop) -> Result<(), Failed>
     ensures ok { OnOk result (Appends (S.written out.old) (S.written out.new) (endings.stop_line words.now stop)) }

@@ -7,13 +7,12 @@ ghost use Rattle.vc_outside.specs.declared.file.TheConstants.{FILE_LIMIT};
 ghost use Rattle.vc_plan.specs.First.Plans.{IsValid};
 ghost use Rattle.vc_app.specs.Endings as endings;
 
+use crate::ending::{NamedFile, Stop};
 use std::alloc::{AllocError, Global};
 use vc_first::{plan_of_form, read_first_form};
-use vc_outside::{read_whole, FileFault, Shelf};
+use vc_outside::{FileFault, Shelf, read_whole};
 use vc_plan::first::Plan;
 use vc_value::Word;
-
-use crate::ending::{NamedFile, Stop};
 
 /// What there is to do: a plan, and the text of a script.
 #[derive(Debug, Drop)]
@@ -50,7 +49,12 @@ fn read_file<F: Shelf>(alloc: Global, shelf: &mut F, name: &str) -> Result<Word,
 }
 
 /// Reads the model, then the script.
-fn load_named<F: Shelf>(alloc: Global, shelf: &mut F, model: &str, script: &str) -> Result<Job, Stop>
+fn load_named<F: Shelf>(
+    alloc: Global,
+    shelf: &mut F,
+    model: &str,
+    script: &str,
+) -> Result<Job, Stop>
     ensures job { IfOk result (endings.LoadsJob (F.files shelf.old) model.now script.now) }
     ensures valid { IfOk result (λ job. IsValid job.plan) }
     ensures stops { IfErr result (endings.StopsJob (F.files shelf.old) (F.faults shelf.old) (F.faults shelf.new) model.now script.now) }
@@ -58,12 +62,18 @@ fn load_named<F: Shelf>(alloc: Global, shelf: &mut F, model: &str, script: &str)
 {
     let text = match read_file(alloc, shelf, model) {
         Ok(text) => text,
-        Err(fault) => return Err(Stop::Unread { file: NamedFile::Model, fault }),
+        Err(fault) => return Err(Stop::Unread {
+            file: NamedFile::Model,
+            fault,
+        }),
     };
     let plan = load_plan(alloc, text.bytes())?;
     match read_file(alloc, shelf, script) {
         Ok(script) => Ok(Job { plan, script }),
-        Err(fault) => Err(Stop::Unread { file: NamedFile::Script, fault }),
+        Err(fault) => Err(Stop::Unread {
+            file: NamedFile::Script,
+            fault,
+        }),
     }
 }
 

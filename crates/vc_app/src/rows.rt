@@ -39,7 +39,12 @@ fn put_value(out: &mut Word, variable: &Variable, place: usize) -> Result<(), Al
     }
 }
 
-fn put_known_row(out: &mut Word, variable: &Variable, place: usize, by_user: bool) -> Result<(), AllocError>
+fn put_known_row(
+    out: &mut Word,
+    variable: &Variable,
+    place: usize,
+    by_user: bool,
+) -> Result<(), AllocError>
     ensures { OnOk result (out.new ≡ out.old ++ rows.known_row variable.now place by_user) }
 {
     out.append(variable.name.bytes())?;
@@ -58,7 +63,12 @@ fn put_choice(out: &mut Word, text: &Word, is_out: bool) -> Result<(), AllocErro
     put_quoted(out, text.bytes())
 }
 
-fn put_choices(out: &mut Word, texts: &[Word], evaluation: &Evaluation, variable: usize) -> Result<(), AllocError>
+fn put_choices(
+    out: &mut Word,
+    texts: &[Word],
+    evaluation: &Evaluation,
+    variable: usize,
+) -> Result<(), AllocError>
     ensures { OnOk result (out.new ≡ out.old ++ rows.choices (slice_index_or (reading_in evaluation.now.entries).out variable []) texts.now) }
 {
     for (place, text) in texts.iter().enumerate() {
@@ -67,7 +77,12 @@ fn put_choices(out: &mut Word, texts: &[Word], evaluation: &Evaluation, variable
     Ok(())
 }
 
-fn put_open_row(out: &mut Word, variable: &Variable, evaluation: &Evaluation, place: usize) -> Result<(), AllocError>
+fn put_open_row(
+    out: &mut Word,
+    variable: &Variable,
+    evaluation: &Evaluation,
+    place: usize,
+) -> Result<(), AllocError>
     ensures { OnOk result (out.new ≡ out.old ++ rows.open_row variable.now (slice_index_or (reading_in evaluation.now.entries).out place [])) }
 {
     out.append(variable.name.bytes())?;
@@ -86,7 +101,13 @@ fn user_value(users: &[Option<usize>], place: usize) -> Option<usize>
     }
 }
 
-fn put_row(out: &mut Word, users: &[Option<usize>], evaluation: &Evaluation, place: usize, variable: &Variable) -> Result<(), AllocError>
+fn put_row(
+    out: &mut Word,
+    users: &[Option<usize>],
+    evaluation: &Evaluation,
+    place: usize,
+    variable: &Variable,
+) -> Result<(), AllocError>
     ensures { OnOk result (out.new ≡ out.old ++ rows.row users.now (reading_in evaluation.now.entries) (place, variable.now)) }
 {
     match evaluation.value(place) {
@@ -95,7 +116,12 @@ fn put_row(out: &mut Word, users: &[Option<usize>], evaluation: &Evaluation, pla
     }
 }
 
-fn put_rows(out: &mut Word, variables: &[Variable], users: &[Option<usize>], evaluation: &Evaluation) -> Result<(), AllocError>
+fn put_rows(
+    out: &mut Word,
+    variables: &[Variable],
+    users: &[Option<usize>],
+    evaluation: &Evaluation,
+) -> Result<(), AllocError>
     ensures { OnOk result (out.new ≡ out.old ++ flat_map (rows.row users.now (reading_in evaluation.now.entries)) (enumerate_from 0 variables.now)) }
 {
     for (place, variable) in variables.iter().enumerate() {
@@ -105,7 +131,12 @@ fn put_rows(out: &mut Word, variables: &[Variable], users: &[Option<usize>], eva
 }
 
 /// The rows of a session whose evaluation settled: the instance and each variable in order.
-pub fn settled_rows(alloc: Global, plan: &Plan, users: &[Option<usize>], evaluation: &Evaluation) -> Result<Word, AllocError>
+pub fn settled_rows(
+    alloc: Global,
+    plan: &Plan,
+    users: &[Option<usize>],
+    evaluation: &Evaluation,
+) -> Result<Word, AllocError>
     ensures { IfOk result (λ text. text ≡ rows.settled_rows plan.now users.now (reading_in evaluation.now.entries)) }
 {
     let mut out = Word::new(alloc);
@@ -116,7 +147,12 @@ pub fn settled_rows(alloc: Global, plan: &Plan, users: &[Option<usize>], evaluat
     Ok(out)
 }
 
-fn put_user_row(out: &mut Word, users: &[Option<usize>], place: usize, variable: &Variable) -> Result<(), AllocError>
+fn put_user_row(
+    out: &mut Word,
+    users: &[Option<usize>],
+    place: usize,
+    variable: &Variable,
+) -> Result<(), AllocError>
     ensures { OnOk result (out.new ≡ out.old ++ rows.user_row users.now (place, variable.now)) }
 {
     let Some(value) = user_value(users, place) else {

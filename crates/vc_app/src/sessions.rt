@@ -8,13 +8,12 @@ ghost use Rattle.vc_plan.specs.First.Outcomes.{IsFor};
 ghost use Rattle.vc_app.specs.Answers as desk;
 ghost use Rattle.vc_app.specs.Sessions.{IsSessionOf, IsSound, state_of};
 
-use std::alloc::{AllocError, Global};
-use vc_plan::first::{Evaluation, Outcome, Plan};
-use vc_value::{Listed, Word};
-
 use crate::replies::{Refusal, Reply, Status};
 use crate::requests::Request;
 use crate::rows::{settled_rows, user_rows};
+use std::alloc::{AllocError, Global};
+use vc_plan::first::{Evaluation, Outcome, Plan};
+use vc_value::{Listed, Word};
 
 /// A session: the user's values, and the room in which they are evaluated.
 #[derive(Debug, Drop)]
@@ -28,7 +27,10 @@ fn variable_named(plan: &Plan, name: &[u8]) -> Option<usize>
     ensures place { result ≡ desk.variable_named plan.now name.now }
     ensures within { IfSome result (λ place. place < length plan.now.variables) }
 {
-    plan.variables.as_slice().iter().position(|variable| variable.name.is(name))
+    plan.variables
+        .as_slice()
+        .iter()
+        .position(|variable| variable.name.is(name))
 }
 
 fn texts_of(plan: &Plan, variable: usize) -> &[Word]
@@ -44,7 +46,9 @@ fn place_of_text(plan: &Plan, variable: usize, text: &[u8]) -> Option<usize>
     ensures place { result ≡ desk.place_of_text plan.now variable text.now }
     ensures within { IfSome result (λ place. place < length (desk.texts_of plan.now variable)) }
 {
-    texts_of(plan, variable).iter().position(|listed| listed.is(text))
+    texts_of(plan, variable)
+        .iter()
+        .position(|listed| listed.is(text))
 }
 
 /// No value for each variable.
@@ -70,7 +74,11 @@ impl Session {
         let name = Word::from_bytes(alloc, name.bytes())?;
         let users = no_users(alloc, plan)?;
         let evaluation = Evaluation::new(alloc, plan)?;
-        Ok(Session { name, users, evaluation })
+        Ok(Session {
+            name,
+            users,
+            evaluation,
+        })
     }
 
     /// Evaluates the user's values from nothing.
@@ -97,13 +105,19 @@ impl Session {
         ensures name { self.new.name ≡ self.old.name }
     {
         let Some(variable) = variable_named(plan, characteristic.bytes()) else {
-            return Reply::Refused { refusal: Refusal::UnknownCharacteristic };
+            return Reply::Refused {
+                refusal: Refusal::UnknownCharacteristic,
+            };
         };
         let Some(place) = place_of_text(plan, variable, text.bytes()) else {
-            return Reply::Refused { refusal: Refusal::NotInList };
+            return Reply::Refused {
+                refusal: Refusal::NotInList,
+            };
         };
         self.put(plan, variable, Some(place));
-        Reply::Done { status: self.status(plan) }
+        Reply::Done {
+            status: self.status(plan),
+        }
     }
 
     /// Takes the user's value of a variable back.
@@ -115,13 +129,19 @@ impl Session {
         ensures name { self.new.name ≡ self.old.name }
     {
         let Some(variable) = variable_named(plan, characteristic.bytes()) else {
-            return Reply::Refused { refusal: Refusal::UnknownCharacteristic };
+            return Reply::Refused {
+                refusal: Refusal::UnknownCharacteristic,
+            };
         };
         if self.users.as_slice()[variable].is_none() {
-            return Reply::Refused { refusal: Refusal::NotSet };
+            return Reply::Refused {
+                refusal: Refusal::NotSet,
+            };
         }
         self.put(plan, variable, None);
-        Reply::Done { status: self.status(plan) }
+        Reply::Done {
+            status: self.status(plan),
+        }
     }
 
     /// Replaces the user's value of a variable.
@@ -153,13 +173,23 @@ impl Session {
 }
 
 /// The rows of a session whose evaluation settled.
-fn show_settled(alloc: Global, plan: &Plan, users: &[Option<usize>], evaluation: &Evaluation) -> Reply
+fn show_settled(
+    alloc: Global,
+    plan: &Plan,
+    users: &[Option<usize>],
+    evaluation: &Evaluation,
+) -> Reply
     requires { evaluation_of plan.now users.now ≡ Some (reading_in evaluation.now.entries) }
     ensures { desk.Shows plan.now users.now result }
 {
     match settled_rows(alloc, plan, users, evaluation) {
-        Ok(rows) => Reply::Shown { status: Status::Complete, rows },
-        Err(_) => Reply::Refused { refusal: Refusal::OutOfMemory },
+        Ok(rows) => Reply::Shown {
+            status: Status::Complete,
+            rows,
+        },
+        Err(_) => Reply::Refused {
+            refusal: Refusal::OutOfMemory,
+        },
     }
 }
 
@@ -169,8 +199,13 @@ fn show_contradicted(alloc: Global, plan: &Plan, users: &[Option<usize>], rule: 
     ensures { desk.Shows plan.now users.now result }
 {
     match user_rows(alloc, plan, users) {
-        Ok(rows) => Reply::Shown { status: Status::Contradiction(rule), rows },
-        Err(_) => Reply::Refused { refusal: Refusal::OutOfMemory },
+        Ok(rows) => Reply::Shown {
+            status: Status::Contradiction(rule),
+            rows,
+        },
+        Err(_) => Reply::Refused {
+            refusal: Refusal::OutOfMemory,
+        },
     }
 }
 
@@ -190,21 +225,33 @@ fn start(alloc: Global, plan: &Plan, opened: &mut Option<Session>, name: &Word) 
             *opened = Some(session);
             Reply::Done { status }
         }
-        Err(_) => Reply::Refused { refusal: Refusal::OutOfMemory },
+        Err(_) => Reply::Refused {
+            refusal: Refusal::OutOfMemory,
+        },
     }
 }
 
-fn set(plan: &Plan, opened: &mut Option<Session>, name: &Word, characteristic: &Word, text: &Word) -> Reply
+fn set(
+    plan: &Plan,
+    opened: &mut Option<Session>,
+    name: &Word,
+    characteristic: &Word,
+    text: &Word,
+) -> Reply
     requires valid { IsValid plan.now }
     requires sound { IsSound plan.now opened.old }
     ensures edits { desk.Apply plan.now (state_of opened.old) (Request.Set name.now characteristic.now text.now) result (state_of opened.new) }
     ensures sound { IsSound plan.now opened.new }
 {
     let Some(session) = opened else {
-        return Reply::Refused { refusal: Refusal::NoSession };
+        return Reply::Refused {
+            refusal: Refusal::NoSession,
+        };
     };
     if !name.is(session.name.bytes()) {
-        return Reply::Refused { refusal: Refusal::NoSession };
+        return Reply::Refused {
+            refusal: Refusal::NoSession,
+        };
     }
     session.set(plan, characteristic, text)
 }
@@ -216,10 +263,14 @@ fn retract(plan: &Plan, opened: &mut Option<Session>, name: &Word, characteristi
     ensures sound { IsSound plan.now opened.new }
 {
     let Some(session) = opened else {
-        return Reply::Refused { refusal: Refusal::NoSession };
+        return Reply::Refused {
+            refusal: Refusal::NoSession,
+        };
     };
     if !name.is(session.name.bytes()) {
-        return Reply::Refused { refusal: Refusal::NoSession };
+        return Reply::Refused {
+            refusal: Refusal::NoSession,
+        };
     }
     session.retract(plan, characteristic)
 }
@@ -231,10 +282,14 @@ fn show(alloc: Global, plan: &Plan, opened: &mut Option<Session>, name: &Word) -
     ensures sound { IsSound plan.now opened.new }
 {
     let Some(session) = opened else {
-        return Reply::Refused { refusal: Refusal::NoSession };
+        return Reply::Refused {
+            refusal: Refusal::NoSession,
+        };
     };
     if !name.is(session.name.bytes()) {
-        return Reply::Refused { refusal: Refusal::NoSession };
+        return Reply::Refused {
+            refusal: Refusal::NoSession,
+        };
     }
     session.show(alloc, plan)
 }
@@ -248,8 +303,15 @@ pub fn answer(alloc: Global, plan: &Plan, opened: &mut Option<Session>, request:
 {
     match request {
         Request::Start { session } => start(alloc, plan, opened, session),
-        Request::Set { session, characteristic, value } => set(plan, opened, session, characteristic, value),
-        Request::Retract { session, characteristic } => retract(plan, opened, session, characteristic),
+        Request::Set {
+            session,
+            characteristic,
+            value,
+        } => set(plan, opened, session, characteristic, value),
+        Request::Retract {
+            session,
+            characteristic,
+        } => retract(plan, opened, session, characteristic),
         Request::Show { session } => show(alloc, plan, opened, session),
     }
 }

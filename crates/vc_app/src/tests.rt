@@ -1,11 +1,9 @@
 //! The top call over files and a sink in memory.
 
+use crate::desk;
 use std::alloc::Global;
 use std::test::Fail;
-
 use vc_outside::{MemShelf, MemSink};
-
-use crate::desk;
 
 const PLAIN: &str = "MODEL LAMP VERSION 1
 CHAR SIZE 1 RESTRICTABLE
@@ -65,7 +63,13 @@ struct Ended {
 }
 
 /// Runs a script on a model, the shelf's and the sink's calls of these numbers failing (0 is none).
-fn run(alloc: Global, model: &str, script: &[u8], shelf_fails: u64, sink_fails: u64) -> Result<Ended, Fail> {
+fn run(
+    alloc: Global,
+    model: &str,
+    script: &[u8],
+    shelf_fails: u64,
+    sink_fails: u64,
+) -> Result<Ended, Fail> {
     let mut shelf = MemShelf::new(alloc);
     shelf.add(alloc, "model", model.as_bytes())?;
     shelf.add(alloc, "script", script)?;
@@ -73,7 +77,12 @@ fn run(alloc: Global, model: &str, script: &[u8], shelf_fails: u64, sink_fails: 
     run_with(alloc, &["run", "model", "script"], &mut shelf, sink_fails)
 }
 
-fn run_with(alloc: Global, names: &[&str], shelf: &mut MemShelf, sink_fails: u64) -> Result<Ended, Fail> {
+fn run_with(
+    alloc: Global,
+    names: &[&str],
+    shelf: &mut MemShelf,
+    sink_fails: u64,
+) -> Result<Ended, Fail> {
     let mut words = Vec::new(alloc);
     for name in names {
         words.push(String::from_str(alloc, name)?)?;
@@ -108,9 +117,21 @@ const ROWS: [(&str, &str, &str); 14] = [
         "open a\nset a 0 BULB B1\nset a 0 SIZE L\nretract a 0 BULB\n",
         "ok complete\nok complete\nok contradiction constraint C_BULB 1 at 0\nok complete\n",
     ),
-    (LAMP, "open a\nset a 0 SIZE Q\n", "ok complete\nrefused 5 NotInList\n"),
-    (LAMP, "open a\nretract a 0 SIZE\n", "ok complete\nrefused 7 NotSet\n"),
-    (LAMP, "open a\nset a 0 SIZE L\nretract a 0 BULB\n", "ok complete\nok complete\nrefused 7 NotSet\n"),
+    (
+        LAMP,
+        "open a\nset a 0 SIZE Q\n",
+        "ok complete\nrefused 5 NotInList\n",
+    ),
+    (
+        LAMP,
+        "open a\nretract a 0 SIZE\n",
+        "ok complete\nrefused 7 NotSet\n",
+    ),
+    (
+        LAMP,
+        "open a\nset a 0 SIZE L\nretract a 0 BULB\n",
+        "ok complete\nok complete\nrefused 7 NotSet\n",
+    ),
     (
         LAMP,
         "show a\nset b 0 SIZE L\nopen a\nset b 0 COLOUR X\nset a 0 COLOUR X\nset a 0 SIZE X\n",
@@ -126,7 +147,11 @@ const ROWS: [(&str, &str, &str); 14] = [
         "OPEN a\r\n\r\n\n* a comment\nSet a 0 size S\r\nset a 0 SIZE \nshow A\nretract a 0 Size",
         "ok complete\nok complete\nrefused 5 NotInList\nrefused 1 NoSession\nok complete\n",
     ),
-    (LAMP, "open a\nset a 0 SIZE S\r", "ok complete\nrefused 5 NotInList\n"),
+    (
+        LAMP,
+        "open a\nset a 0 SIZE S\r",
+        "ok complete\nrefused 5 NotInList\n",
+    ),
     (
         LAMP,
         "open a\nset a 0 SIZE S\nset a 0 SIZE L\nset a 0 SIZE L\nshow a\n",
@@ -153,7 +178,12 @@ fn a_failing_sink_cuts_what_is_written(rt: HostRuntime) -> Result<(), Fail> {
     for call in 1..6 {
         let ended = run(rt.alloc(), LAMP, SCRIPT.as_bytes(), 0, call)?;
         assert_eq!(rt; ended.status, 5);
-        assert!(rt; whole.written.as_slice().starts_with(ended.written.as_slice()));
+        assert!(rt;
+            whole
+                .written
+                .as_slice()
+                .starts_with(ended.written.as_slice())
+        );
         assert!(rt; ended.written.len() < whole.written.len());
     }
     let ended = run(rt.alloc(), LAMP, SCRIPT.as_bytes(), 0, 6)?;
@@ -170,7 +200,10 @@ fn a_failing_shelf_names_the_file(rt: HostRuntime) -> Result<(), Fail> {
     }
     for call in 4..7 {
         let ended = run(rt.alloc(), LAMP, SCRIPT.as_bytes(), call, 0)?;
-        assert_eq!(rt; ended.written.as_slice(), b"read fault: script\n".as_slice());
+        assert_eq!(rt;
+            ended.written.as_slice(),
+            b"read fault: script\n".as_slice()
+        );
         assert_eq!(rt; ended.status, 4);
     }
     let ended = run(rt.alloc(), LAMP, SCRIPT.as_bytes(), 7, 0)?;
@@ -178,7 +211,8 @@ fn a_failing_shelf_names_the_file(rt: HostRuntime) -> Result<(), Fail> {
     Ok(())
 }
 
-const USAGE: &str = "usage: configd check MODEL, run MODEL SCRIPT [KEEPFILE], serve MODEL ADDRESS N [KEEPFILE], verify MODEL CHAIN, gen N\n";
+const USAGE: &str =
+    "usage: configd check MODEL, run MODEL SCRIPT [KEEPFILE], serve MODEL ADDRESS N [KEEPFILE], verify MODEL CHAIN, gen N\n";
 
 #[test]
 fn each_cause_has_its_status(rt: HostRuntime) -> Result<(), Fail> {
@@ -193,8 +227,16 @@ fn each_cause_has_its_status(rt: HostRuntime) -> Result<(), Fail> {
         (&["run", "lamp"], 1, USAGE),
         (&["check", "lamp", "script"], 1, USAGE),
         (&["run", "lamp", "script", "keep"], 1, USAGE),
-        (&["run", "unrooted", "script"], 2, "model refused: text 0 line 0\n"),
-        (&["run", "unrooted", "nowhere"], 2, "model refused: text 0 line 0\n"),
+        (
+            &["run", "unrooted", "script"],
+            2,
+            "model refused: text 0 line 0\n",
+        ),
+        (
+            &["run", "unrooted", "nowhere"],
+            2,
+            "model refused: text 0 line 0\n",
+        ),
         (&["run", "nowhere", "script"], 3, "no such file: nowhere\n"),
         (&["run", "lamp", "nowhere"], 3, "no such file: nowhere\n"),
         (&["run", "lamp", "large"], 11, "too large: large\n"),
@@ -217,7 +259,10 @@ fn a_sink_without_room_cuts_what_is_written(rt: HostRuntime) -> Result<(), Fail>
         words.push(String::from_str(rt.alloc(), name)?)?;
     }
     let mut sink = MemSink::with_room(rt.alloc(), 20)?;
-    assert_eq!(rt; desk(rt.alloc(), words.as_slice(), &mut shelf, &mut sink), 5);
+    assert_eq!(rt;
+        desk(rt.alloc(), words.as_slice(), &mut shelf, &mut sink),
+        5
+    );
     assert_eq!(rt; sink.written(), b"ok complete\nok compl".as_slice());
     Ok(())
 }
@@ -233,6 +278,9 @@ fn a_long_line_is_no_request(rt: HostRuntime) -> Result<(), Fail> {
         script.push(b'L')?;
     }
     let ended = run(rt.alloc(), LAMP, script.as_slice(), 0, 0)?;
-    assert_eq!(rt; ended.written.as_slice(), b"ok complete\nrefused 0 NotARequest\nrefused 5 NotInList\n".as_slice());
+    assert_eq!(rt;
+        ended.written.as_slice(),
+        b"ok complete\nrefused 0 NotARequest\nrefused 5 NotInList\n".as_slice()
+    );
     Ok(())
 }

@@ -5,12 +5,11 @@ ghost use Rattle.vc_plan.specs.First.Plans.{IsValid};
 ghost use Rattle.vc_app.specs.Endings as endings;
 ghost use Rattle.vc_app.specs.Exactness.{IsExact};
 
+use crate::ending::{Ending, say_stop, write_text};
+use crate::loading::{Job, load_job};
+use crate::transcript::{ScriptFault, answer_script};
 use std::alloc::Global;
 use vc_outside::{Failed, Shelf, Sink};
-
-use crate::ending::{say_stop, write_text, Ending};
-use crate::loading::{load_job, Job};
-use crate::transcript::{answer_script, ScriptFault};
 
 /// Says that memory was wanting at a line.
 fn say_exhausted<S: Sink>(out: &mut S) -> Ending

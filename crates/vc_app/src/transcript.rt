@@ -9,15 +9,14 @@ ghost use Rattle.vc_app.specs.Sessions.{IsSound, state_of};
 ghost use Rattle.vc_app.specs.Transcript as transcript;
 ghost use Rattle.vc_app.specs.declared.transcript.ScriptFault.TheVariants as faults;
 
+use crate::replies::{Reply, reply_text};
+use crate::requests::{Request, read_line};
+use crate::script::{is_skipped, next_line};
+use crate::sessions::{Session, answer};
 use std::alloc::{AllocError, Global};
-use vc_outside::{write_all, Failed, Sink};
+use vc_outside::{Failed, Sink, write_all};
 use vc_plan::first::Plan;
 use vc_value::Word;
-
-use crate::replies::{reply_text, Reply};
-use crate::requests::{read_line, Request};
-use crate::script::{is_skipped, next_line};
-use crate::sessions::{answer, Session};
 
 /// The most bytes of a line that may be a request.
 const LINE_LIMIT: usize = 4096;
@@ -31,7 +30,12 @@ fn read_request(alloc: Global, line: &[u8]) -> Result<Option<Request>, AllocErro
     read_line(alloc, line)
 }
 
-fn answer_asked(alloc: Global, plan: &Plan, opened: &mut Option<Session>, request: Option<Request>) -> Result<Word, AllocError>
+fn answer_asked(
+    alloc: Global,
+    plan: &Plan,
+    opened: &mut Option<Session>,
+    request: Option<Request>,
+) -> Result<Word, AllocError>
     requires valid { IsValid plan.now }
     requires sound { IsSound plan.now opened.old }
     ensures answers { IfOk result (λ text. transcript.AnswersAsked plan.now (state_of opened.old) request text (state_of opened.new)) }
@@ -68,7 +72,13 @@ impl From<Failed> for ScriptFault {
 }
 
 /// Answers a line and writes the answer, before the next line is looked at.
-fn answer_line<S: Sink>(alloc: Global, plan: &Plan, opened: &mut Option<Session>, line: &[u8], out: &mut S) -> Result<(), ScriptFault>
+fn answer_line<S: Sink>(
+    alloc: Global,
+    plan: &Plan,
+    opened: &mut Option<Session>,
+    line: &[u8],
+    out: &mut S,
+) -> Result<(), ScriptFault>
     requires valid { IsValid plan.now }
     requires sound { IsSound plan.now opened.old }
     ensures done { OnOk result (transcript.LineDone plan.now (state_of opened.old) line.now (state_of opened.new) (S.written out.old) (S.written out.new)) }
@@ -88,7 +98,12 @@ fn answer_line<S: Sink>(alloc: Global, plan: &Plan, opened: &mut Option<Session>
 }
 
 /// Answers all lines of a script, each before the next is looked at.
-pub fn answer_script<S: Sink>(alloc: Global, plan: &Plan, script: &[u8], out: &mut S) -> Result<(), ScriptFault>
+pub fn answer_script<S: Sink>(
+    alloc: Global,
+    plan: &Plan,
+    script: &[u8],
+    out: &mut S,
+) -> Result<(), ScriptFault>
     requires { IsValid plan.now }
     ensures done { OnOk result (transcript.IsAnswered plan.now script.now (S.written out.old) (S.written out.new)) }
     ensures memory { IsErrOf result ScriptFault.OutOfMemory → transcript.IsAnsweredSoFar plan.now script.now (S.written out.old) (S.written out.new) }

@@ -6,4 +6,4 @@ abbrev pub Run : {State Item : Type 0} → (State → Item → List ℕ → Stat
 Run step state [] bytes next = (bytes ≡ []) × (next ≡ state)
 Run {State = State} step state (item ∷ items) bytes next =
     (between : State) × (first : List ℕ) × (later : List ℕ)
-        × step state item first between × (bytes ≡ first ++ later) × Run step between items later next
+    × step state item first between × (bytes ≡ first ++ later) × Run step between items later next

@@ -11,4 +11,4 @@ returns-in_err-plan-clause-stops g c =
     let faults = g.F.Shelf.faults in
     let stop = c.in_err-plan.field-0.0 in
     rw (p.1, p.2) (text_stops (g.F.Shelf.files c.args.shelf.now) (faults c.args.shelf.now) (faults c.read_file.new.shelf) c.args.model.now c.args.script.now
-        c.in-Ok.text stop c.in-Ok.ensures.holds c.in-Ok.ensures.small (subst (λ text. StopsText text stop) c.bytes.ensures c.in_err-plan.ensures.stops))
+    c.in-Ok.text stop c.in-Ok.ensures.holds c.in-Ok.ensures.small (subst (λ text. StopsText text stop) c.bytes.ensures c.in_err-plan.ensures.stops))

@@ -14,13 +14,13 @@ pub returns-then-not-is-clause-edits : goal.returns-then-not-is-clause-edits
 returns-then-not-is-clause-edits c =
     let s = c.in-Some.session in
     let other : same_bytes c.args.name.now s.name ≡ false =
-        ap (same_bytes c.args.name.now) (sym c.bytes.ensures) ∙ sym c.is.ensures ∙ c.if-not-is.true in
+    ap (same_bytes c.args.name.now) (sym c.bytes.ensures) ∙ sym c.is.ensures ∙ c.if-not-is.true in
     rw c.in-Some.is (edits_none c.args.plan.now (one s.name s.users) c.args.name.now (after_set c.args.plan.now c.args.characteristic.now c.args.text.now) (users-other s.name c.args.name.now s.users other))
 
 pub returns-clause-edits : goal.returns-clause-edits
 returns-clause-edits c =
     let s = c.in-Some.session in
     let named : same_bytes c.args.name.now s.name ≡ true =
-        ap (same_bytes c.args.name.now) (sym c.bytes.ensures) ∙ sym c.is.ensures ∙ c.if-not-is.false in
+    ap (same_bytes c.args.name.now) (sym c.bytes.ensures) ∙ sym c.is.ensures ∙ c.if-not-is.false in
     rw (c.in-Some.is, c.set.ensures.name)
-        (edits_open c.args.plan.now s.name c.args.name.now s.users c.set.new.self.users (after_set c.args.plan.now c.args.characteristic.now c.args.text.now) c.set.result named c.set.ensures.edit)
+    (edits_open c.args.plan.now s.name c.args.name.now s.users c.set.new.self.users (after_set c.args.plan.now c.args.characteristic.now c.args.text.now) c.set.result named c.set.ensures.edit)

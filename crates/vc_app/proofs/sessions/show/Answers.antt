@@ -13,13 +13,13 @@ pub returns-then-not-is-clause-shows : goal.returns-then-not-is-clause-shows
 returns-then-not-is-clause-shows c =
     let s = c.in-Some.session in
     let other : same_bytes c.args.name.now s.name ≡ false =
-        ap (same_bytes c.args.name.now) (sym c.bytes.ensures) ∙ sym c.is.ensures ∙ c.if-not-is.true in
+    ap (same_bytes c.args.name.now) (sym c.bytes.ensures) ∙ sym c.is.ensures ∙ c.if-not-is.true in
     rw c.in-Some.is (shows_none c.args.plan.now (one s.name s.users) c.args.name.now (users-other s.name c.args.name.now s.users other), refl)
 
 pub returns-clause-shows : goal.returns-clause-shows
 returns-clause-shows c =
     let s = c.in-Some.session in
     let named : same_bytes c.args.name.now s.name ≡ true =
-        ap (same_bytes c.args.name.now) (sym c.bytes.ensures) ∙ sym c.is.ensures ∙ c.if-not-is.false in
+    ap (same_bytes c.args.name.now) (sym c.bytes.ensures) ∙ sym c.is.ensures ∙ c.if-not-is.false in
     rw (c.in-Some.is, c.show.ensures.name, c.show.ensures.users)
-        (shows_open c.args.plan.now s.name c.args.name.now s.users c.show.result named c.show.ensures.shows, refl)
+    (shows_open c.args.plan.now s.name c.args.name.now s.users c.show.result named c.show.ensures.shows, refl)

@@ -21,4 +21,4 @@ returns-then-is_some-clause-starts c = (some_open _ (sym c.if-is_some.true ∙ c
 pub returns-in-Ok-clause-starts : goal.returns-in-Ok-clause-starts
 returns-in-Ok-clause-starts c =
     rw (nothing _ (sym c.if-is_some.false ∙ c.is_some.ensures), c.status-status.ensures.name, c.status-status.ensures.users, c.in-Ok.ensures.name, c.in-Ok.ensures.users)
-        (none_open, rw c.in-Ok.ensures.users at c.status-status.ensures.status, refl)
+    (none_open, rw c.in-Ok.ensures.users at c.status-status.ensures.status, refl)

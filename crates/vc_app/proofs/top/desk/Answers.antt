@@ -13,7 +13,7 @@ returns-clause-exact g c =
     let written = g.S.Sink.written in
     let sink_faults = g.S.Sink.faults in
     exactly c.args.words.now
-        (outside (files c.args.shelf.now) (shelf_faults c.args.shelf.now) (shelf_faults c.end.new.shelf)
-            (written c.args.out.now) (written c.end.new.out) (sink_faults c.args.out.now) (sink_faults c.end.new.out))
-        c.status.result
-        (record { ending = c.end.result; number = c.status.ensures; ends = c.end.ensures.ends; cause = c.end.ensures.cause })
+    (outside (files c.args.shelf.now) (shelf_faults c.args.shelf.now) (shelf_faults c.end.new.shelf)
+    (written c.args.out.now) (written c.end.new.out) (sink_faults c.args.out.now) (sink_faults c.end.new.out))
+    c.status.result
+    (record { ending = c.end.result; number = c.status.ensures; ends = c.end.ensures.ends; cause = c.end.ensures.cause })

@@ -10,6 +10,6 @@ returns-in-Ok-clause-ends g c =
     let written = g.S.Sink.written in
     let sink_faults = g.S.Sink.faults in
     job_ends c.args.words.now
-        (outside (files c.args.shelf.now) (shelf_faults c.args.shelf.now) (shelf_faults c.load_job.new.shelf)
-            (written c.args.out.now) (written c.run_job.new.out) (sink_faults c.args.out.now) (sink_faults c.run_job.new.out))
-        c.in-Ok.job c.run_job.result c.in-Ok.ensures.job c.run_job.ensures.ends
+    (outside (files c.args.shelf.now) (shelf_faults c.args.shelf.now) (shelf_faults c.load_job.new.shelf)
+    (written c.args.out.now) (written c.run_job.new.out) (sink_faults c.args.out.now) (sink_faults c.run_job.new.out))
+    c.in-Ok.job c.run_job.result c.in-Ok.ensures.job c.run_job.ensures.ends
