@@ -46,14 +46,14 @@ fn number_in(decimals: u8, grains: &GrainList, text: &[u8]) -> Option<Value>
 pub(crate) fn values_of(
     alloc: Global,
     columns: &[Column],
-    record: &ByteRecord,
+    row: &ByteRecord,
 ) -> Result<Option<Vec<Value>>, AllocError>
-    requires { length (fields_of record.now) ≡ length columns.now }
-    ensures { IfOk result (λ o. option_map (λ cells. cells.items) o ≡ values_of columns.now (fields_of record.now)) }
+    requires { length (fields_of row.now) ≡ length columns.now }
+    ensures { IfOk result (λ o. option_map (λ cells. cells.items) o ≡ values_of columns.now (fields_of row.now)) }
 {
     let mut cells = Vec::new(alloc);
     for (index, column) in columns.iter().enumerate() {
-        let Some(field) = record.get(index) else {
+        let Some(field) = row.get(index) else {
             return Ok(None);
         };
         let Some(value) = value_of(column, field) else {
@@ -65,18 +65,18 @@ pub(crate) fn values_of(
 }
 
 // Whether the fields of a record are the names of the columns.
-pub(crate) fn are_names(columns: &[Column], record: &ByteRecord) -> bool
-    ensures { result ≡ are_names columns.now (fields_of record.now) }
+pub(crate) fn are_names(columns: &[Column], row: &ByteRecord) -> bool
+    ensures { result ≡ are_names columns.now (fields_of row.now) }
 {
-    record.len() == columns.len() && fields_are_names(columns, record)
+    row.len() == columns.len() && fields_are_names(columns, row)
 }
 
-fn fields_are_names(columns: &[Column], record: &ByteRecord) -> bool
-    requires { length (fields_of record.now) ≡ length columns.now }
-    ensures { result ≡ are_names columns.now (fields_of record.now) }
+fn fields_are_names(columns: &[Column], row: &ByteRecord) -> bool
+    requires { length (fields_of row.now) ≡ length columns.now }
+    ensures { result ≡ are_names columns.now (fields_of row.now) }
 {
     for (index, column) in columns.iter().enumerate() {
-        match record.get(index) {
+        match row.get(index) {
             Some(field) if equals_ignoring_case(column.name.bytes(), field) => {}
             _ => return false,
         }

@@ -103,15 +103,15 @@ fn read_cells(
     alloc: Global,
     columns: &[Column],
     number: u32,
-    record: &ByteRecord,
+    row: &ByteRecord,
 ) -> Result<Vec<Value>, TableFault>
-    ensures ok { IfOk result (λ cells. cells_of columns.now number (fields_of record.now) ≡ Ok cells.items) }
-    ensures err { IfErr result (λ fault. fault ≢ TableFault.OutOfMemory → cells_of columns.now number (fields_of record.now) ≡ Err fault) }
+    ensures ok { IfOk result (λ cells. cells_of columns.now number (fields_of row.now) ≡ Ok cells.items) }
+    ensures err { IfErr result (λ fault. fault ≢ TableFault.OutOfMemory → cells_of columns.now number (fields_of row.now) ≡ Err fault) }
 {
-    if record.len() != columns.len() {
+    if row.len() != columns.len() {
         return Err(TableFault::Columns { row: number });
     }
-    match values_of(alloc, columns, record)? {
+    match values_of(alloc, columns, row)? {
         Some(cells) => Ok(cells),
         None => Err(TableFault::Cell { row: number }),
     }

@@ -9,7 +9,7 @@ pub returns-in_default : goal.returns-in_default
 returns-in_default c =
     let i = c.loop-index.index in
     let columns = c.args.columns.now in
-    let fields = fields_of c.args.record.now in
+    let fields = fields_of c.args.row.now in
     let column = c.index-columns-index.result in
     let field = c.in-Some.field.now in
     let so_far : are_names (drop i columns) (drop i fields) ≡ are_names columns fields = c.loop-index.invariant in
@@ -22,7 +22,7 @@ pub returns-in_default-2 : goal.returns-in_default-2
 returns-in_default-2 c =
     let i = c.loop-index.index in
     let columns = c.args.columns.now in
-    let fields = fields_of c.args.record.now in
+    let fields = fields_of c.args.row.now in
     let column = c.index-columns-index.result in
     let so_far : are_names (drop i columns) (drop i fields) ≡ are_names columns fields = c.loop-index.invariant in
     let missing = rw c.in_default.is at c.get.ensures.value in
@@ -32,7 +32,7 @@ pub loop-index-preserved : goal.loop-index-preserved
 loop-index-preserved c =
     let i = c.loop-index.index in
     let columns = c.args.columns.now in
-    let fields = fields_of c.args.record.now in
+    let fields = fields_of c.args.row.now in
     let column = c.index-columns-index.result in
     let field = c.in-Some.field.now in
     let so_far : are_names (drop i columns) (drop i fields) ≡ are_names columns fields = c.loop-index.invariant in

@@ -9,7 +9,7 @@ pub returns-in_default : goal.returns-in_default
 returns-in_default c =
     let i = c.loop-index.index in
     let columns = c.args.columns.now in
-    let fields = fields_of c.args.record.now in
+    let fields = fields_of c.args.row.now in
     let column = c.index-columns-index.result in
     let found = c.loop-index.cells.items in
     let so_far : option_map (λ more. found ++ more) (values_of (drop i columns) (drop i fields)) ≡ values_of columns fields = c.loop-index.invariant in
@@ -20,7 +20,7 @@ pub returns-in_default-value_of : goal.returns-in_default-value_of
 returns-in_default-value_of c =
     let i = c.loop-index.index in
     let columns = c.args.columns.now in
-    let fields = fields_of c.args.record.now in
+    let fields = fields_of c.args.row.now in
     let column = c.index-columns-index.result in
     let field = c.in-Some.field.now in
     let found = c.loop-index.cells.items in
@@ -34,7 +34,7 @@ pub loop-index-preserved : goal.loop-index-preserved
 loop-index-preserved c =
     let i = c.loop-index.index in
     let columns = c.args.columns.now in
-    let fields = fields_of c.args.record.now in
+    let fields = fields_of c.args.row.now in
     let column = c.index-columns-index.result in
     let field = c.in-Some.field.now in
     let found = c.loop-index.cells.items in
