@@ -1,5 +1,5 @@
 -- The tests of validity say what they are to say.
-use Rattle.std.proofs.Common.{◌≡◌, ◌↔◌, ℕ, ◌<◌, ◌≤◌, Bool, true, false, ◌&&◌, List, length, get_or, refl, sym, ◌∙◌, ap, subst, inl, inr}
+use Rattle.std.proofs.Common.{◌≡◌, ◌↔◌, ℕ, ◌<◌, Bool, true, false, ◌&&◌, List, length, get_or, refl, sym, ◌∙◌, subst, inl, inr}
 use Rattle.std.specs.Prelude.{◌==◌, nat_lt, Option, None, Some, IfSome}
 use Rattle.std.specs.List.{list_all}
 use Rattle.std.proofs.lemmas.Bool.{and_parts, and_from, ltb-true, lt-ltb, eqb-true, eq-eqb, cases_lt}
@@ -8,7 +8,6 @@ use Rattle.std.proofs.lemmas.List.Sums.{AllPass-from_list_all, list_all-from_All
 use Rattle.vc_base.proofs.SetLaws.{both}
 use Rattle.vc_plan.specs.declared.first.plans.Plan.{Plan}
 use Rattle.vc_plan.specs.declared.first.plans.Rule.{Rule}
-use Rattle.vc_plan.specs.declared.first.plans.Variable.{Variable}
 use Rattle.vc_plan.specs.First.Plans.{count_of, has_text, is_text_of, has_restricted, has_condition, is_valid_rule, IsValidRule, IsValid, AreUsers}
 
 -- a value that passes is a text of the variable, and the other way
