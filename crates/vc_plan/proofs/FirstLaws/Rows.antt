@@ -1,13 +1,11 @@
 -- Worked rows: what small plans come to, by computing.
-use Rattle.std.proofs.Common.{◌≡◌, ℕ, Bool, true, false, List, [], ◌∷◌, ◌++◌, refl}
+use Rattle.std.proofs.Common.{◌≡◌, ℕ, Bool, true, false, List, [], ◌∷◌, refl}
 use Rattle.std.specs.Prelude.{Option, None, Some}
-use Rattle.vc_base.specs.Growing.{Grows}
 use Rattle.vc_plan.specs.declared.first.plans.Plan.{Plan}
 use Rattle.vc_plan.specs.declared.first.plans.Rule.{Rule}
 use Rattle.vc_plan.specs.declared.first.plans.Variable.{Variable}
-use Rattle.vc_plan.specs.First.Atoms.{Atom, here, out, is, is_clear}
-use Rattle.vc_plan.specs.First.Evaluations.{evaluation_of, Reading, IsCulprit}
-use Rattle.vc_plan.specs.First.Gives.{system_of, base}
+use Rattle.vc_plan.specs.First.Atoms.{out, is}
+use Rattle.vc_plan.specs.First.Evaluations.{evaluation_of, IsCulprit}
 
 -- variables by their number of texts; names and texts don't matter here
 abbrev one : Variable

@@ -1,5 +1,5 @@
 -- The tests of validity say what they are to say.
-use Rattle.std.proofs.Common.{◌≡◌, ◌↔◌, ℕ, ◌<◌, ◌≤◌, Bool, true, false, ◌&&◌, List, length, get_or, refl, sym, ◌∙◌, ap, subst, inl, inr}
+use Rattle.std.proofs.Common.{◌≡◌, ◌↔◌, ℕ, ◌<◌, Bool, true, false, ◌&&◌, List, length, get_or, refl, sym, ◌∙◌, subst, inl, inr}
 use Rattle.std.specs.Prelude.{◌==◌, nat_lt, Option, None, Some, IfSome}
 use Rattle.std.specs.List.{list_all}
 use Rattle.std.proofs.lemmas.Bool.{and_parts, and_from, ltb-true, lt-ltb, eqb-true, eq-eqb, cases_lt}
@@ -8,8 +8,7 @@ use Rattle.std.proofs.lemmas.List.Sums.{AllPass-from_list_all, list_all-from_All
 use Rattle.vc_base.proofs.SetLaws.{both}
 use Rattle.vc_plan.specs.declared.first.plans.Plan.{Plan}
 use Rattle.vc_plan.specs.declared.first.plans.Rule.{Rule}
-use Rattle.vc_plan.specs.declared.first.plans.Variable.{Variable}
-use Rattle.vc_plan.specs.First.Plans.{count_of, has_text, is_text_of, has_restricted, has_condition, is_valid_rule, IsValidRule, IsValid, AreUsers}
+use Rattle.vc_plan.specs.First.Plans.{count_of, has_some_text, is_text_of, has_restricted, has_condition, is_valid_rule, IsValidRule, IsValid, AreUsers}
 
 -- a value that passes is a text of the variable, and the other way
 pub text_passes : (plan : Plan) (v : ℕ) (o : Option ℕ) → is_text_of plan v o ≡ true → IfSome o (λ text. text < count_of plan v)
@@ -44,20 +43,20 @@ passes_rule plan rule valid =
     (lt-ltb rule.if_variable (length plan.variables) valid.if_variable) (passes_text plan rule.if_variable rule.if_value valid.if_value))
 
 -- a plan that passes is valid, and the other way
-pub plan_passes : (plan : Plan) → ((list_all has_text plan.variables && list_all (is_valid_rule plan) plan.rules) ≡ true) ↔ IsValid plan
+pub plan_passes : (plan : Plan) → ((list_all has_some_text plan.variables && list_all (is_valid_rule plan) plan.rules) ≡ true) ↔ IsValid plan
 plan_passes plan = (
   λ e.
-      let parts : (list_all has_text plan.variables ≡ true) × (list_all (is_valid_rule plan) plan.rules ≡ true)
-      = and_parts (list_all has_text plan.variables) (list_all (is_valid_rule plan) plan.rules) e in
+      let parts : (list_all has_some_text plan.variables ≡ true) × (list_all (is_valid_rule plan) plan.rules ≡ true)
+      = and_parts (list_all has_some_text plan.variables) (list_all (is_valid_rule plan) plan.rules) e in
       record {
         texts = λ k d below.
-            ltb-true 0 (length (get_or plan.variables k d).texts) (AllPass-from_list_all has_text plan.variables parts.0 k d below);
+            ltb-true 0 (length (get_or plan.variables k d).texts) (AllPass-from_list_all has_some_text plan.variables parts.0 k d below);
         rules = λ k d below.
             rule_passes plan (get_or plan.rules k d) (AllPass-from_list_all (is_valid_rule plan) plan.rules parts.1 k d below);
       },
   λ valid.
-      and_from (list_all has_text plan.variables) (list_all (is_valid_rule plan) plan.rules)
-      (list_all-from_AllPass has_text plan.variables (λ k d below.
+      and_from (list_all has_some_text plan.variables) (list_all (is_valid_rule plan) plan.rules)
+      (list_all-from_AllPass has_some_text plan.variables (λ k d below.
       lt-ltb 0 (length (get_or plan.variables k d).texts) (valid.texts k d below)))
       (list_all-from_AllPass (is_valid_rule plan) plan.rules (λ k d below. passes_rule plan (get_or plan.rules k d) (valid.rules k d below))),
 )
@@ -82,15 +81,15 @@ users_fail plan users v fails =
     (λ e. absurd (cc), λ given. absurd (both (passes_text plan v (get_or users v None) (given.texts v)) fails))
 
 -- the second test decides where the first passes, and the first where it fails
-pub second_decides : (plan : Plan) (texts rules : Bool) → texts ≡ list_all has_text plan.variables → rules ≡ list_all (is_valid_rule plan) plan.rules
+pub second_decides : (plan : Plan) (texts rules : Bool) → texts ≡ list_all has_some_text plan.variables → rules ≡ list_all (is_valid_rule plan) plan.rules
     → texts ≡ true → (rules ≡ true) ↔ IsValid plan
 second_decides plan texts rules first second passes = (
-  λ e. (plan_passes plan).0 (and_from (list_all has_text plan.variables) (list_all (is_valid_rule plan) plan.rules) (sym first ∙ passes) (sym second ∙ e)),
-  λ valid. second ∙ (and_parts (list_all has_text plan.variables) (list_all (is_valid_rule plan) plan.rules) ((plan_passes plan).1 valid)).1,
+  λ e. (plan_passes plan).0 (and_from (list_all has_some_text plan.variables) (list_all (is_valid_rule plan) plan.rules) (sym first ∙ passes) (sym second ∙ e)),
+  λ valid. second ∙ (and_parts (list_all has_some_text plan.variables) (list_all (is_valid_rule plan) plan.rules) ((plan_passes plan).1 valid)).1,
 )
 
-pub first_decides : (plan : Plan) (texts : Bool) → texts ≡ list_all has_text plan.variables → texts ≡ false → (texts ≡ true) ↔ IsValid plan
+pub first_decides : (plan : Plan) (texts : Bool) → texts ≡ list_all has_some_text plan.variables → texts ≡ false → (texts ≡ true) ↔ IsValid plan
 first_decides plan texts first fails = (
   λ e. absurd (both e fails),
-  λ valid. first ∙ (and_parts (list_all has_text plan.variables) (list_all (is_valid_rule plan) plan.rules) ((plan_passes plan).1 valid)).0,
+  λ valid. first ∙ (and_parts (list_all has_some_text plan.variables) (list_all (is_valid_rule plan) plan.rules) ((plan_passes plan).1 valid)).0,
 )

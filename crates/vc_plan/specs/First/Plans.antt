@@ -38,19 +38,23 @@ pub record AreUsers (plan : Plan) (users : List (Option ℕ)) : Type 0 where
   pub each : length users ≡ length plan.variables
   pub texts : (variable : ℕ) → IfSome (slice_index_or users variable None) (λ text. text < count_of plan variable)
 
--- the tests of these facts: a variable's text, the variable that a rule restricts, its condition's, a rule
-abbrev pub has_text : Variable → Bool
-has_text variable = nat_lt 0 (length variable.texts)
+-- whether the variable has a text
+abbrev pub has_some_text : Variable → Bool
+has_some_text variable = nat_lt 0 (length variable.texts)
 
+-- whether the value, if there is one, is a text of the variable
 abbrev pub is_text_of : Plan → ℕ → Option ℕ → Bool
 is_text_of plan variable None = true
 is_text_of plan variable (Some text) = nat_lt text (count_of plan variable)
 
+-- whether the rule's variable is there, with a flag for each text
 abbrev pub has_restricted : Plan → Rule → Bool
 has_restricted plan rule = nat_lt rule.variable (length plan.variables) && (length rule.allowed == count_of plan rule.variable)
 
+-- whether what the rule's condition speaks of is there
 abbrev pub has_condition : Plan → Rule → Bool
 has_condition plan rule = nat_lt rule.if_variable (length plan.variables) && is_text_of plan rule.if_variable rule.if_value
 
+-- whether both are
 abbrev pub is_valid_rule : Plan → Rule → Bool
 is_valid_rule plan rule = has_restricted plan rule && has_condition plan rule

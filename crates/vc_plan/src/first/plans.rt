@@ -2,7 +2,7 @@
 
 ghost use Rattle.std.specs.Prelude.{◌≡◌, IsTrue, ◌↔◌};
 ghost use Rattle.std.specs.List.{list_all};
-ghost use Rattle.vc_plan.specs.First.Plans.{count_of, has_text, has_restricted, has_condition, is_valid_rule, is_text_of, IsValid, AreUsers};
+ghost use Rattle.vc_plan.specs.First.Plans.{count_of, has_some_text, has_restricted, has_condition, is_valid_rule, is_text_of, IsValid, AreUsers};
 
 use vc_value::{Listed, Word};
 
@@ -72,7 +72,7 @@ impl Plan {
     }
 
     fn has_texts(&self) -> bool
-        ensures { result ≡ list_all has_text self.now.variables }
+        ensures { result ≡ list_all has_some_text self.now.variables }
     {
         self.variables
             .as_slice()

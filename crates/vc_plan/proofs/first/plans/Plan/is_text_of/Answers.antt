@@ -1,4 +1,4 @@
-use Rattle.std.proofs.Common.{◌≡◌, ap, sym, ◌∙◌}
+use Rattle.std.proofs.Common.{ap, sym, ◌∙◌}
 use Rattle.std.specs.Prelude.{nat_lt}
 use Rattle.vc_plan.specs.First.Plans.{is_text_of}
 use Rattle.vc_plan.proofs.first.plans.Plan.is_text_of.Goals as goal
