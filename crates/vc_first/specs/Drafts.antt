@@ -2,6 +2,7 @@
 use Rattle.std.specs.Prelude.{ℕ, ◌==◌, cond, List, [], ◌∷◌, map, codes, if◌then◌else◌}
 use Rattle.std.specs.List.{slice_split}
 use Rattle.std.specs.Str.{bytes_eq}
+use Rattle.vc_first.specs.Bytes.{space, quote, opening, closing, comma, point, question_mark}
 use Rattle.vc_first.specs.declared.form.FirstForm.{FirstForm}
 use Rattle.vc_first.specs.declared.form.Restriction.{Restriction}
 use Rattle.vc_first.specs.declared.drafts.Draft.{Draft}
@@ -20,20 +21,20 @@ after byte (b ∷ bs) = cond (b == byte) bs (after byte bs)
 
 -- what stands between the first two quotes
 abbrev pub between_quotes : List ℕ → List ℕ
-between_quotes bytes = before 39 (after 39 bytes)
+between_quotes bytes = before quote (after quote bytes)
 
 -- the texts of a list with commas
 abbrev pub texts_in : List ℕ → List (List ℕ)
-texts_in bytes = map between_quotes (slice_split (λ b. b == 44) bytes)
+texts_in bytes = map between_quotes (slice_split (λ b. b == comma) bytes)
 
 -- the parts of a restriction
 abbrev pub restriction_in : List ℕ → Restriction
 restriction_in bytes = record {
-  variable = before 46 (after 63 (before 32 bytes));
-  target = after 46 (before 32 bytes);
-  allowed = texts_in (before 41 (after 40 bytes));
-  condition = before 32 (after 46 (after 41 bytes));
-  condition_text = between_quotes (after 41 bytes);
+  variable = before point (after question_mark (before space bytes));
+  target = after point (before space bytes);
+  allowed = texts_in (before closing (after opening bytes));
+  condition = before space (after point (after closing bytes));
+  condition_text = between_quotes (after closing bytes);
 }
 
 -- the keyword that the word is
@@ -71,9 +72,11 @@ empty_draft = record {
 
 -- the draft with what stands after a keyword in front
 abbrev pub with_rest : Keyword → List ℕ → Draft → Draft
-with_rest Model rest draft = record draft { name = before 32 rest; version = after 32 (after 32 rest) }
+with_rest Model rest draft = record draft { name = before space rest; version = after space (after space rest) }
 with_rest Char rest draft = record draft {
-  characteristics = record { name = before 32 rest; length = before 32 (after 32 rest); values = draft.values } ∷ draft.characteristics;
+  characteristics =
+      record { name = before space rest; length = before space (after space rest); values = draft.values }
+      ∷ draft.characteristics;
   values = [];
 }
 with_rest Value rest draft = record draft { values = between_quotes rest ∷ draft.values }
@@ -90,7 +93,7 @@ with_rest Other rest draft = draft
 
 -- the draft with a line in front
 abbrev pub with_line : List ℕ → Draft → Draft
-with_line line draft = with_rest (keyword_of (before 32 line)) (after 32 line) draft
+with_line line draft = with_rest (keyword_of (before space line)) (after space line) draft
 
 -- the draft with lines in front
 abbrev pub with_lines : List (List ℕ) → Draft → Draft
@@ -109,3 +112,7 @@ form_of draft = record {
   net = draft.net;
   material = draft.material;
 }
+
+-- the form that lines make
+abbrev pub form_made_of : List (List ℕ) → FirstForm
+form_made_of lines = form_of (with_lines lines empty_draft)

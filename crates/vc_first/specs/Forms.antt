@@ -14,7 +14,8 @@ is_value limit text = is_text text && nat_le (length text) limit
 
 -- 1 to 64 texts of at most so many bytes, none twice
 abbrev pub are_values : ℕ → List (List ℕ) → Bool
-are_values limit texts = is_some_up_to 64 (length texts) && list_all (is_value limit) texts && are_distinct (λ text. text) texts
+are_values limit texts =
+    is_some_up_to 64 (length texts) && list_all (is_value limit) texts && are_distinct (λ text. text) texts
 
 -- a length from 1 to 30, a name, and texts of at most this length
 abbrev pub is_characteristic : Characteristic → Bool
@@ -24,9 +25,12 @@ is_characteristic c = is_count 30 c.length && (is_free_name c.name && are_values
 abbrev pub are_characteristics : List Characteristic → Bool
 are_characteristics cs = is_some_up_to 64 (length cs) && list_all is_characteristic cs && are_distinct (λ c. c.name) cs
 
--- one name or more, each of one of the at most 64 characteristics, none twice
+-- one name or more, each of a characteristic, none twice; so no more than there may be characteristics
 abbrev pub are_members : List Characteristic → List (List ℕ) → Bool
-are_members cs names = is_some_up_to 64 (length names) && list_all (has_name (λ c. c.name) cs) names && are_distinct (λ name. name) names
+are_members cs names =
+    is_some_up_to 64 (length names)
+    && list_all (has_name (λ c. c.name) cs) names
+    && are_distinct (λ name. name) names
 
 -- both characteristics stand in the class, and one text or more is allowed
 abbrev pub is_restriction : List (List ℕ) → Restriction → Bool
@@ -44,7 +48,8 @@ is_block members b = is_free_name b.constraint && is_restriction members b.restr
 
 -- at most 100 constraints, no name twice
 abbrev pub are_blocks : List (List ℕ) → List Block → Bool
-are_blocks members blocks = nat_le (length blocks) 100 && list_all (is_block members) blocks && are_distinct (λ b. b.constraint) blocks
+are_blocks members blocks =
+    nat_le (length blocks) 100 && list_all (is_block members) blocks && are_distinct (λ b. b.constraint) blocks
 
 -- a name and a version from 1 to 999,999
 abbrev pub is_head : FirstForm → Bool

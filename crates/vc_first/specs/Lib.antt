@@ -1,3 +1,4 @@
+pub mod Bytes
 pub mod Drafts
 pub mod Forms
 pub mod Lines

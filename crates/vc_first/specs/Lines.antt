@@ -5,11 +5,12 @@ use Rattle.vc_first.specs.declared.form.FirstForm.{FirstForm}
 use Rattle.vc_first.specs.declared.form.Characteristic.{Characteristic}
 use Rattle.vc_first.specs.declared.form.Block.{Block}
 use Rattle.vc_first.specs.declared.form.Restriction.{Restriction}
+use Rattle.vc_first.specs.Bytes.{line_feed, space, point}
 use Rattle.vc_first.specs.Forms.{are_parts}
 
 -- words with one space between
 unfoldable pub line : List (List ℕ) → List ℕ
-line words = join_with_byte 32 words
+line words = join_with_byte space words
 
 -- a text in single quotes
 unfoldable pub quoted : List ℕ → List ℕ
@@ -17,7 +18,7 @@ quoted text = codes "'" ++ text ++ codes "'"
 
 -- a characteristic of the object for which the variable stands
 unfoldable pub operand : List ℕ → List ℕ → List ℕ
-operand variable name = codes "?" ++ variable ++ 46 ∷ name
+operand variable name = codes "?" ++ variable ++ point ∷ name
 
 -- texts in quotes and parentheses, a comma and a space between
 unfoldable pub listed : List (List ℕ) → List ℕ
@@ -29,7 +30,8 @@ value_line text = line (codes "VALUE" ∷ quoted text ∷ [])
 
 -- the lines of a characteristic and its texts
 abbrev pub characteristic_lines : Characteristic → List (List ℕ)
-characteristic_lines c = line (codes "CHAR" ∷ c.name ∷ c.length ∷ codes "RESTRICTABLE" ∷ []) ∷ map value_line c.values
+characteristic_lines c =
+    line (codes "CHAR" ∷ c.name ∷ c.length ∷ codes "RESTRICTABLE" ∷ []) ∷ map value_line c.values
 
 -- the line of a characteristic of the class
 abbrev pub has_line : List ℕ → List ℕ
@@ -43,7 +45,8 @@ restriction_line r = line (
 
 -- the line of the object on which a constraint stands
 abbrev pub object_line : List ℕ → List ℕ → List ℕ
-object_line class variable = line (codes "OBJECTS:" ∷ (codes "?" ++ variable) ∷ codes "IS_A" ∷ (codes "(300)" ++ class ++ codes ".") ∷ [])
+object_line class variable =
+    line (codes "OBJECTS:" ∷ (codes "?" ++ variable) ∷ codes "IS_A" ∷ (codes "(300)" ++ class ++ codes ".") ∷ [])
 
 -- the line of what a constraint infers
 abbrev pub inference_line : Restriction → List ℕ
@@ -95,7 +98,7 @@ lines_of form =
 
 -- lines, each ended by a line feed
 abbrev pub text_of_lines : List (List ℕ) → List ℕ
-text_of_lines lines = flat_map (λ l. l ++ 10 ∷ []) lines
+text_of_lines lines = flat_map (λ l. l ++ line_feed ∷ []) lines
 
 -- at most 1,000 bytes
 abbrev pub is_short : List ℕ → Bool

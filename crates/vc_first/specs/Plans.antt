@@ -31,7 +31,7 @@ variable_of cs name = record { name = name; texts = texts_of cs name }
 abbrev pub variables_of : FirstForm → List Variable
 variables_of form = map (variable_of form.characteristics) form.members
 
--- the rule of a constraint: of each text of the target whether it stands among the allowed, and the place of the condition's text
+-- the rule of a constraint: of each text of the target whether it's allowed, and the place of the condition's text
 abbrev pub rule_of : FirstForm → Block → Rule
 rule_of form block = record {
   constraint = block.constraint;

@@ -1,5 +1,6 @@
 -- How names, materials, texts and counts are spelled.
-use Rattle.std.specs.Prelude.{ℕ, ◌+◌, ◌*◌, ◌-◌, Bool, false, not, List, [], ◌∷◌, length, nat_lt, nat_le, ◌==◌, ◌&&◌, ◌||◌, fold}
+use Rattle.std.specs.Prelude.{ℕ, ◌≡◌, ◌+◌, ◌*◌, ◌-◌, Bool, true, false, not, List, [], ◌∷◌, Option, MatchOption, length, nat_lt}
+use Rattle.std.specs.Prelude.{nat_le, ◌==◌, ◌&&◌, ◌||◌, fold}
 use Rattle.std.specs.List.{list_all, list_any}
 use Rattle.std.specs.Str.{bytes_eq}
 use Rattle.std.specs.Char.{is_ascii_uppercase, is_ascii_alphanumeric, is_ascii_digit}
@@ -57,3 +58,8 @@ number_of digits = fold (λ number digit. number * 10 + (digit - 48)) 0 digits
 -- digits that spell a number from 1 to the limit
 abbrev pub is_count : ℕ → List ℕ → Bool
 is_count limit digits = list_all is_digit digits && is_some_up_to limit (number_of digits)
+
+-- the count that digits spell, where it's from 1 to the limit
+abbrev pub IsCount : ℕ → List ℕ → Option ℕ → Type 0
+IsCount limit digits count =
+    MatchOption count (is_count limit digits ≡ false) (λ n. (is_count limit digits ≡ true) × (n ≡ number_of digits))

@@ -222,7 +222,7 @@ impl Draft {
 
 /// The form that the lines make.
 pub fn drafted(alloc: Global, lines: Vec<&[u8]>) -> Result<FirstForm, AllocError>
-    ensures { IfOk result (λ form. form ≡ read.form_of (read.with_lines (map (λ line. line.now) lines.entry.items) read.empty_draft)) }
+    ensures { IfOk result (λ form. form ≡ read.form_made_of (map (λ line. line.now) lines.entry.items)) }
 {
     let mut draft = Draft::new(alloc);
     let mut rest = lines;

@@ -1,6 +1,6 @@
 //! How the words of a text of the first form are spelled: names, materials, texts and counts.
 
-ghost use Rattle.std.specs.Prelude.{◌≡◌, ◌*◌, ◌+◌, ◌-◌, ◌<◌, min, length, false, true, fold, MatchOption};
+ghost use Rattle.std.specs.Prelude.{◌≡◌, ◌*◌, ◌+◌, ◌-◌, ◌<◌, min, fold};
 ghost use Rattle.std.specs.List.{list_any, list_all};
 ghost use Rattle.std.specs.Str.{bytes_eq};
 ghost use Rattle.vc_first.specs.Spelling as spelled;
@@ -164,7 +164,7 @@ fn is_within(limit: u64, number: u64) -> bool
 /// The number that the digits spell, if it's from 1 to the limit.
 pub fn count_up_to(limit: u64, digits: &[u8]) -> Option<u64>
     requires { limit < CEILING }
-    ensures { MatchOption result (spelled.is_count limit digits.now ≡ false) (λ count. (spelled.is_count limit digits.now ≡ true) × (count ≡ spelled.number_of digits.now)) }
+    ensures { spelled.IsCount limit digits.now result }
 {
     if !are_digits(digits) {
         return None;
