@@ -7,7 +7,7 @@ use Rattle.std.specs.declared.alloc.Global.{Global}
 use Rattle.std.proofs.lemmas.Slice.Eq.{bytes_eq-Decides}
 use Rattle.vc_outside.specs.Shelves.{Files, Holds}
 use Rattle.vc_outside.specs.declared.file.TheConstants.{FILE_LIMIT}
-use Rattle.vc_app.specs.Endings.{Words, Outside, IsRun, LoadsJob, LoadsRun, StopsText, StopsJob, StopsRun, Causes, EndsJob, EndsRun, Ends}
+use Rattle.vc_app.specs.Endings.{Words, Outside, IsRun, LoadsJob, LoadsRun, StopsText, StopsJob, Causes, EndsJob, Ends}
 use Rattle.vc_app.specs.declared.loading.Job.{Job}
 use Rattle.vc_app.specs.declared.ending.Stop.{Stop}
 use Rattle.vc_app.specs.declared.ending.Stop.TheVariants as stops

@@ -1,15 +1,14 @@
 -- Words and files decide one thing alone: what they come to, and so the status.
-use Rattle.std.proofs.Common.{◌≡◌, ◌≢◌, ℕ, ◌<◌, ◌≤◌, List, [], ◌∷◌, length, refl, sym, ap, subst, ◌∙◌, arith, Option, Some, None}
+use Rattle.std.proofs.Common.{◌≡◌, ◌≢◌, ℕ, ◌<◌, ◌≤◌, List, length, refl, sym, ap, subst, ◌∙◌, arith, Option, Some, None}
 use Rattle.std.specs.Option.{IsSomeAnd}
 use Rattle.vc_outside.specs.Faults.{Raised}
 use Rattle.vc_outside.specs.Shelves.{Files, content_of, Holds, Lacks, Exceeds}
-use Rattle.vc_outside.specs.declared.file.FileFault.{FileFault}
 use Rattle.vc_outside.specs.declared.file.FileFault.TheVariants as faults
 use Rattle.vc_outside.specs.declared.file.TheConstants.{FILE_LIMIT}
 use Rattle.vc_plan.specs.declared.first.plans.Plan.{Plan}
 use Rattle.vc_first.specs.Lines.{Spells}
-use Rattle.vc_app.specs.Endings.{Words, Outside, IsRun, IsNoCommand, Loads, Refuses, LoadsJob, LoadsRun, StopsJob, Causes, Ends, HasSinkCause, EndsWith, status_of, stop_status}
-use Rattle.vc_app.specs.Exactness.{IsQuiet, IsDecided, IsDecidedFault, IsExact}
+use Rattle.vc_app.specs.Endings.{Words, Outside, IsRun, IsNoCommand, Loads, Refuses, LoadsRun, Causes, Ends, HasSinkCause, EndsWith, status_of, stop_status}
+use Rattle.vc_app.specs.Exactness.{IsQuiet, IsDecided, IsExact}
 use Rattle.vc_app.specs.declared.loading.Job.{Job}
 use Rattle.vc_app.specs.declared.ending.NamedFile.TheVariants.{Model, Script}
 use Rattle.vc_app.specs.declared.ending.Stop.{Stop}

@@ -1,5 +1,5 @@
 -- Laws of a state with one session.
-use Rattle.std.proofs.Common.{◌≡◌, ℕ, ◌+◌, ◌<◌, Bool, true, false, List, cond, refl, sym, ap, subst, ◌∙◌, arith, Option, Some, None, Result}
+use Rattle.std.proofs.Common.{◌≡◌, ℕ, ◌+◌, ◌<◌, Bool, true, false, List, cond, refl, sym, ap, ◌∙◌, arith, Option, Some, None, Result}
 use Rattle.std.specs.Prelude.{is_some}
 use Rattle.std.specs.Cmp.Lexicographic.{slice_cmp, nat_list_cmp_total, texts_ties}
 use Rattle.std.specs.Ordering.{eq_by_cmp, nat_cmp}

@@ -1,6 +1,6 @@
 -- The desk's step: what it answers to a request, and the state after it. It keeps the user's values alone, and each
 -- answer is read off an evaluation of these from nothing.
-use Rattle.std.specs.Prelude.{◌≡◌, ℕ, ◌<◌, Bool, List, [], length, position, replicate, slice_get, slice_set, slice_index_or, Option, None, Some, IsSome, Result, Ok, Err}
+use Rattle.std.specs.Prelude.{◌≡◌, ℕ, ◌<◌, List, [], length, position, replicate, slice_get, slice_set, slice_index_or, Option, None, Some, IsSome, Result, Ok, Err}
 use Rattle.std.specs.Option.{option_map_or, ok_or, IsSomeAnd}
 use Rattle.std.specs.FinMap.{len}
 use Rattle.vc_value.specs.Words.{same_bytes}

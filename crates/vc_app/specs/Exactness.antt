@@ -1,5 +1,5 @@
 -- That each cause has its own status: where no count of faults rose and memory was there, the cause decides.
-use Rattle.std.specs.Prelude.{◌≡◌, ◌≢◌, ℕ, List, Option, Some}
+use Rattle.std.specs.Prelude.{◌≡◌, ◌≢◌, ℕ, Some}
 use Rattle.vc_outside.specs.Faults.{Raised}
 use Rattle.vc_outside.specs.Shelves.{Files}
 use Rattle.vc_outside.specs.declared.file.FileFault.{FileFault}

@@ -1,5 +1,5 @@
 -- The lines of a script.
-use Rattle.std.specs.Prelude.{ℕ, Bool, true, false, List, [], ◌∷◌, ◌==◌}
+use Rattle.std.specs.Prelude.{ℕ, Bool, true, List, [], ◌∷◌, ◌==◌}
 use Rattle.std.specs.Str.Lines as text
 
 -- the lines of a script without their ends, LF or CR LF; what follows the last LF is a line where it isn't empty

@@ -1,5 +1,5 @@
 -- What the program keeps of a session, as a state of the desk.
-use Rattle.std.specs.Prelude.{ℕ, List, Option, None, Some}
+use Rattle.std.specs.Prelude.{Option, None, Some}
 use Rattle.vc_plan.specs.declared.first.plans.Plan.{Plan}
 use Rattle.vc_plan.specs.First.Plans.{AreUsers}
 use Rattle.vc_plan.specs.First.Outcomes.{IsFor}

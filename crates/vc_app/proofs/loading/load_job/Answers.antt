@@ -1,5 +1,4 @@
 -- The words are `run` and two names.
-use Rattle.std.proofs.Common.{ℕ}
 use Rattle.vc_app.specs.Endings.{IsRun}
 use Rattle.vc_app.proofs.EndingLaws.{run_words, run_loads, run_causes}
 use Rattle.vc_app.proofs.loading.load_job.Goals as goal

@@ -1,4 +1,4 @@
-use Rattle.std.proofs.Common.{◌≡◌, ◌++◌, [], drop, slice_index_or}
+use Rattle.std.proofs.Common.{◌≡◌, ◌++◌, drop}
 use Rattle.std.specs.List.{flat_map, enumerate_from}
 use Rattle.vc_app.specs.Rows.{user_row}
 use Rattle.vc_app.proofs.rows.user_rows.Given as goal

@@ -1,5 +1,5 @@
 -- The session asked for is the open one, by its name, or there is none.
-use Rattle.std.proofs.Common.{◌≡◌, Bool, true, false, sym, ap, ◌∙◌, refl}
+use Rattle.std.proofs.Common.{◌≡◌, true, false, sym, ap, ◌∙◌, refl}
 use Rattle.vc_value.specs.Words.{same_bytes}
 use Rattle.vc_app.specs.State.{start_state}
 use Rattle.vc_app.proofs.StateLaws.{one, shows_none, shows_open, users-none, users-other}

@@ -1,5 +1,5 @@
 -- A front of the answer to the line's request was written.
-use Rattle.std.proofs.Common.{◌≡◌, ◌++◌, Bool, false, sym, ap, subst, ◌∙◌}
+use Rattle.std.proofs.Common.{◌≡◌, false, sym, subst, ◌∙◌}
 use Rattle.vc_app.specs.Sessions.{state_of}
 use Rattle.vc_app.specs.Script.{is_skipped}
 use Rattle.vc_app.specs.Transcript.{AnswersLine}
