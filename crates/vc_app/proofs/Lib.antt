@@ -3,4 +3,5 @@ pub mod ExactnessLaws
 pub mod ScriptLines
 pub mod SinkLaws
 pub mod StateLaws
+pub mod StatusLaws
 pub mod TranscriptLaws

@@ -7,4 +7,5 @@ pub mod Rows
 pub mod Script
 pub mod Sessions
 pub mod State
+pub mod Statuses
 pub mod Transcript

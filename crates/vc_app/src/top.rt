@@ -3,7 +3,9 @@
 ghost use Rattle.std.specs.Prelude.{◌≡◌, ◌≤◌};
 ghost use Rattle.vc_plan.specs.First.Plans.{IsValid};
 ghost use Rattle.vc_app.specs.Endings as endings;
+ghost use Rattle.vc_app.specs.Endings.{outside};
 ghost use Rattle.vc_app.specs.Exactness.{IsExact};
+ghost use Rattle.vc_app.specs.Statuses.{IsStatus};
 
 use crate::ending::{Ending, say_stop, write_text};
 use crate::loading::{Job, load_job};
@@ -38,9 +40,10 @@ fn run_job<S: Sink>(alloc: Global, job: &Job, out: &mut S) -> Ending
 
 /// Does what the words ask, and says how it ended.
 fn end<F: Shelf, S: Sink>(alloc: Global, words: &[String], shelf: &mut F, out: &mut S) -> Ending
-    ensures ends { endings.Ends words.now (endings.outside (F.files shelf.old) (F.faults shelf.old) (F.faults shelf.new) (S.written out.old) (S.written out.new) (S.faults out.old) (S.faults out.new)) result }
+    ensures ends { endings.Ends words.now
+        (outside (F.files shelf.old) (F.faults shelf.old) (F.faults shelf.new) (S.written out.old) (S.written out.new) (S.faults out.old) (S.faults out.new))
+        result }
     ensures cause { endings.HasSinkCause (S.faults out.old) (S.faults out.new) result }
-    ensures later { S.faults out.old ≤ S.faults out.new }
 {
     match load_job(alloc, shelf, words) {
         Ok(job) => run_job(alloc, &job, out),
@@ -48,12 +51,16 @@ fn end<F: Shelf, S: Sink>(alloc: Global, words: &[String], shelf: &mut F, out: &
     }
 }
 
-/// Does what the words ask, which stand behind the program's name, and answers the exit status: 0 where each line of the
-/// script was answered, 1 for words that are no command, 2 for a text that is no model's, 3 for a file that isn't there,
-/// 4 for a fault of the shelf, 5 for one of the sink, 8 for want of memory, 11 for a file that is too large.
+/// Does what the words ask, which stand behind the program's name, and answers the exit status.
 pub fn desk<F: Shelf, S: Sink>(alloc: Global, words: &[String], shelf: &mut F, out: &mut S) -> u8
-    ensures ends { endings.EndsWith words.now (endings.outside (F.files shelf.old) (F.faults shelf.old) (F.faults shelf.new) (S.written out.old) (S.written out.new) (S.faults out.old) (S.faults out.new)) result }
-    ensures exact { IsExact words.now (endings.outside (F.files shelf.old) (F.faults shelf.old) (F.faults shelf.new) (S.written out.old) (S.written out.new) (S.faults out.old) (S.faults out.new)) result }
+    // What each status promises, one field a status: its cause, and what was written.
+    ensures status { IsStatus words.now
+        (outside (F.files shelf.old) (F.faults shelf.old) (F.faults shelf.new) (S.written out.old) (S.written out.new) (S.faults out.old) (S.faults out.new))
+        result }
+    // Each cause that words and files decide has its own status, unless a count of faults rose or memory was wanting.
+    ensures exact { IsExact words.now
+        (outside (F.files shelf.old) (F.faults shelf.old) (F.faults shelf.new) (S.written out.old) (S.written out.new) (S.faults out.old) (S.faults out.new))
+        result }
 {
     end(alloc, words, shelf, out).status()
 }
