@@ -8,6 +8,7 @@ pub mod Following
 pub mod Givers
 pub mod Lists
 pub mod Members
+pub mod Monotone
 pub mod Rows
 pub mod Starts
 pub mod Steps

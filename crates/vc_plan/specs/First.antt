@@ -5,6 +5,7 @@ pub mod Entries
 pub mod Evaluations
 pub mod Gives
 pub mod Held
+pub mod Laws
 pub mod Outcomes
 pub mod Plans
 pub mod Working
