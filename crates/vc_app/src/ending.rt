@@ -114,8 +114,10 @@ pub fn write_text<S: Sink>(out: &mut S, text: &str) -> Result<(), Failed>
 
 /// Writes three texts, one after another.
 fn write_texts<S: Sink>(out: &mut S, before: &str, name: &str, after: &str) -> Result<(), Failed>
-    ensures ok { OnOk result (Appends (S.written out.old) (S.written out.new) (before.now ++ (name.now ++ after.now))) }
-    ensures err { OnErr result (AppendsFront (S.written out.old) (S.written out.new) (before.now ++ (name.now ++ after.now))) }
+    ensures ok { OnOk result (Appends (S.written out.old) (S.written out.new)
+        (before.now ++ (name.now ++ after.now))) }
+    ensures err { OnErr result (AppendsFront (S.written out.old) (S.written out.new)
+        (before.now ++ (name.now ++ after.now))) }
     ensures cause { HasCause (S.faults out.old) (S.faults out.new) result }
 {
     write_text(out, before)?;
@@ -124,8 +126,10 @@ fn write_texts<S: Sink>(out: &mut S, before: &str, name: &str, after: &str) -> R
 }
 
 fn write_fault<S: Sink>(out: &mut S, name: &str, fault: FileFault) -> Result<(), Failed>
-    ensures ok { OnOk result (Appends (S.written out.old) (S.written out.new) (endings.fault_line name.now fault)) }
-    ensures err { OnErr result (AppendsFront (S.written out.old) (S.written out.new) (endings.fault_line name.now fault)) }
+    ensures ok { OnOk result (Appends (S.written out.old) (S.written out.new)
+        (endings.fault_line name.now fault)) }
+    ensures err { OnErr result (AppendsFront (S.written out.old) (S.written out.new)
+        (endings.fault_line name.now fault)) }
     ensures cause { HasCause (S.faults out.old) (S.faults out.new) result }
 {
     match fault {
@@ -140,8 +144,10 @@ const USAGE: &str =
     "usage: configd check MODEL, run MODEL SCRIPT [KEEPFILE], serve MODEL ADDRESS N [KEEPFILE], verify MODEL CHAIN, gen N\n";
 
 fn write_stop<S: Sink>(out: &mut S, words: &[String], stop: Stop) -> Result<(), Failed>
-    ensures ok { OnOk result (Appends (S.written out.old) (S.written out.new) (endings.stop_line words.now stop)) }
-    ensures err { OnErr result (AppendsFront (S.written out.old) (S.written out.new) (endings.stop_line words.now stop)) }
+    ensures ok { OnOk result (Appends (S.written out.old) (S.written out.new)
+        (endings.stop_line words.now stop)) }
+    ensures err { OnErr result (AppendsFront (S.written out.old) (S.written out.new)
+        (endings.stop_line words.now stop)) }
     ensures cause { HasCause (S.faults out.old) (S.faults out.new) result }
 {
     match stop {

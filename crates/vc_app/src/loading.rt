@@ -40,7 +40,8 @@ fn load_plan(alloc: Global, text: &[u8]) -> Result<Plan, Stop>
 fn read_file<F: Shelf>(alloc: Global, shelf: &mut F, name: &str) -> Result<Word, FileFault>
     ensures holds { IfOk result (λ bytes. Holds (F.files shelf.old) name.now bytes) }
     ensures small { IfOk result (λ bytes. length bytes ≤ FILE_LIMIT) }
-    ensures unread { IfErr result (endings.IsUnread (F.files shelf.old) (F.faults shelf.old) (F.faults shelf.new) name.now) }
+    ensures unread { IfErr result (endings.IsUnread (F.files shelf.old) (F.faults shelf.old)
+        (F.faults shelf.new) name.now) }
     ensures files { F.files shelf.new ≡ F.files shelf.old }
     ensures later { F.faults shelf.old ≤ F.faults shelf.new }
 {
@@ -57,7 +58,8 @@ fn load_named<F: Shelf>(
 ) -> Result<Job, Stop>
     ensures job { IfOk result (endings.LoadsJob (F.files shelf.old) model.now script.now) }
     ensures valid { IfOk result (λ job. IsValid job.plan) }
-    ensures stops { IfErr result (endings.StopsJob (F.files shelf.old) (F.faults shelf.old) (F.faults shelf.new) model.now script.now) }
+    ensures stops { IfErr result (endings.StopsJob (F.files shelf.old) (F.faults shelf.old)
+        (F.faults shelf.new) model.now script.now) }
     ensures later { F.faults shelf.old ≤ F.faults shelf.new }
 {
     let text = match read_file(alloc, shelf, model) {
@@ -81,7 +83,8 @@ fn load_named<F: Shelf>(
 pub fn load_job<F: Shelf>(alloc: Global, shelf: &mut F, words: &[String]) -> Result<Job, Stop>
     ensures job { IfOk result (endings.LoadsRun words.now (F.files shelf.old)) }
     ensures valid { IfOk result (λ job. IsValid job.plan) }
-    ensures causes { IfErr result (endings.Causes words.now (F.files shelf.old) (F.faults shelf.old) (F.faults shelf.new)) }
+    ensures causes { IfErr result (endings.Causes words.now (F.files shelf.old) (F.faults shelf.old)
+        (F.faults shelf.new)) }
     ensures later { F.faults shelf.old ≤ F.faults shelf.new }
 {
     match words {

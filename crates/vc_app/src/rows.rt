@@ -69,7 +69,8 @@ fn put_choices(
     evaluation: &Evaluation,
     variable: usize,
 ) -> Result<(), AllocError>
-    ensures { OnOk result (out.new ≡ out.old ++ rows.choices (slice_index_or (reading_in evaluation.now.entries).out variable []) texts.now) }
+    ensures { OnOk result (out.new ≡ out.old ++ rows.choices
+        (slice_index_or (reading_in evaluation.now.entries).out variable []) texts.now) }
 {
     for (place, text) in texts.iter().enumerate() {
         put_choice(out, text, evaluation.is_out(variable, place))?;
@@ -83,7 +84,8 @@ fn put_open_row(
     evaluation: &Evaluation,
     place: usize,
 ) -> Result<(), AllocError>
-    ensures { OnOk result (out.new ≡ out.old ++ rows.open_row variable.now (slice_index_or (reading_in evaluation.now.entries).out place [])) }
+    ensures { OnOk result (out.new ≡ out.old ++ rows.open_row variable.now
+        (slice_index_or (reading_in evaluation.now.entries).out place [])) }
 {
     out.append(variable.name.bytes())?;
     out.append_text(" ?")?;
@@ -108,7 +110,8 @@ fn put_row(
     place: usize,
     variable: &Variable,
 ) -> Result<(), AllocError>
-    ensures { OnOk result (out.new ≡ out.old ++ rows.row users.now (reading_in evaluation.now.entries) (place, variable.now)) }
+    ensures { OnOk result (out.new ≡ out.old ++ rows.row users.now
+        (reading_in evaluation.now.entries) (place, variable.now)) }
 {
     match evaluation.value(place) {
         Some(value) => put_known_row(out, variable, value, user_value(users, place).is_some()),
@@ -122,7 +125,8 @@ fn put_rows(
     users: &[Option<usize>],
     evaluation: &Evaluation,
 ) -> Result<(), AllocError>
-    ensures { OnOk result (out.new ≡ out.old ++ flat_map (rows.row users.now (reading_in evaluation.now.entries)) (enumerate_from 0 variables.now)) }
+    ensures { OnOk result (out.new ≡ out.old ++ flat_map
+        (rows.row users.now (reading_in evaluation.now.entries)) (enumerate_from 0 variables.now)) }
 {
     for (place, variable) in variables.iter().enumerate() {
         put_row(out, users, evaluation, place, variable)?;
@@ -137,7 +141,8 @@ pub fn settled_rows(
     users: &[Option<usize>],
     evaluation: &Evaluation,
 ) -> Result<Word, AllocError>
-    ensures { IfOk result (λ text. text ≡ rows.settled_rows plan.now users.now (reading_in evaluation.now.entries)) }
+    ensures { IfOk result (λ text. text ≡ rows.settled_rows plan.now users.now
+        (reading_in evaluation.now.entries)) }
 {
     let mut out = Word::new(alloc);
     out.append_text("instance 0 ")?;

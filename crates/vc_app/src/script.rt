@@ -21,7 +21,8 @@ fn without_carriage_return(line: &[u8]) -> &[u8]
 
 /// The first line of the text, without its end, and what follows it; None where the text has no line.
 pub fn next_line(text: &[u8]) -> Option<(&[u8], &[u8])>
-    ensures line { IfSome result (λ parts. script.lines_of text.now ≡ parts.0.now ∷ script.lines_of parts.1.now) }
+    ensures line { IfSome result (λ parts. script.lines_of text.now ≡ parts.0.now ∷ script.lines_of
+        parts.1.now) }
     ensures shorter { IfSome result (λ parts. length parts.1.now < length text.now) }
     ensures end { IfNone result (script.lines_of text.now ≡ []) }
 {

@@ -100,7 +100,9 @@ impl Session {
     fn set(&mut self, plan: &Plan, characteristic: &Word, text: &Word) -> Reply
         requires valid { IsValid plan.now }
         requires sound { IsSessionOf plan.now self.old }
-        ensures edit { desk.Edits plan.now self.old.users (desk.after_set plan.now characteristic.now text.now self.old.users) result self.new.users }
+        ensures edit { desk.Edits plan.now self.old.users
+            (desk.after_set plan.now characteristic.now text.now self.old.users) result
+            self.new.users }
         ensures sound { IsSessionOf plan.now self.new }
         ensures name { self.new.name ≡ self.old.name }
     {
@@ -124,7 +126,8 @@ impl Session {
     fn retract(&mut self, plan: &Plan, characteristic: &Word) -> Reply
         requires valid { IsValid plan.now }
         requires sound { IsSessionOf plan.now self.old }
-        ensures edit { desk.Edits plan.now self.old.users (desk.after_retract plan.now characteristic.now self.old.users) result self.new.users }
+        ensures edit { desk.Edits plan.now self.old.users
+            (desk.after_retract plan.now characteristic.now self.old.users) result self.new.users }
         ensures sound { IsSessionOf plan.now self.new }
         ensures name { self.new.name ≡ self.old.name }
     {
@@ -240,7 +243,8 @@ fn set(
 ) -> Reply
     requires valid { IsValid plan.now }
     requires sound { IsSound plan.now opened.old }
-    ensures edits { desk.Apply plan.now (state_of opened.old) (Request.Set name.now characteristic.now text.now) result (state_of opened.new) }
+    ensures edits { desk.Apply plan.now (state_of opened.old)
+        (Request.Set name.now characteristic.now text.now) result (state_of opened.new) }
     ensures sound { IsSound plan.now opened.new }
 {
     let Some(session) = opened else {
@@ -259,7 +263,8 @@ fn set(
 fn retract(plan: &Plan, opened: &mut Option<Session>, name: &Word, characteristic: &Word) -> Reply
     requires valid { IsValid plan.now }
     requires sound { IsSound plan.now opened.old }
-    ensures edits { desk.Apply plan.now (state_of opened.old) (Request.Retract name.now characteristic.now) result (state_of opened.new) }
+    ensures edits { desk.Apply plan.now (state_of opened.old)
+        (Request.Retract name.now characteristic.now) result (state_of opened.new) }
     ensures sound { IsSound plan.now opened.new }
 {
     let Some(session) = opened else {
@@ -278,7 +283,8 @@ fn retract(plan: &Plan, opened: &mut Option<Session>, name: &Word, characteristi
 fn show(alloc: Global, plan: &Plan, opened: &mut Option<Session>, name: &Word) -> Reply
     requires valid { IsValid plan.now }
     requires sound { IsSound plan.now opened.old }
-    ensures shows { desk.Apply plan.now (state_of opened.old) (Request.Show name.now) result (state_of opened.new) }
+    ensures shows { desk.Apply plan.now (state_of opened.old) (Request.Show name.now) result
+        (state_of opened.new) }
     ensures sound { IsSound plan.now opened.new }
 {
     let Some(session) = opened else {

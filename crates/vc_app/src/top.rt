@@ -41,7 +41,8 @@ fn run_job<S: Sink>(alloc: Global, job: &Job, out: &mut S) -> Ending
 /// Does what the words ask, and says how it ended.
 fn end<F: Shelf, S: Sink>(alloc: Global, words: &[String], shelf: &mut F, out: &mut S) -> Ending
     ensures ends { endings.Ends words.now
-        (outside (F.files shelf.old) (F.faults shelf.old) (F.faults shelf.new) (S.written out.old) (S.written out.new) (S.faults out.old) (S.faults out.new))
+        (outside (F.files shelf.old) (F.faults shelf.old) (F.faults shelf.new) (S.written out.old)
+        (S.written out.new) (S.faults out.old) (S.faults out.new))
         result }
     ensures cause { endings.HasSinkCause (S.faults out.old) (S.faults out.new) result }
 {
@@ -55,11 +56,13 @@ fn end<F: Shelf, S: Sink>(alloc: Global, words: &[String], shelf: &mut F, out: &
 pub fn desk<F: Shelf, S: Sink>(alloc: Global, words: &[String], shelf: &mut F, out: &mut S) -> u8
     // What each status promises, one field a status: its cause, and what was written.
     ensures status { IsStatus words.now
-        (outside (F.files shelf.old) (F.faults shelf.old) (F.faults shelf.new) (S.written out.old) (S.written out.new) (S.faults out.old) (S.faults out.new))
+        (outside (F.files shelf.old) (F.faults shelf.old) (F.faults shelf.new) (S.written out.old)
+        (S.written out.new) (S.faults out.old) (S.faults out.new))
         result }
     // Each cause that words and files decide has its own status, unless a count of faults rose or memory was wanting.
     ensures exact { IsExact words.now
-        (outside (F.files shelf.old) (F.faults shelf.old) (F.faults shelf.new) (S.written out.old) (S.written out.new) (S.faults out.old) (S.faults out.new))
+        (outside (F.files shelf.old) (F.faults shelf.old) (F.faults shelf.new) (S.written out.old)
+        (S.written out.new) (S.faults out.old) (S.faults out.new))
         result }
 {
     end(alloc, words, shelf, out).status()

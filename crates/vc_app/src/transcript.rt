@@ -38,7 +38,8 @@ fn answer_asked(
 ) -> Result<Word, AllocError>
     requires valid { IsValid plan.now }
     requires sound { IsSound plan.now opened.old }
-    ensures answers { IfOk result (λ text. transcript.AnswersAsked plan.now (state_of opened.old) request text (state_of opened.new)) }
+    ensures answers { IfOk result (λ text. transcript.AnswersAsked plan.now (state_of opened.old)
+        request text (state_of opened.new)) }
     ensures sound { IsSound plan.now opened.new }
 {
     let reply = match request {
@@ -81,9 +82,12 @@ fn answer_line<S: Sink>(
 ) -> Result<(), ScriptFault>
     requires valid { IsValid plan.now }
     requires sound { IsSound plan.now opened.old }
-    ensures done { OnOk result (transcript.LineDone plan.now (state_of opened.old) line.now (state_of opened.new) (S.written out.old) (S.written out.new)) }
-    ensures memory { IsErrOf result ScriptFault.OutOfMemory → Appends (S.written out.old) (S.written out.new) [] }
-    ensures cut { IsErrOf result ScriptFault.Sink → transcript.LineCut plan.now (state_of opened.old) line.now (S.written out.old) (S.written out.new) }
+    ensures done { OnOk result (transcript.LineDone plan.now (state_of opened.old) line.now
+        (state_of opened.new) (S.written out.old) (S.written out.new)) }
+    ensures memory { IsErrOf result ScriptFault.OutOfMemory → Appends (S.written out.old)
+        (S.written out.new) [] }
+    ensures cut { IsErrOf result ScriptFault.Sink → transcript.LineCut plan.now
+        (state_of opened.old) line.now (S.written out.old) (S.written out.new) }
     ensures cause { IsErrOf result ScriptFault.Sink → Raised (S.faults out.old) (S.faults out.new) }
     ensures later { S.faults out.old ≤ S.faults out.new }
     ensures sound { IsSound plan.now opened.new }
@@ -105,9 +109,12 @@ pub fn answer_script<S: Sink>(
     out: &mut S,
 ) -> Result<(), ScriptFault>
     requires { IsValid plan.now }
-    ensures done { OnOk result (transcript.IsAnswered plan.now script.now (S.written out.old) (S.written out.new)) }
-    ensures memory { IsErrOf result ScriptFault.OutOfMemory → transcript.IsAnsweredSoFar plan.now script.now (S.written out.old) (S.written out.new) }
-    ensures cut { IsErrOf result ScriptFault.Sink → transcript.IsCutShort plan.now script.now (S.written out.old) (S.written out.new) }
+    ensures done { OnOk result (transcript.IsAnswered plan.now script.now (S.written out.old)
+        (S.written out.new)) }
+    ensures memory { IsErrOf result ScriptFault.OutOfMemory → transcript.IsAnsweredSoFar plan.now
+        script.now (S.written out.old) (S.written out.new) }
+    ensures cut { IsErrOf result ScriptFault.Sink → transcript.IsCutShort plan.now script.now
+        (S.written out.old) (S.written out.new) }
     ensures cause { IsErrOf result ScriptFault.Sink → Raised (S.faults out.old) (S.faults out.new) }
     ensures later { S.faults out.old ≤ S.faults out.new }
 {
