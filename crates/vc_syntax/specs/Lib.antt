@@ -1,0 +1,4 @@
+pub mod Reading
+pub mod TermReading
+pub mod Tokens
+pub mod Trees
