@@ -1,4 +1,5 @@
 pub mod Reading
+pub mod TermGrammar
 pub mod TermReading
 pub mod Tokens
 pub mod Trees

@@ -84,17 +84,20 @@ self_and_name ts = then (after_sign signs.OpenParen ts) (λ first. then (after_s
 abbrev pub only_self : List Token → Option (List Token)
 only_self ts = then (after_sign signs.OpenParen ts) (λ first. then (after_self first) (after_sign signs.CloseParen))
 
+abbrev pub count_of_parts : Reader Term
+count_of_parts ts = option_map (λ rest. (trees.CountOfParts, rest)) (only_self ts)
+
 abbrev pub dollar_factor : Dollar → Token → Reader Term
 dollar_factor dollars.SumParts t ts = made trees.SumOfParts (closed (self_and_name ts))
-dollar_factor dollars.CountParts t ts = option_map (λ rest. (trees.CountOfParts, rest)) (only_self ts)
-dollar_factor _ t ts = made trees.Operand (operand (t ∷ ts))
+dollar_factor dollars.CountParts t ts = count_of_parts ts
+dollar_factor _ t ts = made trees.Operand (operand_in t.lexeme t ts)
 
 -- the factors that hold no other term
 abbrev pub plain_factor : Lexeme → Token → Reader Term
 plain_factor (lexemes.Number number) t ts = option_map (λ leaf. (trees.Number leaf, ts)) (number_of t)
 plain_factor (lexemes.Text text) t ts = option_map (λ leaf. (trees.Text leaf, ts)) (text_of t)
 plain_factor (lexemes.Dollar dollar) t ts = dollar_factor dollar t ts
-plain_factor _ t ts = made trees.Operand (operand (t ∷ ts))
+plain_factor _ t ts = made trees.Operand (operand_in t.lexeme t ts)
 
 abbrev pub factor_in : Reader Term → Reader Term → Lexeme → Token → Reader Term
 factor_in factor sum (lexemes.Sign signs.Minus) t ts = made trees.Negated (factor ts)

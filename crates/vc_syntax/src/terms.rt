@@ -1,6 +1,6 @@
 //! Terms, read from tokens.
 
-ghost use Rattle.std.specs.Prelude.{◌≡◌, ◌+◌, option_map, suc};
+ghost use Rattle.std.specs.Prelude.{◌≡◌, option_map, Some};
 ghost use Rattle.vc_syntax.specs.Reading.{Gives, made, closed};
 ghost use Rattle.vc_syntax.specs.TermReading as reads;
 ghost use Rattle.vc_syntax.specs.TermReading.{join};
@@ -125,4 +125,150 @@ fn only_self(tokens: &[Token]) -> Result<&[Token], ReadFault>
     let rest = after_self(rest)?;
     let rest = after_sign(Sign::CloseParen, rest)?;
     Ok(rest)
+}
+
+// The term in memory of its own.
+fn boxed(alloc: Global, term: Term) -> Result<Box<Term>, ReadFault>
+    ensures { Gives (λ b. term_of b.value) result (Some (term_of term)) }
+{
+    Ok(Box::new(alloc, term)?)
+}
+
+fn operand_term<'a>(alloc: Global, token: &Token, rest: &'a [Token]) -> Result<(Box<Term>, &'a [Token]), ReadFault>
+    ensures { Gives (λ x. (term_of x.0.value, x.1.now)) result (made trees.Operand (reads.operand_in token.now.lexeme token.now rest.now)) }
+{
+    let (operand, rest) = operand_from(alloc, token, rest)?;
+    let term = boxed(alloc, Term::Operand(operand))?;
+    Ok((term, rest))
+}
+
+fn sum_of_parts(alloc: Global, tokens: &[Token]) -> Result<(Box<Term>, &[Token]), ReadFault>
+    ensures { Gives (λ x. (term_of x.0.value, x.1.now)) result (made trees.SumOfParts (closed (reads.self_and_name tokens.now))) }
+{
+    let (name, rest) = self_and_name(alloc, tokens)?;
+    let rest = after_sign(Sign::CloseParen, rest)?;
+    let term = boxed(alloc, Term::SumOfParts(name))?;
+    Ok((term, rest))
+}
+
+fn count_of_parts(alloc: Global, tokens: &[Token]) -> Result<(Box<Term>, &[Token]), ReadFault>
+    ensures { Gives (λ x. (term_of x.0.value, x.1.now)) result (reads.count_of_parts tokens.now) }
+{
+    let rest = only_self(tokens)?;
+    let term = boxed(alloc, Term::CountOfParts)?;
+    Ok((term, rest))
+}
+
+// The factors that hold no other term.
+fn plain_factor<'a>(alloc: Global, token: &Token, rest: &'a [Token]) -> Result<(Box<Term>, &'a [Token]), ReadFault>
+    ensures { Gives (λ x. (term_of x.0.value, x.1.now)) result (reads.plain_factor token.now.lexeme token.now rest.now) }
+{
+    match &token.lexeme {
+        Lexeme::Number(_) => {
+            let leaf = number_leaf(token)?;
+            let term = boxed(alloc, Term::Number(leaf))?;
+            Ok((term, rest))
+        }
+        Lexeme::Text(_) => {
+            let leaf = text_leaf(alloc, token)?;
+            let term = boxed(alloc, Term::Text(leaf))?;
+            Ok((term, rest))
+        }
+        Lexeme::Dollar(Dollar::SumParts) => sum_of_parts(alloc, rest),
+        Lexeme::Dollar(Dollar::CountParts) => count_of_parts(alloc, rest),
+        _ => operand_term(alloc, token, rest),
+    }
+}
+
+// The term, if a closing parenthesis follows it.
+fn closed(term: Box<Term>, tokens: &[Token]) -> Result<(Box<Term>, &[Token]), ReadFault>
+    ensures { Gives (λ x. (term_of x.0.value, x.1.now)) result (closed (Some (term_of term.value, tokens.now))) }
+{
+    let rest = after_sign(Sign::CloseParen, tokens)?;
+    Ok((term, rest))
+}
+
+fn combined(alloc: Global, operator: Operator, left: Box<Term>, right: Box<Term>) -> Result<Box<Term>, ReadFault>
+    ensures { Gives (λ b. term_of b.value) result (Some (join operator (term_of left.value) (term_of right.value))) }
+{
+    boxed(alloc, Term::Combined(left, operator, right))
+}
+
+fn negated(alloc: Global, term: Box<Term>) -> Result<Box<Term>, ReadFault>
+    ensures { Gives (λ b. term_of b.value) result (Some (trees.Negated (term_of term.value))) }
+{
+    boxed(alloc, Term::Negated(term))
+}
+
+fn applied(alloc: Global, function: Function, term: Box<Term>) -> Result<Box<Term>, ReadFault>
+    ensures { Gives (λ b. term_of b.value) result (Some (trees.Applied function (term_of term.value))) }
+{
+    boxed(alloc, Term::Applied(function, term))
+}
+
+/// The factor in front, nested less deep than the bound, and what follows it.
+#[cycle(terms)]
+pub fn factor(alloc: Global, tokens: &[Token], left: u32) -> Result<(Box<Term>, &[Token]), ReadFault>
+    ensures { Gives (λ x. (term_of x.0.value, x.1.now)) result (reads.factor left tokens.now) }
+{
+    if left == 0 {
+        return Err(ReadFault::Ungrammatical);
+    }
+    match tokens {
+        [token, rest @ ..] => factor_from(alloc, token, rest, left - 1),
+        [] => Err(ReadFault::Ungrammatical),
+    }
+}
+
+#[cycle(terms)]
+fn factor_from<'a>(alloc: Global, token: &Token, rest: &'a [Token], left: u32) -> Result<(Box<Term>, &'a [Token]), ReadFault>
+    ensures { Gives (λ x. (term_of x.0.value, x.1.now)) result (reads.factor_in (reads.factor left) (reads.sum left) token.now.lexeme token.now rest.now) }
+{
+    match &token.lexeme {
+        Lexeme::Sign(Sign::Minus) => {
+            let (term, rest) = factor(alloc, rest, left)?;
+            let term = negated(alloc, term)?;
+            Ok((term, rest))
+        }
+        Lexeme::Sign(Sign::OpenParen) => {
+            let (term, rest) = sum(alloc, rest, left)?;
+            closed(term, rest)
+        }
+        Lexeme::Reserved(word) => {
+            let function = function_of(*word)?;
+            let rest = after_sign(Sign::OpenParen, rest)?;
+            let (term, rest) = sum(alloc, rest, left)?;
+            let (term, rest) = closed(term, rest)?;
+            let term = applied(alloc, function, term)?;
+            Ok((term, rest))
+        }
+        _ => plain_factor(alloc, token, rest),
+    }
+}
+
+#[cycle(terms)]
+fn product(alloc: Global, tokens: &[Token], left: u32) -> Result<(Box<Term>, &[Token]), ReadFault>
+    ensures { Gives (λ x. (term_of x.0.value, x.1.now)) result (reads.product left tokens.now) }
+{
+    let (mut term, mut rest) = factor(alloc, tokens, left)?;
+    while let Some((operator, after)) = product_operator(rest) {
+        let (right, after) = factor(alloc, after, left)?;
+        term = combined(alloc, operator, term, right)?;
+        rest = after;
+    }
+    Ok((term, rest))
+}
+
+/// The term in front, each factor nested less deep than the bound, and what follows it.
+#[cycle(terms)]
+pub fn sum(alloc: Global, tokens: &[Token], left: u32) -> Result<(Box<Term>, &[Token]), ReadFault>
+    ensures { Gives (λ x. (term_of x.0.value, x.1.now)) result (reads.sum left tokens.now) }
+{
+    let (mut term, mut rest) = product(alloc, tokens, left)?;
+    while let Some((operator, after)) = sum_operator(rest) {
+        let (right, after) = product(alloc, after, left)?;
+        term = combined(alloc, operator, term, right)?;
+        rest = after;
+    }
+    Ok((term, rest))
 }
