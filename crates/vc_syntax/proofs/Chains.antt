@@ -51,6 +51,10 @@ module _ {A O : Type 0} (operator : Reader O) (join : O → A → A → A) (read
       ap (λ o. either o (Some (left, t ∷ ts)) (λ x. then (read x.1) (λ y. more_in operator join read (length ts) (join x.0 left y.0) y.1))) e
       ∙ ap (λ o. then o (λ y. more_in operator join read (length ts) (join found.0 left y.0) y.1)) f
 
+  pub chain_shorter : (ts : List Token) (found : O × List Token) (right : A × List Token) → operator ts ≡ Some found → read found.1 ≡ Some right
+      → length right.1 < length ts
+  chain_shorter ts found right e f = omega (arith, takes ts found e, shortens found.1 right f)
+
 pub chained_stops : {A O : Type 0} (operator : Reader O) (join : O → A → A → A) (read : Reader A) (left : A) (ts : List Token)
     → operator ts ≡ None → chained operator join read left ts ≡ Some (left, ts)
 chained_stops operator join read left [] e = refl

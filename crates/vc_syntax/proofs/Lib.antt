@@ -1,1 +1,3 @@
 pub mod Chains
+pub mod TermSoundness
+pub mod TokenLaws
