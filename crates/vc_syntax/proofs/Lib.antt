@@ -1,3 +1,4 @@
 pub mod Chains
+pub mod TermCompleteness
 pub mod TermSoundness
 pub mod TokenLaws

@@ -30,6 +30,10 @@ either (Some x) without next = next x
 abbrev pub made : {A B : Type 0} → (A → B) → Option (A × List Token) → Option (B × List Token)
 made make read = option_map (λ found. (make found.0, found.1)) read
 
+-- what a token is, and the tokens after it
+abbrev pub leaving : {A : Type 0} → List Token → Option A → Option (A × List Token)
+leaving rest option = option_map (λ x. (x, rest)) option
+
 -- what was read, and a closing parenthesis after it
 abbrev pub closed : {A : Type 0} → Option (A × List Token) → Option (A × List Token)
 closed read = then read (λ found. option_map (λ rest. (found.0, rest)) (after_sign CloseParen found.1))

@@ -19,7 +19,7 @@ use Rattle.vc_syntax.specs.declared.tree.Operator.TheVariants as operators
 use Rattle.vc_syntax.specs.declared.tree.Function.{Function}
 use Rattle.vc_syntax.specs.declared.tree.Function.TheVariants as functions
 use Rattle.vc_syntax.specs.Tokens.{name_of, variable_of, text_of, number_of, after_sign, after_self, named}
-use Rattle.vc_syntax.specs.Reading.{Reader, then, either, made, closed, grouped, chain}
+use Rattle.vc_syntax.specs.Reading.{Reader, then, either, made, leaving, closed, grouped, chain}
 use Rattle.vc_syntax.specs.Trees as trees
 use Rattle.vc_syntax.specs.Trees.{Term}
 
@@ -69,11 +69,11 @@ sum_operator_in _ = None
 
 abbrev pub product_operator : Reader Operator
 product_operator [] = None
-product_operator (t ∷ ts) = option_map (λ operator. (operator, ts)) (product_operator_in t.lexeme)
+product_operator (t ∷ ts) = leaving ts (product_operator_in t.lexeme)
 
 abbrev pub sum_operator : Reader Operator
 sum_operator [] = None
-sum_operator (t ∷ ts) = option_map (λ operator. (operator, ts)) (sum_operator_in t.lexeme)
+sum_operator (t ∷ ts) = leaving ts (sum_operator_in t.lexeme)
 
 -- `( $SELF , name`
 abbrev pub self_and_name : Reader NameLeaf
