@@ -1,4 +1,6 @@
 pub mod Chains
+pub mod ConditionSoundness
+pub mod Lists
 pub mod TermCompleteness
 pub mod TermSoundness
 pub mod TokenLaws

@@ -1,3 +1,5 @@
+pub mod ConditionGrammar
+pub mod ConditionReading
 pub mod Reading
 pub mod TermGrammar
 pub mod TermReading

@@ -1,6 +1,7 @@
 //! The dependency language: texts, their tokens and their trees.
 #![tactic(auto)]
 
+pub mod conditions;
 pub mod reading;
 pub mod terms;
 pub mod token;

@@ -1,6 +1,6 @@
 //! The trees of dependencies. A leaf keeps the first byte of its token and the byte after its last.
 
-use vc_value::{Dec, Word};
+use vc_value::{Dec, Listed, Word};
 
 /// A name in upper case; of a variable, without `?`.
 #[derive(Debug, Drop)]
@@ -81,4 +81,52 @@ pub enum Term {
     SumOfParts(NameLeaf),
     /// `$COUNT_PARTS ( $SELF )`.
     CountOfParts,
+}
+
+/// What relates two terms.
+#[derive(Clone, Copy, Debug, PartialEq, Eq)]
+pub enum Relator {
+    Equal,
+    Unequal,
+    Less,
+    LessEqual,
+    Greater,
+    GreaterEqual,
+}
+
+/// A number with an optional minus.
+#[derive(Clone, Copy, Debug, PartialEq, Eq)]
+pub struct SignedNumber {
+    pub negative: bool,
+    pub leaf: NumberLeaf,
+}
+
+/// What stands in a list behind IN.
+#[derive(Debug, Drop)]
+pub enum Item {
+    Text(TextLeaf),
+    Number(SignedNumber),
+    /// All numbers from the first to the second.
+    Interval(SignedNumber, SignedNumber),
+}
+
+/// A relation.
+#[derive(Debug, Drop)]
+pub enum Relation {
+    Compared(Box<Term>, Relator, Box<Term>),
+    /// `A IN ( 'X' , 1 - 5 )`.
+    Within(Operand, Listed<Item>),
+}
+
+/// A condition.
+#[derive(Debug, Drop)]
+pub enum Condition {
+    Or(Box<Condition>, Box<Condition>),
+    And(Box<Condition>, Box<Condition>),
+    Not(Box<Condition>),
+    Relation(Relation),
+    /// `SPECIFIED A`, and `A SPECIFIED` too.
+    Specified(Operand),
+    /// `PART_OF ( ?X , ?Y )`.
+    PartOf(NameLeaf, NameLeaf),
 }
