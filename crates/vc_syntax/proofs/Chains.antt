@@ -55,6 +55,13 @@ module _ {A O : Type 0} (operator : Reader O) (join : O → A → A → A) (read
       → length right.1 < length ts
   chain_shorter ts found right e f = omega (arith, takes ts found e, shortens found.1 right f)
 
+  -- a turn of a loop along a chain
+  pub chain_turn : (left joined : A) (ts : List Token) (found : O × List Token) (right : A × List Token) (all : Option (A × List Token))
+      → Some found ≡ operator ts → read found.1 ≡ Some right → Some (join found.0 left right.0) ≡ Some joined
+      → chained operator join read left ts ≡ all → chained operator join read joined right.1 ≡ all
+  chain_turn left joined ts found right all e f g h = let same : join found.0 left right.0 ≡ joined = cc in
+      ap (λ x. chained operator join read x right.1) (sym same) ∙ sym (chained_step left ts found right (sym e) f) ∙ h
+
 pub chained_stops : {A O : Type 0} (operator : Reader O) (join : O → A → A → A) (read : Reader A) (left : A) (ts : List Token)
     → operator ts ≡ None → chained operator join read left ts ≡ Some (left, ts)
 chained_stops operator join read left [] e = refl

@@ -51,6 +51,13 @@ module _ {A : Type 0} (separator : Sign) (read : Reader A) where
   listed_shorter shortens ts after rest x e f = chain_shorter (sign separator) append (single read) (sign_takes separator) (single_shortens shortens) ts (tt, after) (x ∷ [], rest)
       (ap (λ o. leaving_as tt o) e) (ap (λ o. made (λ y. y ∷ []) o) f)
 
+  -- a turn of a loop along a list
+  pub listed_turn : Shortens read → (xs ys : List A) (ts after rest : List Token) (x : A) (all : Option (List A × List Token))
+      → Some after ≡ after_sign separator ts → read after ≡ Some (x, rest) → ys ≡ xs ++ x ∷ []
+      → chained (sign separator) append (single read) xs ts ≡ all → chained (sign separator) append (single read) ys rest ≡ all
+  listed_turn shortens xs ys ts after rest x all e f g h =
+      ap (λ zs. chained (sign separator) append (single read) zs rest) g ∙ sym (listed_step shortens xs ts after rest x (sym e) f) ∙ h
+
 module _ {A : Type 0} (separator : Sign) (read : Reader A) (IsA : List Token → A → Type 0) (sound : IsSound read IsA) where
   -- a list of one
   abbrev IsOne : List Token → List A → Type 0

@@ -1,9 +1,8 @@
-use Rattle.std.proofs.Common.{◌≡◌, Some, ◌<◌, length, sym, ◌∙◌, ap}
-use Rattle.vc_syntax.specs.Reading.{chained}
+use Rattle.std.proofs.Common.{sym}
 use Rattle.vc_syntax.specs.TermReading as reads
 use Rattle.vc_syntax.specs.TermReading.{join}
 use Rattle.vc_syntax.specs.Trees.{term_of}
-use Rattle.vc_syntax.proofs.Chains.{chained_step, chain_shorter}
+use Rattle.vc_syntax.proofs.Chains.{chain_turn, chain_shorter}
 use Rattle.vc_syntax.proofs.TermSoundness.{factor_shortens, product_shortens, product_operator_takes, sum_operator_takes}
 use Rattle.vc_syntax.proofs.terms.+terms.Goals as goal
 
@@ -13,14 +12,9 @@ product-loop-operator-smaller t c = chain_shorter reads.product_operator join (r
     (sym c.in-Some.ensures) c.in_ok-right.ensures
 
 pub product-loop-operator-preserved : goal.product-loop-operator-preserved
-product-loop-operator-preserved t c =
-    let step : chained reads.product_operator join (reads.factor c.args.left) (term_of c.loop-operator.term.value) c.loop-operator.rest.now
-        ≡ chained reads.product_operator join (reads.factor c.args.left) (join c.in-Some.operator (term_of c.loop-operator.term.value) (term_of c.in_ok-right.right.value)) c.in_ok-right.after.now
-        = chained_step reads.product_operator join (reads.factor c.args.left) product_operator_takes (factor_shortens c.args.left)
-            (term_of c.loop-operator.term.value) c.loop-operator.rest.now (c.in-Some.operator, c.in-Some.after.now)
-            (term_of c.in_ok-right.right.value, c.in_ok-right.after.now) (sym c.in-Some.ensures) c.in_ok-right.ensures in
-    let made : join c.in-Some.operator (term_of c.loop-operator.term.value) (term_of c.in_ok-right.right.value) ≡ term_of c.in_ok-term-2.term.value = cc (c.in_ok-term-2.ensures) in
-    ap (λ x. chained reads.product_operator join (reads.factor c.args.left) x c.in_ok-right.after.now) (sym made) ∙ sym step ∙ c.loop-operator.invariant
+product-loop-operator-preserved t c = chain_turn reads.product_operator join (reads.factor c.args.left) product_operator_takes (factor_shortens c.args.left)
+    (term_of c.loop-operator.term.value) (term_of c.in_ok-term-2.term.value) c.loop-operator.rest.now (c.in-Some.operator, c.in-Some.after.now)
+    (term_of c.in_ok-right.right.value, c.in_ok-right.after.now) _ c.in-Some.ensures c.in_ok-right.ensures c.in_ok-term-2.ensures c.loop-operator.invariant
 
 pub sum-loop-operator-smaller : goal.sum-loop-operator-smaller
 sum-loop-operator-smaller t c = chain_shorter reads.sum_operator join (reads.product c.args.left) sum_operator_takes (product_shortens c.args.left)
@@ -28,11 +22,6 @@ sum-loop-operator-smaller t c = chain_shorter reads.sum_operator join (reads.pro
     (sym c.in-Some.ensures) c.in_ok-right.ensures
 
 pub sum-loop-operator-preserved : goal.sum-loop-operator-preserved
-sum-loop-operator-preserved t c =
-    let step : chained reads.sum_operator join (reads.product c.args.left) (term_of c.loop-operator.term.value) c.loop-operator.rest.now
-        ≡ chained reads.sum_operator join (reads.product c.args.left) (join c.in-Some.operator (term_of c.loop-operator.term.value) (term_of c.in_ok-right.right.value)) c.in_ok-right.after.now
-        = chained_step reads.sum_operator join (reads.product c.args.left) sum_operator_takes (product_shortens c.args.left)
-            (term_of c.loop-operator.term.value) c.loop-operator.rest.now (c.in-Some.operator, c.in-Some.after.now)
-            (term_of c.in_ok-right.right.value, c.in_ok-right.after.now) (sym c.in-Some.ensures) c.in_ok-right.ensures in
-    let made : join c.in-Some.operator (term_of c.loop-operator.term.value) (term_of c.in_ok-right.right.value) ≡ term_of c.in_ok-term-2.term.value = cc (c.in_ok-term-2.ensures) in
-    ap (λ x. chained reads.sum_operator join (reads.product c.args.left) x c.in_ok-right.after.now) (sym made) ∙ sym step ∙ c.loop-operator.invariant
+sum-loop-operator-preserved t c = chain_turn reads.sum_operator join (reads.product c.args.left) sum_operator_takes (product_shortens c.args.left)
+    (term_of c.loop-operator.term.value) (term_of c.in_ok-term-2.term.value) c.loop-operator.rest.now (c.in-Some.operator, c.in-Some.after.now)
+    (term_of c.in_ok-right.right.value, c.in_ok-right.after.now) _ c.in-Some.ensures c.in_ok-right.ensures c.in_ok-term-2.ensures c.loop-operator.invariant
