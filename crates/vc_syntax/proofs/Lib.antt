@@ -1,4 +1,5 @@
 pub mod Chains
+pub mod ConditionCompleteness
 pub mod ConditionSoundness
 pub mod Lists
 pub mod TermCompleteness
