@@ -1,5 +1,5 @@
 -- Lists with a separator between their members.
-use Rattle.std.proofs.Common.{◌≡◌, ℕ, ◌+◌, ◌<◌, ◌≤◌, List, [], ◌∷◌, ◌++◌, length, Option, Some, None, option_map, refl, sym, ap, subst, ◌∙◌, append_assoc, length-append, arith}
+use Rattle.std.proofs.Common.{◌≡◌, ℕ, ◌+◌, ◌<◌, ◌≤◌, List, [], ◌∷◌, ◌++◌, length, Option, Some, None, option_map, refl, sym, ap, subst, ◌∙◌, append_assoc, length-append, map, arith}
 use Rattle.vc_syntax.specs.declared.token.Token.{Token}
 use Rattle.vc_syntax.specs.declared.token.Sign.{Sign}
 use Rattle.vc_syntax.specs.declared.token.Reserved.{Reserved}
@@ -10,6 +10,10 @@ use Rattle.vc_syntax.specs.ConditionGrammar as grammar
 use Rattle.vc_syntax.specs.ConditionGrammar.{IsListed}
 use Rattle.vc_syntax.proofs.Chains.{Took, IsSound, Reads, Shortens, Takes, reads_takes, map_some, chain_is, chained_step, chain_shorter, chained_stops}
 use Rattle.vc_syntax.proofs.TokenLaws.{after_sign_is, after_word_is, after_sign_again}
+
+map-append : {A B : Type 0} (f : A → B) (xs ys : List A) → map f (xs ++ ys) ≡ map f xs ++ map f ys
+map-append f [] ys = refl
+map-append f (x ∷ xs) ys = ap (λ zs. f x ∷ zs) (map-append f xs ys)
 
 abbrev pub SignStands : Sign → Token → Unit {0} → Type 0
 SignStands which t u = IsSign which t
@@ -57,6 +61,13 @@ module _ {A : Type 0} (separator : Sign) (read : Reader A) where
       → chained (sign separator) append (single read) xs ts ≡ all → chained (sign separator) append (single read) ys rest ≡ all
   listed_turn shortens xs ys ts after rest x all e f g h =
       ap (λ zs. chained (sign separator) append (single read) zs rest) g ∙ sym (listed_step shortens xs ts after rest x (sym e) f) ∙ h
+
+-- the same, where the members in memory are seen as others
+pub listed_turn_seen : {X A : Type 0} (see : X → A) (separator : Sign) (read : Reader A) → Shortens read → (xs ys : List X) (ts after rest : List Token) (x : X)
+    (all : Option (List A × List Token)) → Some after ≡ after_sign separator ts → read after ≡ Some (see x, rest) → ys ≡ xs ++ x ∷ []
+    → chained (sign separator) append (single read) (map see xs) ts ≡ all → chained (sign separator) append (single read) (map see ys) rest ≡ all
+listed_turn_seen see separator read shortens xs ys ts after rest x all e f g h =
+    listed_turn separator read shortens (map see xs) (map see ys) ts after rest (see x) all e f (ap (λ zs. map see zs) g ∙ map-append see xs (x ∷ [])) h
 
 module _ {A : Type 0} (separator : Sign) (read : Reader A) (IsA : List Token → A → Type 0) (sound : IsSound read IsA) where
   -- a list of one

@@ -48,7 +48,7 @@ closed_is {A = A} IsA us read found e sound =
     let P : A × List Token → Type 0 = λ x. (front : List Token) × (t : Token) × (us ≡ front ++ t ∷ x.1) × IsA front x.0 × IsSign signs.CloseParen t in
     subst P q.2 (s.0, r.0, s.1 ∙ ap (λ x. s.0 ++ x) r.1, s.2, r.2)
 
-dotted_is : (ts : List Token) (found : NameLeaf × List Token) → dotted ts ≡ Some found
+pub dotted_is : (ts : List Token) (found : NameLeaf × List Token) → dotted ts ≡ Some found
     → (dot t : Token) × (ts ≡ dot ∷ t ∷ found.1) × IsSign signs.Dot dot × IsName t found.0
 dotted_is ts found e =
     let p : (rest : List Token) × (after_sign signs.Dot ts ≡ Some rest) × (named rest ≡ Some found) = then_some _ _ found e in
@@ -207,3 +207,6 @@ product_operator_takes = reads_takes product_operator IsProductOperator product_
 
 pub sum_operator_takes : Takes sum_operator
 sum_operator_takes = reads_takes sum_operator IsSumOperator sum_operator_is
+
+pub sum_shortens : (left : ℕ) → Shortens (sum left)
+sum_shortens left = sound_shortens (sum left) IsSum (sum_is left)

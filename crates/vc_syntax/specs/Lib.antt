@@ -1,6 +1,8 @@
 pub mod ConditionGrammar
 pub mod ConditionReading
 pub mod Reading
+pub mod StatementGrammar
+pub mod StatementReading
 pub mod TermGrammar
 pub mod TermReading
 pub mod Tokens

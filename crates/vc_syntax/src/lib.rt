@@ -3,6 +3,7 @@
 
 pub mod conditions;
 pub mod reading;
+pub mod statements;
 pub mod terms;
 pub mod token;
 pub mod tree;

@@ -25,7 +25,8 @@ fn owner_of(dollar: Dollar) -> Result<Owner, ReadFault>
     }
 }
 
-fn dotted(alloc: Global, tokens: &[Token]) -> Result<(NameLeaf, &[Token]), ReadFault>
+/// The name behind a dot, and what follows it.
+pub fn dotted(alloc: Global, tokens: &[Token]) -> Result<(NameLeaf, &[Token]), ReadFault>
     ensures { Gives (λ x. (x.0, x.1.now)) result (reads.dotted tokens.now) }
 {
     let rest = after_sign(Sign::Dot, tokens)?;

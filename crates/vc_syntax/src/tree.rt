@@ -130,3 +130,49 @@ pub enum Condition {
     /// `PART_OF ( ?X , ?Y )`.
     PartOf(NameLeaf, NameLeaf),
 }
+
+/// `column = term` in a TABLE.
+#[derive(Debug, Drop)]
+pub struct Binding {
+    pub column: NameLeaf,
+    pub value: Box<Term>,
+}
+
+/// `TABLE T ( A = .. , B = .. )`.
+#[derive(Debug, Drop)]
+pub struct TableCall {
+    pub table: NameLeaf,
+    pub bindings: Listed<Binding>,
+}
+
+/// What a statement of a procedure does.
+#[derive(Debug, Drop)]
+pub enum Action {
+    /// `$SELF.C = term`.
+    Assign(NameLeaf, Box<Term>),
+    SetDefault(NameLeaf, Box<Term>),
+    DelDefault(NameLeaf, Box<Term>),
+    Table(TableCall),
+}
+
+/// A statement of a procedure, with its IF.
+#[derive(Debug, Drop)]
+pub struct Statement {
+    pub action: Action,
+    pub condition: Option<Box<Condition>>,
+}
+
+/// What a constraint demands.
+#[derive(Debug, Drop)]
+pub enum Demand {
+    Relation(Relation),
+    Table(TableCall),
+    False,
+}
+
+/// A demand of a constraint, with its IF.
+#[derive(Debug, Drop)]
+pub struct Restriction {
+    pub demand: Demand,
+    pub condition: Option<Box<Condition>>,
+}
