@@ -167,7 +167,7 @@ word_no_factor : (which : Reserved) (t : Token) (rest : List Token) (n : ℕ) �
 word_no_factor which t rest zero w nothing = refl
 word_no_factor which t rest (suc m) w nothing = ap (λ l. factor_in (factor m) (sum m) l t rest) w ∙ nothing m
 
-word_no_relation : (which : Reserved) (t : Token) (rest : List Token) (n : ℕ) → IsWord which t
+pub word_no_relation : (which : Reserved) (t : Token) (rest : List Token) (n : ℕ) → IsWord which t
     → ((m : ℕ) → factor_in (factor m) (sum m) (lexemes.Reserved which) t rest ≡ None) → relation n (t ∷ rest) ≡ None
 word_no_relation which t rest n w nothing = no_factor_no_relation n (t ∷ rest) (word_no_factor which t rest n w nothing) (ap (λ l. operand_in l t rest) w)
 

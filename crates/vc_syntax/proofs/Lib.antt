@@ -2,6 +2,7 @@ pub mod Chains
 pub mod ConditionCompleteness
 pub mod ConditionSoundness
 pub mod Lists
+pub mod StatementCompleteness
 pub mod StatementSoundness
 pub mod TermCompleteness
 pub mod TermSoundness

@@ -29,7 +29,7 @@ use Rattle.vc_syntax.proofs.TermSoundness.{factor_shortens, product_shortens, pr
 abbrev pub EndsName : List Token → Type 0
 EndsName rest = after_sign signs.Dot rest ≡ None
 
-dotted_again : (dot u : Token) (name : NameLeaf) (rest : List Token) → IsSign signs.Dot dot → IsName u name → dotted (dot ∷ u ∷ rest) ≡ Some (name, rest)
+pub dotted_again : (dot u : Token) (name : NameLeaf) (rest : List Token) → IsSign signs.Dot dot → IsName u name → dotted (dot ∷ u ∷ rest) ≡ Some (name, rest)
 dotted_again dot u name rest d e = ap (λ o. then o named) (after_sign_again signs.Dot dot (u ∷ rest) d) ∙ named_again u rest name e
 
 plain_again : (l : Lexeme) (t : Token) (rest : List Token) (name : NameLeaf) → name_in l t.start t.end ≡ Some name → IsName t name
@@ -62,7 +62,7 @@ operand_some _ _ (grammar.owned w d e) = omega arith
 operand_some _ _ (grammar.member v d e) = omega arith
 operand_some _ _ (grammar.variable v) = omega arith
 
-reads_self_and_name : (ts : List Token) (name : NameLeaf) → IsSelfAndName ts name → (rest : List Token) → self_and_name (ts ++ rest) ≡ Some (name, rest)
+pub reads_self_and_name : (ts : List Token) (name : NameLeaf) → IsSelfAndName ts name → (rest : List Token) → self_and_name (ts ++ rest) ≡ Some (name, rest)
 reads_self_and_name _ _ (grammar.self_and_name {opening = a} {self = b} {comma = c} {t = t} {name = name} p q r e) rest =
     ap (λ o. then o (λ first. then (after_self first) (λ second. then (after_sign signs.Comma second) named))) (after_sign_again signs.OpenParen a (b ∷ c ∷ t ∷ rest) p)
     ∙ ap (λ o. then o (λ second. then (after_sign signs.Comma second) named)) (after_self_again b (c ∷ t ∷ rest) q)
@@ -125,7 +125,7 @@ operand_factor_at n [] rest o h e = absurd (cc)
 operand_factor_at n (t ∷ ts) rest o h e = factor_at n t ts _ h (λ m f. operand_factor (factor m) (sum m) t.lexeme t ts rest o e e)
 
 -- a sum between parentheses
-sum_closed : (m : ℕ) (ts : List Token) (closing : Token) (rest : List Token) (term : Term) → IsSign signs.CloseParen closing
+pub sum_closed : (m : ℕ) (ts : List Token) (closing : Token) (rest : List Token) (term : Term) → IsSign signs.CloseParen closing
     → sum m (ts ++ closing ∷ rest) ≡ chained sum_operator join (product m) term (closing ∷ rest)
     → closed (sum m ((ts ++ closing ∷ []) ++ rest)) ≡ Some (term, rest)
 sum_closed m ts closing rest term e h = let ends : EndsName (closing ∷ rest) × (product_operator (closing ∷ rest) ≡ None) × (sum_operator (closing ∷ rest) ≡ None) = close_ends closing rest e in
