@@ -3,7 +3,7 @@ use Rattle.std.proofs.Common.{◌≡◌, ℕ, ◌+◌, ◌<◌, ◌≤◌, List,
 use Rattle.vc_syntax.specs.declared.token.Token.{Token}
 use Rattle.vc_syntax.specs.declared.token.Sign.{Sign}
 use Rattle.vc_syntax.specs.declared.token.Reserved.{Reserved}
-use Rattle.vc_syntax.specs.Tokens.{after_sign, after_word}
+use Rattle.vc_syntax.specs.Leaves.{after_sign, after_word}
 use Rattle.vc_syntax.specs.Reading.{Reader, then, made, leaving_as, sign, word, append, single, listed, chained, chain}
 use Rattle.vc_syntax.specs.TermGrammar.{IsSign, IsWord}
 use Rattle.vc_syntax.specs.ConditionGrammar as grammar

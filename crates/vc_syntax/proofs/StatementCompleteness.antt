@@ -9,7 +9,7 @@ use Rattle.vc_syntax.specs.declared.token.Dollar.{Dollar}
 use Rattle.vc_syntax.specs.declared.token.Dollar.TheVariants as dollars
 use Rattle.vc_syntax.specs.declared.token.Reserved.TheVariants as words
 use Rattle.vc_syntax.specs.declared.tree.NameLeaf.{NameLeaf}
-use Rattle.vc_syntax.specs.Tokens.{is_sign, is_word, after_sign, after_word, named}
+use Rattle.vc_syntax.specs.Leaves.{is_sign, is_word, after_sign, after_word, named}
 use Rattle.vc_syntax.specs.Reading.{then, either, made, leaving, leaving_as, closed, grouped, sign, word, append, single, listed, chained}
 use Rattle.vc_syntax.specs.TermReading.{product_operator_in, sum_operator_in, product_operator, sum_operator, dotted, self_and_name, sum}
 use Rattle.vc_syntax.specs.ConditionReading.{any, relation, conjunction, condition}

@@ -7,7 +7,7 @@ use Rattle.vc_syntax.specs.declared.token.Sign.TheVariants as signs
 use Rattle.vc_syntax.specs.declared.token.Dollar.TheVariants as dollars
 use Rattle.vc_syntax.specs.declared.token.Reserved.TheVariants as words
 use Rattle.vc_syntax.specs.declared.tree.NameLeaf.{NameLeaf}
-use Rattle.vc_syntax.specs.Tokens.{after_sign, after_word, named}
+use Rattle.vc_syntax.specs.Leaves.{after_sign, after_word, named}
 use Rattle.vc_syntax.specs.Reading.{then, either, made, closed, grouped, listed}
 use Rattle.vc_syntax.specs.TermReading.{dotted, self_and_name, sum}
 use Rattle.vc_syntax.specs.ConditionReading.{relation, condition}

@@ -14,7 +14,7 @@ use Rattle.vc_syntax.specs.declared.tree.Operand.{Operand}
 use Rattle.vc_syntax.specs.declared.tree.Operand.TheVariants as operands
 use Rattle.vc_syntax.specs.declared.tree.Operator.{Operator}
 use Rattle.vc_syntax.specs.declared.tree.Function.{Function}
-use Rattle.vc_syntax.specs.Tokens.{is_sign, name_in, variable_in, text_in, number_in, name_of, variable_of, text_of, number_of, after_sign, after_self, named}
+use Rattle.vc_syntax.specs.Leaves.{is_sign, name_in, variable_in, text_in, number_in, name_of, variable_of, text_of, number_of, after_sign, after_self, named}
 use Rattle.vc_syntax.specs.Reading.{Reader, then, either, made, leaving, closed, grouped, chain, chained}
 use Rattle.vc_syntax.specs.Trees as trees
 use Rattle.vc_syntax.specs.Trees.{Term}

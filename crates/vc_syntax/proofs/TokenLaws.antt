@@ -10,7 +10,7 @@ use Rattle.vc_syntax.specs.declared.token.Sign.{Sign}
 use Rattle.vc_syntax.specs.declared.token.Reserved.{Reserved}
 use Rattle.vc_syntax.specs.declared.token.Dollar.TheVariants.{Itself}
 use Rattle.vc_syntax.specs.declared.tree.NameLeaf.{NameLeaf}
-use Rattle.vc_syntax.specs.Tokens.{is_sign, is_word, is_self, after_sign, after_word, after_self, named, name_of}
+use Rattle.vc_syntax.specs.Leaves.{is_sign, is_word, is_self, after_sign, after_word, after_self, named, name_of}
 use Rattle.vc_syntax.specs.TermGrammar.{IsSign, IsWord, IsDollar, IsName}
 use Rattle.vc_syntax.proofs.Chains.{Reads, map_some}
 

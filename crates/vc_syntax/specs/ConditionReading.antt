@@ -13,7 +13,7 @@ use Rattle.vc_syntax.specs.declared.tree.Item.{Item}
 use Rattle.vc_syntax.specs.declared.tree.Item.TheVariants as items
 use Rattle.vc_syntax.specs.declared.tree.Relator.{Relator}
 use Rattle.vc_syntax.specs.declared.tree.Relator.TheVariants as relators
-use Rattle.vc_syntax.specs.Tokens.{text_of, number_of, variable_of, after_sign, after_word}
+use Rattle.vc_syntax.specs.Leaves.{text_of, number_of, variable_of, after_sign, after_word}
 use Rattle.vc_syntax.specs.Reading.{Reader, then, either, or_else, made, leaving, leaving_as, closed, grouped, word, chain, listed}
 use Rattle.vc_syntax.specs.TermReading.{operand, sum}
 use Rattle.vc_syntax.specs.Trees as trees

@@ -1,9 +1,9 @@
 pub mod ConditionGrammar
 pub mod ConditionReading
+pub mod Leaves
 pub mod Reading
 pub mod StatementGrammar
 pub mod StatementReading
 pub mod TermGrammar
 pub mod TermReading
-pub mod Tokens
 pub mod Trees

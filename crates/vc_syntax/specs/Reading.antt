@@ -6,7 +6,7 @@ use Rattle.vc_syntax.specs.declared.token.Token.{Token}
 use Rattle.vc_syntax.specs.declared.token.Sign.TheVariants.{OpenParen, CloseParen}
 use Rattle.vc_syntax.specs.declared.token.Sign.{Sign}
 use Rattle.vc_syntax.specs.declared.token.Reserved.{Reserved}
-use Rattle.vc_syntax.specs.Tokens.{after_sign, after_word}
+use Rattle.vc_syntax.specs.Leaves.{after_sign, after_word}
 
 -- what the call answers, seen by view, is what there is to read, unless memory ran out
 abbrev pub Gives : {X Y : Type 0} → (X → Y) → Result X ReadFault → Option Y → Type 0

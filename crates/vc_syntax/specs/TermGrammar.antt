@@ -15,7 +15,7 @@ use Rattle.vc_syntax.specs.declared.tree.Operand.{Operand}
 use Rattle.vc_syntax.specs.declared.tree.Operand.TheVariants.{Plain, Owned, Member, Variable}
 use Rattle.vc_syntax.specs.declared.tree.Operator.{Operator}
 use Rattle.vc_syntax.specs.declared.tree.Function.{Function}
-use Rattle.vc_syntax.specs.Tokens.{name_of, variable_of, text_of, number_of}
+use Rattle.vc_syntax.specs.Leaves.{name_of, variable_of, text_of, number_of}
 use Rattle.vc_syntax.specs.TermReading.{owner_of, function_of, product_operator_in, sum_operator_in}
 use Rattle.vc_syntax.specs.Trees as trees
 use Rattle.vc_syntax.specs.Trees.{Term}

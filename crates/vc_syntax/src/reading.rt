@@ -2,7 +2,7 @@
 
 ghost use Rattle.std.specs.Prelude.{◌≡◌};
 ghost use Rattle.std.specs.Option.{option_copied};
-ghost use Rattle.vc_syntax.specs.Tokens.{name_of, variable_of, text_of, number_of, after_self, after_sign, after_word, named};
+ghost use Rattle.vc_syntax.specs.Leaves.{name_of, variable_of, text_of, number_of, after_self, after_sign, after_word, named};
 ghost use Rattle.vc_syntax.specs.Reading.{Gives};
 
 use crate::token::{Dollar, Lexeme, Reserved, Sign, Token};
