@@ -3,6 +3,7 @@
 
 pub mod fault;
 pub mod lexing;
+pub mod limits;
 pub mod spelling;
 pub mod token;
 
