@@ -2,3 +2,4 @@ pub mod Spellings
 pub mod Lexemes
 pub mod Tokens
 pub mod Limits
+pub mod Texts

@@ -4,6 +4,7 @@
 pub mod fault;
 pub mod lexing;
 pub mod limits;
+pub mod printing;
 pub mod spelling;
 pub mod token;
 

@@ -1,4 +1,5 @@
 pub mod CutLemmas
 pub mod DigitLemmas
 pub mod GrainLemmas
+pub mod NumeralLemmas
 pub mod PowerLemmas
