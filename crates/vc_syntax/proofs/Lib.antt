@@ -1,3 +1,5 @@
+pub mod LexemesAgain
 pub mod Lengths
 pub mod Quotes
+pub mod TextsAgain
 pub mod TokensFrom

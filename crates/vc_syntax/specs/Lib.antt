@@ -3,3 +3,4 @@ pub mod Lexemes
 pub mod Tokens
 pub mod Limits
 pub mod Texts
+pub mod Written
