@@ -1,5 +1,5 @@
 -- What stands at the front of a text is told apart from what follows it.
-use Rattle.std.proofs.Common.{◌≡◌, ℕ, ◌+◌, ◌<◌, ◌≤◌, ◌≢◌, Bool, true, false, not, List, [], ◌∷◌, ◌++◌, length, take, map, cond, Option, Some, None, Result, Ok, Err, refl, ap, sym, ◌∙◌, subst, arith, length-append}
+use Rattle.std.proofs.Common.{◌≡◌, ℕ, ◌+◌, Bool, true, false, List, [], ◌∷◌, ◌++◌, length, take, map, cond, Option, Some, None, Err, refl, ap, sym, ◌∙◌, subst, arith, length-append}
 use Rattle.std.specs.Prelude.{◌==◌, ◌&&◌, ◌||◌, nat_le, nat_lt, option_map}
 use Rattle.std.specs.List.{prefix_len, list_all}
 use Rattle.std.specs.Char.{to_ascii_uppercase}
@@ -8,20 +8,19 @@ use Rattle.std.proofs.lemmas.Slice.Eq.{bytes_eq-Decides}
 use Rattle.std.proofs.Math.Seq.{take-append_seam}
 use Rattle.vc_value.specs.Names.{begins_name, is_name_byte, is_name, ends_name}
 use Rattle.vc_value.proofs.GrainLemmas.{both}
+use Rattle.vc_value.proofs.NumeralLaws.{prefix_stops}
 use Rattle.vc_syntax.specs.declared.token.Lexeme.{Lexeme}
-use Rattle.vc_syntax.specs.declared.token.Lexeme.TheVariants.{Name, Reserved, Variable, Dollar, Text, Number, Sign}
+use Rattle.vc_syntax.specs.declared.token.Lexeme.TheVariants.{Name, Reserved, Variable, Dollar, Text, Sign}
 use Rattle.vc_syntax.specs.declared.token.Reserved as words
 use Rattle.vc_syntax.specs.declared.token.Reserved.TheVariants as word
 use Rattle.vc_syntax.specs.declared.token.Dollar as words_of_dollar
 use Rattle.vc_syntax.specs.declared.token.Dollar.TheVariants as dollar
 use Rattle.vc_syntax.specs.declared.token.Sign as signs
 use Rattle.vc_syntax.specs.declared.token.Sign.TheVariants as sign
-use Rattle.vc_syntax.specs.declared.fault.SyntaxKind.{SyntaxKind}
 use Rattle.vc_syntax.specs.declared.fault.SyntaxKind.TheVariants.{NameTooLong, UnknownWord, TextTooLong}
-use Rattle.vc_syntax.specs.declared.lexing.Lexed.{Lexed}
 use Rattle.vc_syntax.specs.Spellings.{reserved_spelling, reserved_of, dollar_spelling, dollar_of, sign_spelling}
-use Rattle.vc_syntax.specs.Lexemes.{lexeme_at, lexed, lexeme_of_word, name_at, name_length, word_at, named, text_at, text_lexed, text_before_quote, closing_length, is_text, dollar_lexed, variable_at, begins_with_name}
-use Rattle.vc_syntax.specs.Texts.{is_dot, doubled, doubled_byte, quoted}
+use Rattle.vc_syntax.specs.Lexemes.{lexeme_at, lexed, lexeme_of_word, name_at, name_length, word_at, named, text_lexed, text_before_quote, closing_length, is_text, dollar_lexed, begins_with_name}
+use Rattle.vc_syntax.specs.Texts.{is_dot, doubled, quoted}
 use Rattle.vc_syntax.specs.Written.{is_upper, is_unreserved}
 
 -- no lexeme but a dot goes on into these bytes
@@ -41,21 +40,13 @@ end_cases P none space line dot (byte ∷ bytes) h =
     elim (byte == 32) as (λ a. (byte == 32) ≡ a → (a || (byte == 10 || (byte == 46 && begins_with_name bytes))) ≡ true → P (byte ∷ bytes)) [
       | true ↦ λ e h. subst (λ b. P (b ∷ bytes)) (sym (eqb-true byte 32 e)) (space bytes)
       | false ↦ λ e h. elim (byte == 10) as (λ a. (byte == 10) ≡ a → (a || (byte == 46 && begins_with_name bytes)) ≡ true → P (byte ∷ bytes)) [
-          | true ↦ λ e h. subst (λ b. P (b ∷ bytes)) (sym (eqb-true byte 10 e)) (line bytes)
-          | false ↦ λ e h. elim (byte == 46) as (λ a. (byte == 46) ≡ a → (a && begins_with_name bytes) ≡ true → P (byte ∷ bytes)) [
-              | true ↦ λ e h. subst (λ b. P (b ∷ bytes)) (sym (eqb-true byte 46 e)) (dot bytes h)
-              | false ↦ λ e h. absurd (cc)
-            ] refl h
+        | true ↦ λ e h. subst (λ b. P (b ∷ bytes)) (sym (eqb-true byte 10 e)) (line bytes)
+        | false ↦ λ e h. elim (byte == 46) as (λ a. (byte == 46) ≡ a → (a && begins_with_name bytes) ≡ true → P (byte ∷ bytes)) [
+          | true ↦ λ e h. subst (λ b. P (b ∷ bytes)) (sym (eqb-true byte 46 e)) (dot bytes h)
+          | false ↦ λ e h. absurd (cc)
         ] refl h
+      ] refl h
     ] refl h
-
--- a run of bytes that pass, before one that doesn't
-pub prefix_stops : (p : ℕ → Bool) (front rest : List ℕ) → list_all p front ≡ true → prefix_len p rest ≡ 0 → prefix_len p (front ++ rest) ≡ length front
-prefix_stops p [] rest all none = none
-prefix_stops p (byte ∷ front) rest all none =
-    let passes : (p byte ≡ true) × (list_all p front ≡ true) = both (p byte) (list_all p front) all in
-    let more : prefix_len p (front ++ rest) ≡ length front = prefix_stops p front rest passes.1 none in
-    rw passes.0 (omega (arith, more))
 
 pub names_end : (rest : List ℕ) → is_end rest ≡ true → prefix_len is_name_byte rest ≡ 0
 names_end = end_cases (λ rest. prefix_len is_name_byte rest ≡ 0) refl (λ bytes. refl) (λ bytes. refl) (λ bytes h. refl)
@@ -166,9 +157,10 @@ sign_lexes sign.Slash rest ends = end_cases (λ rest. lexeme_at (sign_spelling s
 -- a text between its quotes is read again
 pub text_again : (t rest : List ℕ) → is_end rest ≡ true
     → (text_before_quote false ((doubled t ++ 39 ∷ []) ++ rest) ≡ Some t) × (closing_length false ((doubled t ++ 39 ∷ []) ++ rest) ≡ length (doubled t) + 1)
-text_again [] rest ends =
-    (end_cases (λ rest. text_before_quote false (39 ∷ rest) ≡ Some []) refl (λ bytes. refl) (λ bytes. refl) (λ bytes h. refl) rest ends,
-     end_cases (λ rest. closing_length false (39 ∷ rest) ≡ 1) refl (λ bytes. refl) (λ bytes. refl) (λ bytes h. refl) rest ends)
+text_again [] rest ends = (
+  end_cases (λ rest. text_before_quote false (39 ∷ rest) ≡ Some []) refl (λ bytes. refl) (λ bytes. refl) (λ bytes h. refl) rest ends,
+  end_cases (λ rest. closing_length false (39 ∷ rest) ≡ 1) refl (λ bytes. refl) (λ bytes. refl) (λ bytes h. refl) rest ends,
+)
 text_again (byte ∷ t) rest ends =
     let after : List ℕ = (doubled t ++ 39 ∷ []) ++ rest in
     let more : (text_before_quote false after ≡ Some t) × (closing_length false after ≡ length (doubled t) + 1) = text_again t rest ends in

@@ -1,18 +1,13 @@
 -- The canonical text of lexemes is cut into the same lexemes again.
-use Rattle.std.proofs.Common.{◌≡◌, ◌≢◌, ℕ, ◌+◌, ◌-◌, ◌<◌, ◌≤◌, Bool, true, false, not, List, [], ◌∷◌, ◌++◌, length, drop, map, get_or, cond, Option, Some, None, Result, Ok, Err, refl, ap, sym, ◌∙◌, subst, arith, append_assoc, length-append}
+use Rattle.std.proofs.Common.{◌≡◌, ℕ, ◌+◌, ◌-◌, ◌<◌, ◌≤◌, Bool, true, false, not, List, [], ◌∷◌, ◌++◌, length, drop, map, get_or, cond, Result, Ok, Err, refl, ap, sym, ◌∙◌, arith, length-append}
 use Rattle.std.specs.Prelude.{◌==◌, ◌&&◌, ◌||◌}
-use Rattle.std.proofs.lemmas.Bool.{eqb-true}
 use Rattle.std.proofs.Math.Seq.{drop-append_seam}
 use Rattle.std.specs.Char.{is_ascii_digit}
 use Rattle.vc_value.specs.Names.{begins_name, is_name, ends_name}
-use Rattle.vc_value.specs.declared.decimal.Dec.{Dec}
-use Rattle.vc_value.specs.Numerals.{number_text}
 use Rattle.vc_value.proofs.GrainLemmas.{both}
 use Rattle.vc_syntax.specs.declared.token.Token.{Token}
 use Rattle.vc_syntax.specs.declared.token.Lexeme.{Lexeme}
 use Rattle.vc_syntax.specs.declared.token.Lexeme.TheVariants.{Name, Reserved, Variable, Dollar, Text, Number, Sign}
-use Rattle.vc_syntax.specs.declared.token.Reserved.TheVariants as word
-use Rattle.vc_syntax.specs.declared.token.Sign as signs
 use Rattle.vc_syntax.specs.declared.token.Sign.TheVariants as sign
 use Rattle.vc_syntax.specs.declared.fault.SyntaxFault.{SyntaxFault}
 use Rattle.vc_syntax.specs.declared.lexing.Place.{Place}
@@ -20,13 +15,12 @@ use Rattle.vc_syntax.specs.declared.lexing.Place.TheVariants.{LineStart, Inside,
 use Rattle.vc_syntax.specs.Spellings.{reserved_of, reserved_spelling, dollar_spelling}
 use Rattle.vc_syntax.specs.Lexemes.{lexeme_at, lexed, begins_with_name}
 use Rattle.vc_syntax.specs.Tokens.{tokens_from, tokens_of, is_gap, token_at, token_of}
-use Rattle.vc_syntax.specs.Texts.{doubled, lexeme_text, text_of, gap, gap_after, is_dot, is_period}
-use Rattle.vc_syntax.specs.Written.{is_lexeme, is_upper, is_unreserved, is_unsigned, is_word, is_star, stands_before, stand_together, begins_no_comment, are_lexemes}
+use Rattle.vc_syntax.specs.Texts.{doubled, lexeme_text, text_of, gap_after, is_dot, is_period}
+use Rattle.vc_syntax.specs.Written.{is_lexeme, is_upper, is_unreserved, is_word, is_star, stands_before, stand_together, begins_no_comment, are_lexemes}
 use Rattle.vc_syntax.proofs.LexemesAgain.{reserved_again, is_end, suits, name_lexes, reserved_lexes, variable_lexes, dollar_lexes, text_lexes, sign_lexes}
+use Rattle.vc_value.proofs.NumeralLaws.{apart}
+use Rattle.vc_syntax.proofs.NumbersAgain.{number_lexes, number_begins}
 use Rattle.vc_syntax.proofs.TokensFrom.{after, token_step, passes_gap}
-
-pub number_lexes : (d : Dec) (rest : List ℕ) → is_unsigned d ≡ true → is_end rest ≡ true → lexeme_at (number_text d ++ rest) ≡ lexed (Number d) (length (number_text d))
-number_lexes d rest good ends = ?
 
 -- a lexeme is read again
 lexeme_again : (l : Lexeme) (rest : List ℕ) → is_lexeme l ≡ true → suits l rest ≡ true → lexeme_at (lexeme_text l ++ rest) ≡ lexed l (length (lexeme_text l))
@@ -42,13 +36,6 @@ lexeme_again (Dollar d) rest good ends = dollar_lexes d rest ends
 lexeme_again (Text t) rest good ends = text_lexes t rest good ends
 lexeme_again (Number d) rest good ends = number_lexes d rest good ends
 lexeme_again (Sign s) rest good ends = sign_lexes s rest ends
-
--- a byte that passes a test isn't one that doesn't
-apart : (p : ℕ → Bool) (byte other : ℕ) → p byte ≡ true → p other ≡ false → (byte == other) ≡ false
-apart p byte other passes fails = elim (byte == other) as (λ b. (byte == other) ≡ b → (byte == other) ≡ false) [
-    | true ↦ λ e. absurd (let same : byte ≡ other = eqb-true byte other e in cc)
-    | false ↦ λ e. e
-  ] refl
 
 -- a list of lexemes may stand at the place
 may_stand : Place → List Lexeme → Bool
@@ -70,9 +57,6 @@ unfolding Begins
 word_first l w name other =
     let first = name_begins w name in
     (first.0, first.1, first.2, (apart begins_name first.0 32 first.3 refl, apart begins_name first.0 10 first.3 refl, apart begins_name first.0 42 first.3 refl ∙ sym other))
-
-number_begins : (d : Dec) → is_unsigned d ≡ true → (byte : ℕ) × (more : List ℕ) × (number_text d ≡ byte ∷ more) × (is_ascii_digit byte ≡ true)
-number_begins d good = ?
 
 first_byte : (l : Lexeme) → is_lexeme l ≡ true → (byte : ℕ) × (more : List ℕ) × (lexeme_text l ≡ byte ∷ more) × Begins l byte
 unfolding Begins
@@ -148,14 +132,14 @@ stands_apart l (m ∷ ms) before together =
     elim (is_dot l) as (λ d. (not d || is_word m) ≡ true → cond d (begins_with_name (cond (d || is_dot m) [] (cond (is_period l) (10 ∷ []) (32 ∷ [])) ++ text)) (is_end (cond (d || is_dot m) [] (cond (is_period l) (10 ∷ []) (32 ∷ [])) ++ text)) ≡ true) [
       | true ↦ λ h. word_begins m (gap_after m ms ++ text_of ms) next.0 h
       | false ↦ λ h. elim (is_dot m) as (λ d. is_dot m ≡ d → is_end (cond d [] (cond (is_period l) (10 ∷ []) (32 ∷ [])) ++ text) ≡ true) [
-          | true ↦ λ e.
-              let suited : suits m (gap_after m ms ++ text_of ms) ≡ true = stands_apart m ms next.1 parts.1 in
-              ap (λ t. is_end (t ++ (gap_after m ms ++ text_of ms))) (dot_is m e) ∙ sym (ap (λ d. cond d (begins_with_name (gap_after m ms ++ text_of ms)) (is_end (gap_after m ms ++ text_of ms))) e) ∙ suited
-          | false ↦ λ e. elim (is_period l) as (λ p. is_end (cond p (10 ∷ []) (32 ∷ []) ++ text) ≡ true) [
-              | true ↦ refl
-              | false ↦ refl
-            ]
-        ] refl
+        | true ↦ λ e.
+            let suited : suits m (gap_after m ms ++ text_of ms) ≡ true = stands_apart m ms next.1 parts.1 in
+            ap (λ t. is_end (t ++ (gap_after m ms ++ text_of ms))) (dot_is m e) ∙ sym (ap (λ d. cond d (begins_with_name (gap_after m ms ++ text_of ms)) (is_end (gap_after m ms ++ text_of ms))) e) ∙ suited
+        | false ↦ λ e. elim (is_period l) as (λ p. is_end (cond p (10 ∷ []) (32 ∷ []) ++ text) ≡ true) [
+          | true ↦ refl
+          | false ↦ refl
+        ]
+      ] refl
     ] word
 
 -- the gap behind a lexeme is passed, and what follows may stand there
@@ -194,15 +178,16 @@ again (l ∷ ls) place start together stands =
     let same : token.end - start ≡ length text = omega arith in
     let most : token.end ≤ start + length (text ++ rest) = omega (arith, length-append {A = ℕ}) in
     let passed = gap_passed l ls token.end here.1 in
-    let more = again ls passed.0 passed.1 parts.1 passed.3 in
-    (token ∷ more.0,
-     sym (after_none (tokens_from place start 0 (text ++ rest)))
-     ∙ token_step [] place start (text ++ rest) token front first.1 found some most
-     ∙ ap (after (token ∷ [])) (
-        ap (λ n. tokens_from Inside token.end 0 (drop n (text ++ rest))) same
-        ∙ ap (tokens_from Inside token.end 0) (drop-append_seam text rest)
-        ∙ passed.2 ∙ more.1),
-      ap (λ lexemes. l ∷ lexemes) more.2)
+    let more = again ls passed.0 passed.1 parts.1 passed.3 in (
+      token ∷ more.0,
+      sym (after_none (tokens_from place start 0 (text ++ rest)))
+          ∙ token_step [] place start (text ++ rest) token front first.1 found some most
+          ∙ ap (after (token ∷ [])) (
+          ap (λ n. tokens_from Inside token.end 0 (drop n (text ++ rest))) same
+          ∙ ap (tokens_from Inside token.end 0) (drop-append_seam text rest)
+          ∙ passed.2 ∙ more.1),
+      ap (λ lexemes. l ∷ lexemes) more.2,
+    )
 
 -- lexemes that some text has are the lexemes of their canonical text
 pub texts_again : (ls : List Lexeme) → are_lexemes ls ≡ true → (tokens : List Token) × (tokens_of (text_of ls) ≡ Ok tokens) × (map (λ t. t.lexeme) tokens ≡ ls)

@@ -1,13 +1,22 @@
 //! From lexemes to their canonical text.
 
-ghost use Rattle.std.specs.Prelude.{◌≡◌, ◌++◌, IfOk, OnOk};
+ghost use Rattle.std.specs.Prelude.{◌≡◌, ◌++◌, true, List, Ok, map, IfOk, OnOk};
 ghost use Rattle.vc_value.specs.Numerals.{number_text};
+ghost use Rattle.vc_syntax.specs.declared.token.Lexeme.{Lexeme};
+ghost use Rattle.vc_syntax.specs.declared.token.Token.{Token};
+ghost use Rattle.vc_syntax.specs.Tokens.{tokens_of};
+ghost use Rattle.vc_syntax.specs.Written.{are_lexemes};
 ghost use Rattle.vc_syntax.specs.Texts as texts;
 
 use crate::spelling::{dollar_spelling, reserved_spelling, sign_spelling};
 use crate::token::{Lexeme, Sign};
 use std::alloc::{AllocError, Global};
 use vc_value::{Dec, Word};
+
+/// The canonical text of lexemes that some text has is cut into the same lexemes again.
+pub fn text_is_cut_again()
+    ensures { (lexemes : List Lexeme) → are_lexemes lexemes ≡ true → (tokens : List Token) × (tokens_of (texts.text_of lexemes) ≡ Ok tokens) × (map (λ token. token.lexeme) tokens ≡ lexemes) }
+{}
 
 // Puts a text's byte, a quote twice.
 fn put_text_byte(out: &mut Word, byte: u8) -> Result<(), AllocError>

@@ -1,6 +1,8 @@
 //! How numbers are printed.
 
-ghost use Rattle.std.specs.Prelude.{◌≡◌, ◌++◌, ◌+◌, ◌*◌, ◌/◌, ◌<◌, ◌^◌, OnOk, IfOk};
+ghost use Rattle.std.specs.Prelude.{◌≡◌, ◌++◌, ◌+◌, ◌*◌, ◌/◌, ◌<◌, ◌^◌, Ok, unsigned_abs, OnOk, IfOk};
+ghost use Rattle.vc_value.specs.Decimals.{read_number};
+ghost use Rattle.vc_value.specs.declared.decimal.Dec.{Dec};
 ghost use Rattle.vc_value.specs.Numerals.{fraction_digits, fraction_text, magnitude_text, minus_text, number_text};
 ghost use Rattle.std.specs.Fmt.{decimal};
 
@@ -23,6 +25,11 @@ impl Dec {
         Ok(text)
     }
 }
+
+/// A printed number is read again as the same number.
+pub fn printed_is_read()
+    ensures { (number : Dec) → unsigned_abs number.millionths < 10 ^ 15 → read_number (number_text number) ≡ Ok number }
+{}
 
 fn put_minus(text: &mut Word, millionths: i64) -> Result<(), AllocError>
     ensures { OnOk result (text.new ≡ text.old ++ minus_text millionths) }
