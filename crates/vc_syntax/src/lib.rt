@@ -2,10 +2,16 @@
 #![tactic(auto)]
 
 pub mod conditions;
+pub mod fault;
+pub mod lexing;
+pub mod limits;
+pub mod printing;
 pub mod reading;
+pub mod spelling;
 pub mod statements;
 pub mod terms;
 pub mod token;
 pub mod tree;
 
+pub use fault::{Kind, SyntaxFault, SyntaxKind};
 pub use token::{Dollar, Lexeme, Reserved, Sign, Token};

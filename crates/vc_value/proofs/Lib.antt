@@ -1,4 +1,6 @@
 pub mod CutLemmas
 pub mod DigitLemmas
 pub mod GrainLemmas
+pub mod NumeralLaws
+pub mod NumeralLemmas
 pub mod PowerLemmas
