@@ -2,4 +2,6 @@ pub mod CutLaws
 pub mod CutLemmas
 pub mod DigitLemmas
 pub mod GrainLemmas
+pub mod NumeralLaws
+pub mod NumeralLemmas
 pub mod PowerLemmas

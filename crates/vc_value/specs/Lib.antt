@@ -2,3 +2,4 @@ pub mod Decimals
 pub mod Grains
 pub mod Words
 pub mod Names
+pub mod Numerals

@@ -5,6 +5,7 @@ pub mod decimal;
 pub mod grains;
 pub mod listed;
 pub mod names;
+pub mod numeral;
 pub mod table_header;
 pub mod value;
 pub mod word;

@@ -5,13 +5,14 @@ ghost use Rattle.std.specs.List.{list_all};
 ghost use Rattle.vc_value.specs.Names as spelled;
 
 /// Whether a name may begin with the byte: a letter or `_`.
-fn begins_name(byte: u8) -> bool
+pub fn begins_name(byte: u8) -> bool
     ensures { result ≡ spelled.begins_name byte }
 {
     byte.is_ascii_alphabetic() || byte == b'_'
 }
 
-fn is_name_byte(byte: u8) -> bool
+/// Whether a name may go on with the byte: a letter, a digit or `_`.
+pub fn is_name_byte(byte: u8) -> bool
     ensures { result ≡ spelled.is_name_byte byte }
 {
     byte.is_ascii_alphanumeric() || byte == b'_'

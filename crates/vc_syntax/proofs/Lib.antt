@@ -1,0 +1,15 @@
+pub mod Chains
+pub mod ConditionCompleteness
+pub mod ConditionSoundness
+pub mod Lengths
+pub mod LexemesAgain
+pub mod Lists
+pub mod NumbersAgain
+pub mod Quotes
+pub mod StatementCompleteness
+pub mod StatementSoundness
+pub mod TermCompleteness
+pub mod TermSoundness
+pub mod TextsAgain
+pub mod TokenLaws
+pub mod TokensFrom

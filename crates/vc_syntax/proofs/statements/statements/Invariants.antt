@@ -1,0 +1,12 @@
+use Rattle.std.proofs.Common.{◌≡◌, length, map}
+use Rattle.vc_syntax.specs.Reading.{append, single, sign, chained, listed}
+use Rattle.vc_syntax.specs.StatementReading as reads
+use Rattle.vc_syntax.specs.Trees.{statement_of}
+use Rattle.vc_syntax.specs.declared.token.Sign.TheVariants as signs
+use Rattle.vc_syntax.proofs.statements.statements.Given as goal
+
+abbrev pub invariant-loop-after : goal.invariant-loop-after
+invariant-loop-after l = chained (sign signs.Comma) append (single (reads.statement l.left)) (map statement_of l.statements) l.rest ≡ listed signs.Comma (reads.statement l.left) l.tokens
+
+abbrev pub decreases-loop-after : goal.decreases-loop-after
+decreases-loop-after l = length l.rest

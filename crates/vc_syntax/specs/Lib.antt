@@ -1,0 +1,15 @@
+pub mod ConditionGrammar
+pub mod ConditionReading
+pub mod Leaves
+pub mod Lexemes
+pub mod Limits
+pub mod Reading
+pub mod Spellings
+pub mod StatementGrammar
+pub mod StatementReading
+pub mod TermGrammar
+pub mod TermReading
+pub mod Texts
+pub mod Tokens
+pub mod Trees
+pub mod Written
