@@ -14,6 +14,7 @@ pub use decimal::{Dec, NumFault};
 pub use grains::{Grain, GrainList};
 pub use listed::Listed;
 pub use names::{is_name, is_session_name};
+pub use numeral::printed_is_read;
 pub use table_header::{Column, Domain, Entry, TableHeader};
 pub use value::Value;
 pub use word::{Word, equals_ignoring_case};

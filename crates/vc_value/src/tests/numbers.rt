@@ -30,6 +30,22 @@ fn reads_numbers(rt: HostRuntime) {
     }
 }
 
+#[test]
+fn prints_numbers(rt: HostRuntime) -> Result<(), Fail> {
+    for (millionths, want) in [
+        (0, "0"),
+        (7_000_001, "7.000001"),
+        (-1_500_000, "-1.5"),
+        (-1, "-0.000001"),
+        (100_000_000, "100"),
+        (-999_999_999_999_999, "-999999999.999999"),
+    ] {
+        let text = Dec { millionths }.print(rt.alloc())?;
+        assert!(rt; text.is(want.as_bytes()), "{want}");
+    }
+    Ok(())
+}
+
 fn grain(low: i64, high: i64) -> Grain
     ensures { result ≡ interval low high }
 {
