@@ -6,11 +6,9 @@ ghost use Rattle.vc_plan.specs.First.Laws.{GivesMonotonely, SettlesLeast};
 /// there: so it doesn't matter in which order rules are applied.
 pub fn giving_is_monotone()
     ensures { GivesMonotonely }
-{
-}
+{}
 
 /// What is settled stands in every closed set: settling adds nothing that needn't be.
 pub fn settling_is_least()
     ensures { SettlesLeast }
-{
-}
+{}
