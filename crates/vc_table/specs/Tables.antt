@@ -26,6 +26,10 @@ abbrev pub text_number : List Entry → List ℕ → Option ℕ
 text_number [] text = None
 text_number (entry ∷ entries) text = if same_bytes entry.text text then Some entry.number else text_number entries text
 
+-- texts with their numbers as entries
+abbrev pub entries_of : {K : Type 0} → (K → List ℕ) → List (K × ℕ) → List Entry
+entries_of text pairs = map (λ pair. record { text = text pair.0; number = pair.1 }) pairs
+
 -- a number that was read, if a grain holds it and it has no more decimals than these
 abbrev pub number_in : ℕ → List Grain → Result Dec NumFault → Option Value
 number_in decimals grains (Ok n) = if has_decimals decimals n && is_some (position (holds n) grains) then Some (Num n) else None

@@ -6,29 +6,62 @@ ghost use Rattle.vc_value.specs.Decimals.{read_number};
 ghost use Rattle.vc_value.specs.declared.value.Value.TheVariants as values;
 ghost use Rattle.vc_table.specs.Tables.{text_number, number_in, value_of, values_of, are_names};
 
+use crate::text_index::TextIndex;
 use csv::ByteRecord;
 use std::alloc::{AllocError, Global};
-use vc_value::{Column, Dec, Domain, Entry, GrainList, Value, equals_ignoring_case};
+use std::marker::Model;
+use vc_value::{Column, Dec, Domain, GrainList, Value, equals_ignoring_case};
 
-// The value of the column's list that a field writes.
-fn value_of(column: &Column, field: &[u8]) -> Option<Value>
-    ensures { result ≡ value_of column.now field.now }
-{
-    match &column.domain {
-        Domain::Texts(_) => text_in(column.texts.as_slice(), field),
-        Domain::Nums { decimals, grains } => number_in(*decimals, grains, field),
+/// A column with an index of its texts, which a contract sees as the column.
+#[derive(Drop)]
+pub(crate) struct IndexedColumn<'a> {
+    column: &'a Column,
+    texts: TextIndex,
+}
+
+impl<'a> Model for IndexedColumn<'a> {
+    ghost use Rattle.std.specs.Prelude.{◌≡◌, ℕ, List};
+    ghost use Rattle.vc_value.specs.declared.table_header.Column.{Column as Seen};
+    ghost use Rattle.vc_table.specs.Tables.{text_number};
+
+    ghost Value = { Seen };
+
+    ghost view = { λ c. c.column.now };
+
+    ghost invariant = { λ c. (text : List ℕ) → text_number c.texts text ≡ text_number c.column.now.texts text };
+}
+
+impl<'a> IndexedColumn<'a> {
+    fn new(alloc: Global, column: &'a Column) -> Result<IndexedColumn<'a>, AllocError>
+        ensures { IfOk result (λ indexed. indexed ≡ column.now) }
+    {
+        let texts = TextIndex::new(alloc, column.texts.as_slice())?;
+        Ok(IndexedColumn { column, texts })
+    }
+
+    // The value of the column's list that a field writes.
+    fn value_of(&self, field: &[u8]) -> Option<Value>
+        ensures { result ≡ value_of self.now field.now }
+    {
+        match &self.column.domain {
+            Domain::Texts(_) => Some(Value::Text(self.texts.find(field)?)),
+            Domain::Nums { decimals, grains } => number_in(*decimals, grains, field),
+        }
     }
 }
 
-fn text_in(entries: &[Entry], text: &[u8]) -> Option<Value>
-    ensures { result ≡ option_map values.Text (text_number entries.now text.now) }
+// The columns, each with an index of its texts.
+pub(crate) fn index_columns<'a>(
+    alloc: Global,
+    columns: &'a [Column],
+) -> Result<Vec<IndexedColumn<'a>>, AllocError>
+    ensures { IfOk result (λ indexed. indexed.items ≡ columns.now) }
 {
-    for entry in entries {
-        if entry.text.is(text) {
-            return Some(Value::Text(entry.number));
-        }
+    let mut indexed = Vec::new(alloc);
+    for column in columns {
+        indexed.push(IndexedColumn::new(alloc, column)?)?;
     }
-    None
+    Ok(indexed)
 }
 
 fn number_in(decimals: u8, grains: &GrainList, text: &[u8]) -> Option<Value>
@@ -45,7 +78,7 @@ fn number_in(decimals: u8, grains: &GrainList, text: &[u8]) -> Option<Value>
 // The values that the fields of a record write, or none where one writes none.
 pub(crate) fn values_of(
     alloc: Global,
-    columns: &[Column],
+    columns: &[IndexedColumn],
     row: &ByteRecord,
 ) -> Result<Option<Vec<Value>>, AllocError>
     requires { length (fields_of row.now) ≡ length columns.now }
@@ -56,7 +89,7 @@ pub(crate) fn values_of(
         let Some(field) = row.get(index) else {
             return Ok(None);
         };
-        let Some(value) = value_of(column, field) else {
+        let Some(value) = column.value_of(field) else {
             return Ok(None);
         };
         cells.push(value)?;

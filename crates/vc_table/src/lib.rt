@@ -5,6 +5,7 @@ mod cells;
 mod csv_records;
 mod keys;
 pub mod table;
+mod text_index;
 
 pub use table::{Row, TableFault, VariantTable, read_table};
 

@@ -6,7 +6,7 @@ ghost use Rattle.vc_table.specs.Records.{records_of};
 ghost use Rattle.vc_table.specs.Tables.{cells_of, has_keys, is_among, key_of, rows_from, rows_of};
 ghost use Rattle.vc_table.specs.declared.table.TableFault.TheVariants as faults;
 
-use crate::cells::{are_names, values_of};
+use crate::cells::{IndexedColumn, are_names, index_columns, values_of};
 use crate::csv_records::all_records;
 use crate::keys::{Keys, has_keys, key_of};
 use csv::ByteRecord;
@@ -83,11 +83,12 @@ fn read_rows(
     ensures ok { IfOk result (λ rows. rows_from columns.now 2 [] (map fields_of records.now) ≡ Ok rows) }
     ensures err { IfErr result (λ fault. fault ≢ TableFault.OutOfMemory → rows_from columns.now 2 [] (map fields_of records.now) ≡ Err fault) }
 {
+    let indexed = index_columns(alloc, columns)?;
     let mut rows = Listed::new(alloc);
     let mut keys = Keys::new(alloc);
     for (index, record) in records.iter().enumerate() {
         let number = index as u32 + 2;
-        let cells = read_cells(alloc, columns, number, record)?;
+        let cells = read_cells(alloc, &indexed, number, record)?;
         if repeats(alloc, columns, &mut keys, &cells)? {
             return Err(TableFault::DoubleKey { row: number });
         }
@@ -101,7 +102,7 @@ fn read_rows(
 // The cells of one record.
 fn read_cells(
     alloc: Global,
-    columns: &[Column],
+    columns: &[IndexedColumn],
     number: u32,
     row: &ByteRecord,
 ) -> Result<Vec<Value>, TableFault>
