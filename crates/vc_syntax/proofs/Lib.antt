@@ -1,6 +1,7 @@
 pub mod Chains
 pub mod ConditionCompleteness
 pub mod ConditionSoundness
+pub mod ConstraintCompleteness
 pub mod ConstraintSoundness
 pub mod Lengths
 pub mod LexemesAgain
