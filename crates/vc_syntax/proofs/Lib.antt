@@ -1,6 +1,8 @@
 pub mod Chains
 pub mod ConditionCompleteness
 pub mod ConditionSoundness
+pub mod ConstraintCompleteness
+pub mod ConstraintSoundness
 pub mod Lengths
 pub mod LexemesAgain
 pub mod Lists

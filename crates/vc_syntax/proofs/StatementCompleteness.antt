@@ -9,19 +9,19 @@ use Rattle.vc_syntax.specs.declared.token.Dollar.{Dollar}
 use Rattle.vc_syntax.specs.declared.token.Dollar.TheVariants as dollars
 use Rattle.vc_syntax.specs.declared.token.Reserved.TheVariants as words
 use Rattle.vc_syntax.specs.declared.tree.NameLeaf.{NameLeaf}
-use Rattle.vc_syntax.specs.Leaves.{is_sign, is_word, after_sign, after_word, named}
+use Rattle.vc_syntax.specs.Leaves.{is_sign, is_word, after_sign, after_word, named, any_named}
 use Rattle.vc_syntax.specs.Reading.{then, either, made, leaving, leaving_as, closed, grouped, sign, word, append, single, listed, chained}
 use Rattle.vc_syntax.specs.TermReading.{product_operator_in, sum_operator_in, product_operator, sum_operator, dotted, self_and_name, sum}
 use Rattle.vc_syntax.specs.ConditionReading.{any, relation, conjunction, condition}
 use Rattle.vc_syntax.specs.StatementReading.{bind, call, state, demand, binding, table_call, assignment, defaulted, action_in, action, condition_if, statement, demand_in, demanded, restriction}
 use Rattle.vc_syntax.specs.Trees as trees
 use Rattle.vc_syntax.specs.Trees.{Term, Relation, Condition, Binding, TableCall, Action, Statement, Demand, Restriction}
-use Rattle.vc_syntax.specs.TermGrammar.{IsSign, IsWord, IsDollar, IsName, IsSelfAndName, IsSum}
+use Rattle.vc_syntax.specs.TermGrammar.{IsSign, IsWord, IsDollar, IsName, IsAnyName, IsSelfAndName, IsSum}
 use Rattle.vc_syntax.specs.ConditionGrammar.{IsListed, IsRelation, IsCondition}
 use Rattle.vc_syntax.specs.StatementGrammar as grammar
 use Rattle.vc_syntax.specs.StatementGrammar.{IsBinding, IsTable, IsAction, IsIf, IsStatement, IsDemand, IsRestriction}
 use Rattle.vc_syntax.proofs.Chains.{chained_stops}
-use Rattle.vc_syntax.proofs.TokenLaws.{after_sign_again, after_word_again, named_again}
+use Rattle.vc_syntax.proofs.TokenLaws.{after_sign_again, after_word_again, named_again, any_named_again}
 use Rattle.vc_syntax.proofs.Lists.{reads_whole_list}
 use Rattle.vc_syntax.proofs.TermCompleteness.{EndsName, closed_again, close_ends, dotted_again, reads_self_and_name}
 use Rattle.vc_syntax.proofs.ConditionCompleteness.{EndsTerm, reads_whole_sum, word_ends, word_no_relation, relation_again, reads_condition}
@@ -62,11 +62,11 @@ comma_ends t rest e = (((ap (λ l. cond (is_sign signs.Dot l) (Some rest) None) 
     ap (λ l. cond (is_word words.And l) (Some rest) None) e, ap (λ l. cond (is_word words.Or l) (Some rest) None) e),
     ap (λ l. cond (is_word words.If l) (Some rest) None) e)
 
-called_again : (u opening : Token) (ts : List Token) (closing : Token) (table : NameLeaf) (xs : List Binding) → IsName u table → IsSign signs.OpenParen opening
+called_again : (u opening : Token) (ts : List Token) (closing : Token) (table : NameLeaf) (xs : List Binding) → IsAnyName u table → IsSign signs.OpenParen opening
     → IsListed signs.Comma IsBinding ts xs → IsSign signs.CloseParen closing → (n : ℕ) → length ts ≤ n → (rest : List Token)
     → table_call n (u ∷ opening ∷ ((ts ++ closing ∷ []) ++ rest)) ≡ Some (call table xs, rest)
 called_again u opening ts closing table xs a b d c n h rest =
-    ap (λ o. then o (λ x. made (call x.0) (grouped (listed signs.Comma (binding n)) x.1))) (named_again u (opening ∷ ((ts ++ closing ∷ []) ++ rest)) table a)
+    ap (λ o. then o (λ x. made (call x.0) (grouped (listed signs.Comma (binding n)) x.1))) (any_named_again u (opening ∷ ((ts ++ closing ∷ []) ++ rest)) table a)
     ∙ ap (λ o. made (call table) (then o (λ r. closed (listed signs.Comma (binding n) r)))) (after_sign_again signs.OpenParen opening ((ts ++ closing ∷ []) ++ rest) b)
     ∙ ap (λ y. made (call table) (closed (listed signs.Comma (binding n) y))) (append_assoc ts (closing ∷ []) rest)
     ∙ ap (λ o. made (call table) (closed o)) (reads_whole_list signs.Comma (binding n) IsBinding (binding_shortens n) n EndsTerm

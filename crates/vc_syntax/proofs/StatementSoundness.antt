@@ -7,19 +7,19 @@ use Rattle.vc_syntax.specs.declared.token.Sign.TheVariants as signs
 use Rattle.vc_syntax.specs.declared.token.Dollar.TheVariants as dollars
 use Rattle.vc_syntax.specs.declared.token.Reserved.TheVariants as words
 use Rattle.vc_syntax.specs.declared.tree.NameLeaf.{NameLeaf}
-use Rattle.vc_syntax.specs.Leaves.{after_sign, after_word, named}
+use Rattle.vc_syntax.specs.Leaves.{after_sign, after_word, named, any_named}
 use Rattle.vc_syntax.specs.Reading.{then, either, made, closed, grouped, listed}
 use Rattle.vc_syntax.specs.TermReading.{dotted, self_and_name, sum}
 use Rattle.vc_syntax.specs.ConditionReading.{relation, condition}
 use Rattle.vc_syntax.specs.StatementReading.{bind, call, state, demand, binding, table_call, assignment, defaulted, action_in, action, condition_if, statement, demand_in, demanded, restriction}
 use Rattle.vc_syntax.specs.Trees as trees
 use Rattle.vc_syntax.specs.Trees.{Term, Relation, Condition, Binding, TableCall, Action, Statement, Demand, Restriction}
-use Rattle.vc_syntax.specs.TermGrammar.{IsSign, IsWord, IsDollar, IsName, IsSelfAndName, IsSum}
+use Rattle.vc_syntax.specs.TermGrammar.{IsSign, IsWord, IsDollar, IsName, IsAnyName, IsSelfAndName, IsSum}
 use Rattle.vc_syntax.specs.ConditionGrammar.{IsListed, IsRelation, IsCondition}
 use Rattle.vc_syntax.specs.StatementGrammar as grammar
 use Rattle.vc_syntax.specs.StatementGrammar.{IsBinding, IsTable, IsAction, IsIf, IsStatement, IsDemand, IsRestriction}
 use Rattle.vc_syntax.proofs.Chains.{Took, IsSound, Shortens, sound_shortens, then_some, map_some, either_some}
-use Rattle.vc_syntax.proofs.TokenLaws.{after_sign_is, after_word_is, named_is}
+use Rattle.vc_syntax.proofs.TokenLaws.{after_sign_is, after_word_is, named_is, any_named_is}
 use Rattle.vc_syntax.proofs.Lists.{listed_is}
 use Rattle.vc_syntax.proofs.TermSoundness.{made_is, closed_is, dotted_is, self_and_name_is, sum_is}
 use Rattle.vc_syntax.proofs.ConditionSoundness.{relation_is, condition_is}
@@ -39,10 +39,10 @@ binding_shortens left = sound_shortens (binding left) IsBinding (binding_is left
 
 table_call_is : (left : ℕ) (t : Token) (ts : List Token) (found : TableCall × List Token) → IsWord words.Table t → table_call left ts ≡ Some found → Took IsTable (t ∷ ts) found
 table_call_is left t ts found w e = let P : TableCall × List Token → Type 0 = λ x. Took IsTable (t ∷ ts) x in
-    let a : (x : NameLeaf × List Token) × (named ts ≡ Some x) × (made (call x.0) (grouped (listed signs.Comma (binding left)) x.1) ≡ Some found) = then_some _ _ found e in
+    let a : (x : NameLeaf × List Token) × (any_named ts ≡ Some x) × (made (call x.0) (grouped (listed signs.Comma (binding left)) x.1) ≡ Some found) = then_some _ _ found e in
     let b : (x : List Binding × List Token) × (grouped (listed signs.Comma (binding left)) a.0.1 ≡ Some x) × ((call a.0.0 x.0, x.1) ≡ found) = map_some _ _ found a.2 in
     let c : (rest : List Token) × (after_sign signs.OpenParen a.0.1 ≡ Some rest) × (closed (listed signs.Comma (binding left) rest) ≡ Some b.0) = then_some _ _ b.0 b.1 in
-    let a' : (t : Token) × (ts ≡ t ∷ a.0.1) × IsName t a.0.0 = named_is ts a.0 a.1 in
+    let a' : (t : Token) × (ts ≡ t ∷ a.0.1) × IsAnyName t a.0.0 = any_named_is ts a.0 a.1 in
     let c' : (t : Token) × (a.0.1 ≡ t ∷ c.0) × IsSign signs.OpenParen t = after_sign_is signs.OpenParen a.0.1 c.0 c.1 in
     let d : (front : List Token) × (u : Token) × (c.0 ≡ front ++ u ∷ b.0.1) × IsListed signs.Comma IsBinding front b.0.0 × IsSign signs.CloseParen u
         = closed_is (IsListed signs.Comma IsBinding) c.0 _ b.0 c.2 (listed_is signs.Comma (binding left) IsBinding (binding_is left) c.0) in

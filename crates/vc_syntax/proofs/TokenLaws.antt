@@ -10,8 +10,8 @@ use Rattle.vc_syntax.specs.declared.token.Sign.{Sign}
 use Rattle.vc_syntax.specs.declared.token.Reserved.{Reserved}
 use Rattle.vc_syntax.specs.declared.token.Dollar.TheVariants.{Itself}
 use Rattle.vc_syntax.specs.declared.tree.NameLeaf.{NameLeaf}
-use Rattle.vc_syntax.specs.Leaves.{is_sign, is_word, is_self, after_sign, after_word, after_self, named, name_of}
-use Rattle.vc_syntax.specs.TermGrammar.{IsSign, IsWord, IsDollar, IsName}
+use Rattle.vc_syntax.specs.Leaves.{is_sign, is_word, is_self, after_sign, after_word, after_self, named, any_named, name_of, any_name_of}
+use Rattle.vc_syntax.specs.TermGrammar.{IsSign, IsWord, IsDollar, IsName, IsAnyName}
 use Rattle.vc_syntax.proofs.Chains.{Reads, map_some}
 
 pub cond_some : {A : Type 0} (b : Bool) (x y : A) → cond b (Some x) None ≡ Some y → (b ≡ true) × (x ≡ y)
@@ -49,6 +49,14 @@ pub named_is : Reads named IsName
 named_is [] found e = absurd (cc)
 named_is (t ∷ ts) found e = let p : (name : NameLeaf) × (name_of t ≡ Some name) × ((name, ts) ≡ found) = map_some (name_of t) _ found e in
     (t, ap (λ x. t ∷ x.1) p.2, p.1 ∙ ap (λ x. Some x.0) p.2)
+
+pub any_named_is : Reads any_named IsAnyName
+any_named_is [] found e = absurd (cc)
+any_named_is (t ∷ ts) found e = let p : (name : NameLeaf) × (any_name_of t ≡ Some name) × ((name, ts) ≡ found) = map_some (any_name_of t) _ found e in
+    (t, ap (λ x. t ∷ x.1) p.2, p.1 ∙ ap (λ x. Some x.0) p.2)
+
+pub any_named_again : (t : Token) (ts : List Token) (name : NameLeaf) → IsAnyName t name → any_named (t ∷ ts) ≡ Some (name, ts)
+any_named_again t ts name e = ap (λ o. option_map (λ x. (x, ts)) o) e
 
 -- the other way round
 pub after_sign_again : (sign : Sign) (t : Token) (ts : List Token) → IsSign sign t → after_sign sign (t ∷ ts) ≡ Some ts

@@ -5,6 +5,7 @@ use Rattle.vc_syntax.specs.contracts.token.Sign.{the_type as sign_type}
 use Rattle.vc_syntax.specs.contracts.token.Reserved.{the_type as word_type}
 use Rattle.vc_syntax.specs.declared.token.Sign.{Sign}
 use Rattle.vc_syntax.specs.declared.token.Reserved.{Reserved}
+use Rattle.vc_syntax.specs.Spellings.{reserved_spelling}
 use Rattle.vc_syntax.specs.declared.token.Token.{Token}
 use Rattle.vc_syntax.specs.declared.token.Lexeme.{Lexeme}
 use Rattle.vc_syntax.specs.declared.token.Lexeme.TheVariants as lexemes
@@ -19,6 +20,19 @@ name_in _ start end = None
 
 abbrev pub name_of : Token → Option NameLeaf
 name_of t = name_in t.lexeme t.start t.end
+
+-- a name that may be a reserved word, as that of a table or a class
+abbrev pub any_name_in : Lexeme → ℕ → ℕ → Option NameLeaf
+any_name_in (lexemes.Name name) start end = Some (record { name = name; start = start; end = end })
+any_name_in (lexemes.Reserved word) start end = Some (record { name = reserved_spelling word; start = start; end = end })
+any_name_in _ start end = None
+
+abbrev pub any_name_of : Token → Option NameLeaf
+any_name_of t = any_name_in t.lexeme t.start t.end
+
+abbrev pub any_named : List Token → Option (NameLeaf × List Token)
+any_named [] = None
+any_named (t ∷ ts) = option_map (λ name. (name, ts)) (any_name_of t)
 
 abbrev pub variable_in : Lexeme → ℕ → ℕ → Option NameLeaf
 variable_in (lexemes.Variable name) start end = Some (record { name = name; start = start; end = end })

@@ -1,5 +1,7 @@
 pub mod ConditionGrammar
 pub mod ConditionReading
+pub mod ConstraintGrammar
+pub mod ConstraintReading
 pub mod Leaves
 pub mod Lexemes
 pub mod Limits

@@ -5,7 +5,7 @@ use Rattle.vc_syntax.specs.declared.token.Sign.TheVariants.{OpenParen, ClosePare
 use Rattle.vc_syntax.specs.declared.token.Dollar.TheVariants as dollars
 use Rattle.vc_syntax.specs.declared.token.Reserved.TheVariants as words
 use Rattle.vc_syntax.specs.declared.tree.NameLeaf.{NameLeaf}
-use Rattle.vc_syntax.specs.TermGrammar.{IsSign, IsWord, IsDollar, IsName, IsSelfAndName, IsSum}
+use Rattle.vc_syntax.specs.TermGrammar.{IsSign, IsWord, IsDollar, IsName, IsAnyName, IsSelfAndName, IsSum}
 use Rattle.vc_syntax.specs.ConditionGrammar.{IsListed, IsRelation, IsCondition}
 use Rattle.vc_syntax.specs.StatementReading.{bind, call, state, demand}
 use Rattle.vc_syntax.specs.Trees as trees
@@ -19,7 +19,7 @@ pub data IsBinding : List Token → Binding → Type 0 where
 -- table = TABLE name ( name = term {, name = term} )
 pub data IsTable : List Token → TableCall → Type 0 where
   called : (t u opening : Token) (ts : List Token) (closing : Token) {table : NameLeaf} {bindings : List Binding}
-      → IsWord words.Table t → IsName u table → IsSign OpenParen opening → IsListed Comma IsBinding ts bindings → IsSign CloseParen closing
+      → IsWord words.Table t → IsAnyName u table → IsSign OpenParen opening → IsListed Comma IsBinding ts bindings → IsSign CloseParen closing
       → IsTable (t ∷ u ∷ opening ∷ (ts ++ closing ∷ [])) (call table bindings)
 
 -- $SELF dot name = term | $SET_DEFAULT ( $SELF , name , term ) | $DEL_DEFAULT ( $SELF , name , term ) | table

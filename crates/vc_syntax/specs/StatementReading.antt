@@ -7,7 +7,7 @@ use Rattle.vc_syntax.specs.declared.token.Sign.TheVariants as signs
 use Rattle.vc_syntax.specs.declared.token.Dollar.TheVariants as dollars
 use Rattle.vc_syntax.specs.declared.token.Reserved.TheVariants as words
 use Rattle.vc_syntax.specs.declared.tree.NameLeaf.{NameLeaf}
-use Rattle.vc_syntax.specs.Leaves.{after_sign, after_word, named}
+use Rattle.vc_syntax.specs.Leaves.{after_sign, after_word, named, any_named}
 use Rattle.vc_syntax.specs.Reading.{Reader, then, either, made, closed, grouped, listed}
 use Rattle.vc_syntax.specs.TermReading.{dotted, self_and_name, sum}
 use Rattle.vc_syntax.specs.ConditionReading.{relation, condition}
@@ -31,7 +31,7 @@ binding left ts = then (named ts) (λ column. then (after_sign signs.Equal colum
 
 -- what stands behind TABLE
 abbrev pub table_call : ℕ → Reader TableCall
-table_call left ts = then (named ts) (λ table. made (call table.0) (grouped (listed signs.Comma (binding left)) table.1))
+table_call left ts = then (any_named ts) (λ table. made (call table.0) (grouped (listed signs.Comma (binding left)) table.1))
 
 -- what stands behind `$SELF`
 abbrev pub assignment : ℕ → Reader Action

@@ -15,7 +15,7 @@ use Rattle.vc_syntax.specs.declared.tree.Operand.{Operand}
 use Rattle.vc_syntax.specs.declared.tree.Operand.TheVariants.{Plain, Owned, Member, Variable}
 use Rattle.vc_syntax.specs.declared.tree.Operator.{Operator}
 use Rattle.vc_syntax.specs.declared.tree.Function.{Function}
-use Rattle.vc_syntax.specs.Leaves.{name_of, variable_of, text_of, number_of}
+use Rattle.vc_syntax.specs.Leaves.{name_of, any_name_of, variable_of, text_of, number_of}
 use Rattle.vc_syntax.specs.TermReading.{owner_of, function_of, product_operator_in, sum_operator_in}
 use Rattle.vc_syntax.specs.Trees as trees
 use Rattle.vc_syntax.specs.Trees.{Term}
@@ -33,6 +33,10 @@ IsDollar dollar t = t.lexeme ≡ lexemes.Dollar dollar
 -- the token is this name, this variable, this text, this number
 abbrev pub IsName : Token → NameLeaf → Type 0
 IsName t name = name_of t ≡ Some name
+
+-- the token is this name, which may be a reserved word
+abbrev pub IsAnyName : Token → NameLeaf → Type 0
+IsAnyName t name = any_name_of t ≡ Some name
 
 abbrev pub IsVariable : Token → NameLeaf → Type 0
 IsVariable t name = variable_of t ≡ Some name

@@ -16,6 +16,10 @@ use Rattle.vc_syntax.specs.declared.tree.Statement.{Statement as StoredStatement
 use Rattle.vc_syntax.specs.declared.tree.Demand.{Demand as StoredDemand}
 use Rattle.vc_syntax.specs.declared.tree.Demand.TheVariants as stored_demands
 use Rattle.vc_syntax.specs.declared.tree.Restriction.{Restriction as StoredRestriction}
+use Rattle.vc_syntax.specs.declared.tree.Object.{Object}
+use Rattle.vc_syntax.specs.declared.tree.Constraint.{Constraint as StoredConstraint}
+use Rattle.vc_syntax.specs.declared.tree.Dependency.{Dependency as StoredDependency}
+use Rattle.vc_syntax.specs.declared.tree.Dependency.TheVariants as stored_dependencies
 use Rattle.vc_syntax.specs.declared.tree.Relation.{Relation as StoredRelation}
 use Rattle.vc_syntax.specs.declared.tree.Relation.TheVariants.{Compared as StoredCompared, Within as StoredWithin}
 use Rattle.vc_syntax.specs.declared.tree.Condition.{Condition as StoredCondition, Or' as StoredOr, And' as StoredAnd, Not' as StoredNot, Relation as StoredRelated, Specified as StoredSpecified, PartOf as StoredPartOf}
@@ -124,3 +128,28 @@ demand_of stored_demands.False = Never
 
 abbrev pub restriction_of : StoredRestriction → Restriction
 restriction_of restriction = record { demand = demand_of restriction.demand; condition = option_map (λ boxed. condition_of boxed.value) restriction.condition }
+
+-- a constraint
+pub record Constraint : Type 0 where
+  pub objects : List Object
+  pub condition : Option Condition
+  pub restrictions : List Restriction
+  pub inferences : List OperandLeaf
+
+pub data Dependency : Type 0 where
+  Precondition : Condition → Dependency
+  Selection : Condition → Dependency
+  Procedure : List Statement → Dependency
+  Constrains : Constraint → Dependency
+  Counts : Term → Dependency
+
+abbrev pub constraint_of : StoredConstraint → Constraint
+constraint_of constraint = record { objects = constraint.objects; condition = option_map (λ boxed. condition_of boxed.value) constraint.condition;
+    restrictions = map restriction_of constraint.restrictions; inferences = constraint.inferences }
+
+abbrev pub dependency_of : StoredDependency → Dependency
+dependency_of (stored_dependencies.Precondition condition) = Precondition (condition_of condition.value)
+dependency_of (stored_dependencies.Selection condition) = Selection (condition_of condition.value)
+dependency_of (stored_dependencies.Procedure statements) = Procedure (map statement_of statements)
+dependency_of (stored_dependencies.Constraint constraint) = Constrains (constraint_of constraint)
+dependency_of (stored_dependencies.Term term) = Counts (term_of term.value)

@@ -2,6 +2,7 @@
 #![tactic(auto)]
 
 pub mod conditions;
+pub mod constraints;
 pub mod fault;
 pub mod lexing;
 pub mod limits;

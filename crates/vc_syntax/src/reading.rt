@@ -2,9 +2,10 @@
 
 ghost use Rattle.std.specs.Prelude.{◌≡◌};
 ghost use Rattle.std.specs.Option.{option_copied};
-ghost use Rattle.vc_syntax.specs.Leaves.{name_of, variable_of, text_of, number_of, after_self, after_sign, after_word, named};
+ghost use Rattle.vc_syntax.specs.Leaves.{name_of, any_name_of, any_named, variable_of, text_of, number_of, after_self, after_sign, after_word, named};
 ghost use Rattle.vc_syntax.specs.Reading.{Gives};
 
+use crate::spelling::reserved_spelling;
 use crate::token::{Dollar, Lexeme, Reserved, Sign, Token};
 use crate::tree::{NameLeaf, NumberLeaf, TextLeaf};
 use std::alloc::{AllocError, AllocFailed, Global};
@@ -50,6 +51,29 @@ pub fn name_leaf(alloc: Global, token: &Token) -> Result<NameLeaf, ReadFault>
             Ok(NameLeaf { name, start: token.start, end: token.end })
         }
         _ => Err(ReadFault::Ungrammatical),
+    }
+}
+
+/// The name that the token is, where it may be a reserved word.
+pub fn any_name_leaf(alloc: Global, token: &Token) -> Result<NameLeaf, ReadFault>
+    ensures { Gives (λ leaf. leaf) result (any_name_of token.now) }
+{
+    match &token.lexeme {
+        Lexeme::Reserved(word) => {
+            let name = Word::from_bytes(alloc, reserved_spelling(*word).as_bytes())?;
+            Ok(NameLeaf { name, start: token.start, end: token.end })
+        }
+        _ => name_leaf(alloc, token),
+    }
+}
+
+/// The name in front, where it may be a reserved word, and what follows it.
+pub fn any_named(alloc: Global, tokens: &[Token]) -> Result<(NameLeaf, &[Token]), ReadFault>
+    ensures { Gives (λ x. (x.0, x.1.now)) result (any_named tokens.now) }
+{
+    match tokens {
+        [token, rest @ ..] => Ok((any_name_leaf(alloc, token)?, rest)),
+        [] => Err(ReadFault::Ungrammatical),
     }
 }
 

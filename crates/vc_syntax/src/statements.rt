@@ -8,7 +8,7 @@ ghost use Rattle.vc_syntax.specs.Trees.{term_of, condition_of, binding_of, table
 ghost use Rattle.vc_syntax.specs.declared.token.Sign.TheVariants as signs;
 
 use crate::conditions::{condition, relation};
-use crate::reading::{ReadFault, after_sign, named, sign_ahead, word_ahead};
+use crate::reading::{ReadFault, after_sign, any_named, named, sign_ahead, word_ahead};
 use crate::terms::{dotted, self_and_name, sum};
 use crate::token::{Dollar, Lexeme, Reserved, Sign, Token};
 use crate::tree::{Action, Binding, Condition, Demand, NameLeaf, Restriction, Statement, TableCall, Term};
@@ -41,7 +41,7 @@ fn bindings(alloc: Global, tokens: &[Token], left: u32) -> Result<(Listed<Bindin
 fn table_call(alloc: Global, tokens: &[Token], left: u32) -> Result<(TableCall, &[Token]), ReadFault>
     ensures { Gives (λ x. (table_call_of x.0, x.1.now)) result (reads.table_call left tokens.now) }
 {
-    let (table, rest) = named(alloc, tokens)?;
+    let (table, rest) = any_named(alloc, tokens)?;
     let rest = after_sign(Sign::OpenParen, rest)?;
     let (bindings, rest) = bindings(alloc, rest, left)?;
     let rest = after_sign(Sign::CloseParen, rest)?;

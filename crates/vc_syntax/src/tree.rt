@@ -176,3 +176,46 @@ pub struct Restriction {
     pub demand: Demand,
     pub condition: Option<Box<Condition>>,
 }
+
+/// What an object of a constraint is.
+#[derive(Debug, Drop)]
+pub enum ObjectKind {
+    /// `IS_A ( 300 ) C`: an object of the class.
+    Class(NameLeaf),
+    /// `IS_OBJECT ( MATERIAL ) ( 300 ) ( NR = 'M' )`: the material.
+    Material(TextLeaf),
+}
+
+/// `?V = C` in a WHERE: the variable that stands for the object's characteristic.
+#[derive(Debug, Drop)]
+pub struct Alias {
+    pub variable: NameLeaf,
+    pub characteristic: NameLeaf,
+}
+
+/// An object of a constraint.
+#[derive(Debug, Drop)]
+pub struct Object {
+    pub variable: NameLeaf,
+    pub kind: ObjectKind,
+    pub aliases: Listed<Alias>,
+}
+
+/// A constraint. It infers nothing where it has no INFERENCES.
+#[derive(Debug, Drop)]
+pub struct Constraint {
+    pub objects: Listed<Object>,
+    pub condition: Option<Box<Condition>>,
+    pub restrictions: Listed<Restriction>,
+    pub inferences: Listed<Operand>,
+}
+
+/// A dependency of some kind.
+#[derive(Debug, Drop)]
+pub enum Dependency {
+    Precondition(Box<Condition>),
+    Selection(Box<Condition>),
+    Procedure(Listed<Statement>),
+    Constraint(Constraint),
+    Term(Box<Term>),
+}

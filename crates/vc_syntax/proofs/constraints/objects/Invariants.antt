@@ -1,0 +1,11 @@
+use Rattle.std.proofs.Common.{◌≡◌, length}
+use Rattle.vc_syntax.specs.ConstraintReading as reads
+use Rattle.vc_syntax.specs.Reading.{append, single, sign, chained, listed}
+use Rattle.vc_syntax.specs.declared.token.Sign.TheVariants as signs
+use Rattle.vc_syntax.proofs.constraints.objects.Given as goal
+
+abbrev pub invariant-loop-after : goal.invariant-loop-after
+invariant-loop-after l = chained (sign signs.Comma) append (single reads.object) l.objects l.rest ≡ listed signs.Comma reads.object l.tokens
+
+abbrev pub decreases-loop-after : goal.decreases-loop-after
+decreases-loop-after l = length l.rest
