@@ -10,3 +10,6 @@ pub mod token;
 
 pub use fault::{Kind, SyntaxFault, SyntaxKind};
 pub use token::{Dollar, Lexeme, Reserved, Sign, Token};
+
+#[cfg(test)]
+mod tests;
