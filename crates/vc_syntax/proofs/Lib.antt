@@ -4,3 +4,4 @@ pub mod NumbersAgain
 pub mod Quotes
 pub mod TextsAgain
 pub mod TokensFrom
+pub mod LexemesGood
