@@ -15,3 +15,4 @@ pub mod TermSoundness
 pub mod TextsAgain
 pub mod TokenLaws
 pub mod TokensFrom
+pub mod LexemesGood

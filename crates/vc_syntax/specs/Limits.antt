@@ -1,5 +1,8 @@
 -- How many tokens a dependency may have, and how deep they may nest.
-use Rattle.std.specs.Prelude.{ℕ, ◌+◌, Bool, true, false, ◌||◌, nat_lt, List, [], ◌∷◌, length, if◌then◌else◌}
+use Rattle.std.specs.Prelude.{ℕ, ◌+◌, Bool, true, false, ◌||◌, nat_lt, List, [], ◌∷◌, length, Result, Ok, Err, if◌then◌else◌}
+use Rattle.vc_syntax.specs.declared.fault.SyntaxFault.{SyntaxFault}
+use Rattle.vc_syntax.specs.declared.fault.SyntaxFault.TheVariants.{Bad}
+use Rattle.vc_syntax.specs.declared.fault.SyntaxKind.TheVariants.{TooLong, TooDeep}
 use Rattle.vc_syntax.specs.declared.token.Token.{Token}
 use Rattle.vc_syntax.specs.declared.token.Lexeme.{Lexeme}
 use Rattle.vc_syntax.specs.declared.token.Lexeme.TheVariants.{Reserved, Sign}
@@ -52,3 +55,8 @@ has_long_row prefix before (token ∷ tokens) =
 -- parentheses over 32 deep, or over 32 NOTs or minuses in a row
 abbrev pub is_too_deep : List Token → Bool
 is_too_deep tokens = nests_deep 0 0 tokens || (has_long_row Negation 0 tokens || has_long_row Negative 0 tokens)
+
+-- the tokens, where they are neither too many nor too deep
+abbrev pub within_limits : Result (List Token) SyntaxFault → Result (List Token) SyntaxFault
+within_limits (Err fault) = Err fault
+within_limits (Ok tokens) = if is_too_long tokens then Err (Bad TooLong 0) else if is_too_deep tokens then Err (Bad TooDeep 0) else Ok tokens

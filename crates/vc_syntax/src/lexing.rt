@@ -1,11 +1,13 @@
 //! From a text to its tokens, or to its first bad token.
 
-ghost use Rattle.std.specs.Prelude.{◌≡◌, ◌==◌, ◌&&◌, not, ◌+◌, ◌<◌, ◌≤◌, ◌^◌, false, ◌∷◌, length, IfOk, OnOk};
-ghost use Rattle.std.specs.List.{list_any};
+ghost use Rattle.std.specs.Prelude.{◌≡◌, ◌==◌, ◌&&◌, not, ◌+◌, ◌<◌, ◌≤◌, ◌^◌, true, false, ℕ, List, Ok, length, IfOk, OnOk};
+ghost use Rattle.std.specs.List.{list_all};
 ghost use Rattle.std.specs.Char.{is_ascii_digit};
 ghost use Rattle.vc_value.specs.Names.{is_name_byte};
 ghost use Rattle.vc_syntax.specs.Lexemes as lexemes;
 ghost use Rattle.vc_syntax.specs.Tokens as tokens;
+ghost use Rattle.vc_syntax.specs.Written.{is_lexeme};
+ghost use Rattle.vc_syntax.specs.declared.token.Token.{Token};
 ghost use Rattle.vc_syntax.specs.declared.lexing.LexFault.TheVariants.{OutOfMemory};
 
 use crate::fault::{SyntaxFault, SyntaxKind};
@@ -397,3 +399,9 @@ pub fn tokens_of(alloc: Global, text: &[u8]) -> Result<Listed<Token>, SyntaxFaul
     }
     Ok(tokens)
 }
+
+/// Each token of a text is a name in upper case of at most 30 bytes, a text of 1 to 30 characters, a stored number without a
+/// minus, a reserved word, a `$` word or a sign.
+pub fn tokens_are_lexemes()
+    ensures { (text : List ℕ) (found : List Token) → tokens.tokens_of text ≡ Ok found → list_all (λ token. is_lexeme token.lexeme) found ≡ true }
+{}

@@ -1,10 +1,15 @@
 //! How many tokens a dependency may have, and how deep they may nest.
 
-ghost use Rattle.std.specs.Prelude.{◌≡◌, ◌||◌, ◌≤◌};
+ghost use Rattle.std.specs.Prelude.{◌≡◌, ◌||◌, ◌<◌, ◌≤◌, ◌^◌, length};
+ghost use Rattle.vc_syntax.specs.Tokens.{Gives, tokens_of};
 ghost use Rattle.vc_syntax.specs.Limits as limits;
 ghost use Rattle.vc_syntax.specs.declared.limits.Prefix.TheVariants.{Negation, Negative};
 
+use crate::fault::{SyntaxFault, SyntaxKind};
+use crate::lexing::tokens_of;
 use crate::token::{Lexeme, Reserved, Sign, Token};
+use std::alloc::Global;
+use vc_value::Listed;
 
 const MOST_TOKENS: usize = 4000;
 
@@ -107,4 +112,25 @@ pub fn is_too_deep(tokens: &[Token]) -> bool
     ensures { result ≡ limits.is_too_deep tokens.now }
 {
     nests_deep(tokens) || has_some_long_row(tokens)
+}
+
+/// The tokens of the text; or its first bad token, or that there are too many tokens or that they nest too deep.
+pub fn tokens_within_limits(alloc: Global, text: &[u8]) -> Result<Listed<Token>, SyntaxFault>
+    requires { length text.now < 2 ^ 32 }
+    ensures { Gives result (limits.within_limits (tokens_of text.now)) }
+{
+    let tokens = tokens_of(alloc, text)?;
+    if is_too_long(tokens.as_slice()) {
+        return Err(SyntaxFault::Bad {
+            kind: SyntaxKind::TooLong,
+            at: 0,
+        });
+    }
+    if is_too_deep(tokens.as_slice()) {
+        return Err(SyntaxFault::Bad {
+            kind: SyntaxKind::TooDeep,
+            at: 0,
+        });
+    }
+    Ok(tokens)
 }
