@@ -104,7 +104,7 @@ module _ {A : Type 0} (separator : Sign) (read : Reader A) (IsA : List Token →
       ap (λ y. listed separator read y) (append_assoc ts (t ∷ us) rest)
       ∙ reads_listed ts xs d (omega (arith, length-append ts (t ∷ us))) (t ∷ (us ++ rest)) (separator_ends t (us ++ rest) i)
       ∙ listed_step separator read shortens xs (t ∷ (us ++ rest)) (us ++ rest) rest x (after_sign_again separator t (us ++ rest) i)
-          (again us x e (omega (arith, length-append ts (t ∷ us))) rest ends)
+      (again us x e (omega (arith, length-append ts (t ∷ us))) rest ends)
 
   pub reads_whole_list : (ts : List Token) (xs : List A) → IsListed separator IsA ts xs → length ts ≤ n → (rest : List Token) → Ends rest → after_sign separator rest ≡ None
       → listed separator read (ts ++ rest) ≡ Some (xs, rest)

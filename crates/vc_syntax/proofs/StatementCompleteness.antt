@@ -58,9 +58,14 @@ binding_again _ _ (grammar.bound t equal ts {column = column} {value = value} a 
 
 -- a comma ends whatever stands before it
 pub comma_ends : (t : Token) (rest : List Token) → IsSign signs.Comma t → EndsStatement (t ∷ rest)
-comma_ends t rest e = (((ap (λ l. cond (is_sign signs.Dot l) (Some rest) None) e, ap (λ l. leaving rest (product_operator_in l)) e, ap (λ l. leaving rest (sum_operator_in l)) e),
-    ap (λ l. cond (is_word words.And l) (Some rest) None) e, ap (λ l. cond (is_word words.Or l) (Some rest) None) e),
-    ap (λ l. cond (is_word words.If l) (Some rest) None) e)
+comma_ends t rest e = (
+  (
+    (ap (λ l. cond (is_sign signs.Dot l) (Some rest) None) e, ap (λ l. leaving rest (product_operator_in l)) e, ap (λ l. leaving rest (sum_operator_in l)) e),
+    ap (λ l. cond (is_word words.And l) (Some rest) None) e,
+    ap (λ l. cond (is_word words.Or l) (Some rest) None) e,
+  ),
+  ap (λ l. cond (is_word words.If l) (Some rest) None) e,
+)
 
 called_again : (u opening : Token) (ts : List Token) (closing : Token) (table : NameLeaf) (xs : List Binding) → IsAnyName u table → IsSign signs.OpenParen opening
     → IsListed signs.Comma IsBinding ts xs → IsSign signs.CloseParen closing → (n : ℕ) → length ts ≤ n → (rest : List Token)
@@ -70,8 +75,8 @@ called_again u opening ts closing table xs a b d c n h rest =
     ∙ ap (λ o. made (call table) (then o (λ r. closed (listed signs.Comma (binding n) r)))) (after_sign_again signs.OpenParen opening ((ts ++ closing ∷ []) ++ rest) b)
     ∙ ap (λ y. made (call table) (closed (listed signs.Comma (binding n) y))) (append_assoc ts (closing ∷ []) rest)
     ∙ ap (λ o. made (call table) (closed o)) (reads_whole_list signs.Comma (binding n) IsBinding (binding_shortens n) n EndsTerm
-        (λ t r e. (comma_ends t r e).0.0) (λ us x e k r ends. binding_again us x e n k r ends) ts xs d h (closing ∷ rest) (close_ends closing rest c)
-        (ap (λ l. cond (is_sign signs.Comma l) (Some rest) None) c))
+    (λ t r e. (comma_ends t r e).0.0) (λ us x e k r ends. binding_again us x e n k r ends) ts xs d h (closing ∷ rest) (close_ends closing rest c)
+    (ap (λ l. cond (is_sign signs.Comma l) (Some rest) None) c))
     ∙ ap (λ o. made (call table) o) (closed_again xs closing rest c)
 
 defaulted_again : (make : NameLeaf → Term → Action) (ts : List Token) (comma : Token) (us : List Token) (closing : Token) (name : NameLeaf) (value : Term)

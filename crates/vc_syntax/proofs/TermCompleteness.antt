@@ -80,8 +80,11 @@ closed_again x t rest e = ap (λ o. option_map (λ r. (x, r)) o) (after_sign_aga
 
 -- what a sign other than a dot or an operator ends
 pub close_ends : (t : Token) (rest : List Token) → IsSign signs.CloseParen t → EndsName (t ∷ rest) × (product_operator (t ∷ rest) ≡ None) × (sum_operator (t ∷ rest) ≡ None)
-close_ends t rest e = (ap (λ l. cond (is_sign signs.Dot l) (Some rest) None) e,
-    ap (λ l. leaving rest (product_operator_in l)) e, ap (λ l. leaving rest (sum_operator_in l)) e)
+close_ends t rest e = (
+  ap (λ l. cond (is_sign signs.Dot l) (Some rest) None) e,
+  ap (λ l. leaving rest (product_operator_in l)) e,
+  ap (λ l. leaving rest (sum_operator_in l)) e,
+)
 
 product_operator_ends : (l : Lexeme) (operator : Operator) (rest : List Token) → product_operator_in l ≡ Some operator → cond (is_sign signs.Dot l) (Some rest) None ≡ None
 product_operator_ends (lexemes.Sign signs.Star) operator rest e = refl
@@ -144,13 +147,13 @@ mutual
   reads_factor _ _ (grammar.grouped opening ts closing {term = term} o d c) n h rest ends = factor_at n opening ((ts ++ closing ∷ []) ++ rest) _ (omega arith) (λ m f.
       ap (λ l. factor_in (factor m) (sum m) l opening ((ts ++ closing ∷ []) ++ rest)) o
       ∙ sum_closed m ts closing rest term c (reads_sum ts term d m (omega (arith, length-append ts (closing ∷ []))) (closing ∷ rest)
-          ((close_ends closing rest c).0) ((close_ends closing rest c).1)))
+      ((close_ends closing rest c).0) ((close_ends closing rest c).1)))
   reads_factor _ _ (grammar.applied t opening ts closing {function = function} {term = term} w o d c) n h rest ends = factor_at n t (opening ∷ ((ts ++ closing ∷ []) ++ rest)) _ (omega arith) (λ m f.
       ap (λ l. factor_in (factor m) (sum m) l t (opening ∷ ((ts ++ closing ∷ []) ++ rest))) w.1
       ∙ ap (λ x. then x (λ g. made (trees.Applied g) (grouped (sum m) (opening ∷ ((ts ++ closing ∷ []) ++ rest))))) w.2
       ∙ ap (λ x. made (trees.Applied function) (then x (λ r. closed (sum m r)))) (after_sign_again signs.OpenParen opening ((ts ++ closing ∷ []) ++ rest) o)
       ∙ ap (λ x. made (trees.Applied function) x) (sum_closed m ts closing rest term c (reads_sum ts term d m (omega (arith, length-append ts (closing ∷ []))) (closing ∷ rest)
-          ((close_ends closing rest c).0) ((close_ends closing rest c).1))))
+      ((close_ends closing rest c).0) ((close_ends closing rest c).1))))
   reads_factor _ _ (grammar.sum_of_parts t ts closing {name = name} w d c) n h rest ends = factor_at n t ((ts ++ closing ∷ []) ++ rest) _ (omega arith) (λ m f.
       ap (λ l. factor_in (factor m) (sum m) l t ((ts ++ closing ∷ []) ++ rest)) w
       ∙ ap (λ x. made trees.SumOfParts (closed (self_and_name x))) (append_assoc ts (closing ∷ []) rest)
@@ -168,16 +171,16 @@ mutual
       ap (λ x. product n x) (append_assoc ts (t ∷ us) rest)
       ∙ reads_product ts left d n (omega (arith, length-append ts (t ∷ us))) (t ∷ (us ++ rest)) (product_operator_ends t.lexeme operator (us ++ rest) o)
       ∙ chained_step product_operator join (factor n) product_operator_takes (factor_shortens n) left (t ∷ (us ++ rest)) (operator, us ++ rest) (right, rest)
-          (ap (λ x. leaving (us ++ rest) x) o) (reads_factor us right e n (omega (arith, length-append ts (t ∷ us))) rest ends)
+      (ap (λ x. leaving (us ++ rest) x) o) (reads_factor us right e n (omega (arith, length-append ts (t ∷ us))) rest ends)
 
   pub reads_sum : (ts : List Token) (term : Term) → IsSum ts term → (n : ℕ) → length ts ≤ n → (rest : List Token) → EndsName rest → product_operator rest ≡ None
       → sum n (ts ++ rest) ≡ chained sum_operator join (product n) term rest
   reads_sum _ _ (grammar.product {ts = ts} {term = term} d) n h rest ends stops =
       ap (λ x. then x (λ found. chained sum_operator join (product n) found.0 found.1))
-          (reads_product ts term d n h rest ends ∙ chained_stops product_operator join (factor n) term rest stops)
+      (reads_product ts term d n h rest ends ∙ chained_stops product_operator join (factor n) term rest stops)
   reads_sum _ _ (grammar.added ts t us {left = left} {right = right} {operator = operator} d o e) n h rest ends stops =
       ap (λ x. sum n x) (append_assoc ts (t ∷ us) rest)
       ∙ reads_sum ts left d n (omega (arith, length-append ts (t ∷ us))) (t ∷ (us ++ rest)) ((sum_operator_ends t.lexeme operator (us ++ rest) o).0) ((sum_operator_ends t.lexeme operator (us ++ rest) o).1)
       ∙ chained_step sum_operator join (product n) sum_operator_takes (product_shortens n) left (t ∷ (us ++ rest)) (operator, us ++ rest) (right, rest)
-          (ap (λ x. leaving (us ++ rest) x) o)
-          (reads_product us right e n (omega (arith, length-append ts (t ∷ us))) rest ends ∙ chained_stops product_operator join (factor n) right rest stops)
+      (ap (λ x. leaving (us ++ rest) x) o)
+      (reads_product us right e n (omega (arith, length-append ts (t ∷ us))) rest ends ∙ chained_stops product_operator join (factor n) right rest stops)

@@ -144,8 +144,12 @@ pub data Dependency : Type 0 where
   Counts : Term → Dependency
 
 abbrev pub constraint_of : StoredConstraint → Constraint
-constraint_of constraint = record { objects = constraint.objects; condition = option_map (λ boxed. condition_of boxed.value) constraint.condition;
-    restrictions = map restriction_of constraint.restrictions; inferences = constraint.inferences }
+constraint_of constraint = record {
+  objects = constraint.objects;
+  condition = option_map (λ boxed. condition_of boxed.value) constraint.condition;
+  restrictions = map restriction_of constraint.restrictions;
+  inferences = constraint.inferences;
+}
 
 abbrev pub dependency_of : StoredDependency → Dependency
 dependency_of (stored_dependencies.Precondition condition) = Precondition (condition_of condition.value)
