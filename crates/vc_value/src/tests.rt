@@ -1,6 +1,6 @@
 //! Words, lists and names, each call once with ample memory.
 
-use crate::{Listed, Word, equals_ignoring_case, is_name, is_session_name};
+use crate::{Dec, Listed, Word, equals_ignoring_case, is_name, is_session_name};
 use std::test::Fail;
 
 #[test]
@@ -41,5 +41,24 @@ fn names_are_told_from_other_words(rt: HostRuntime) -> Result<(), Fail> {
     assert!(rt; !is_name(b"".as_slice()));
     assert!(rt; is_session_name(b"9-a_B".as_slice()));
     assert!(rt; !is_session_name(b"a.b".as_slice()));
+    Ok(())
+}
+
+#[test]
+fn numbers_are_printed(rt: HostRuntime) -> Result<(), Fail> {
+    let rows = [
+        (0, "0"),
+        (-1_500_000, "-1.5"),
+        (10_000_001, "10.000001"),
+        (-1, "-0.000001"),
+        (999_999_999_999_999, "999999999.999999"),
+    ];
+    for (millionths, printed) in rows.iter() {
+        let text = Dec {
+            millionths: *millionths,
+        }
+        .print(rt.alloc())?;
+        assert!(rt; text.is(printed.as_bytes()), "{printed}");
+    }
     Ok(())
 }
