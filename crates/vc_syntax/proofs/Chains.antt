@@ -33,7 +33,7 @@ module _ {A O : Type 0} (operator : Reader O) (join : O → A → A → A) (read
   more_enough (suc n) zero left ts h k = either_none (operator ts) _ _ (λ found e. omega (arith, takes ts found e))
   more_enough (suc n) (suc m) left ts h k = either_same (operator ts) _ _ _ (λ found e.
       then_same (read found.1) _ _ (λ right f. more_enough n m _ _
-          (omega (arith, takes ts found e, shortens found.1 right f)) (omega (arith, takes ts found e, shortens found.1 right f))))
+      (omega (arith, takes ts found e, shortens found.1 right f)) (omega (arith, takes ts found e, shortens found.1 right f))))
 
   pub chained_step : (left : A) (ts : List Token) (found : O × List Token) (right : A × List Token) → operator ts ≡ Some found → read found.1 ≡ Some right
       → chained operator join read left ts ≡ chained operator join read (join found.0 left right.0) right.1
@@ -42,7 +42,7 @@ module _ {A O : Type 0} (operator : Reader O) (join : O → A → A → A) (read
       ap (λ o. either o (Some (left, t ∷ ts)) (λ x. then (read x.1) (λ y. more_in operator join read (length ts) (join x.0 left y.0) y.1))) e
       ∙ ap (λ o. then o (λ y. more_in operator join read (length ts) (join found.0 left y.0) y.1)) f
       ∙ more_enough (length ts) (length right.1) _ _
-          (omega (arith, takes (t ∷ ts) found e, shortens found.1 right f)) (omega arith)
+      (omega (arith, takes (t ∷ ts) found e, shortens found.1 right f)) (omega arith)
 
   pub chained_fails : (left : A) (ts : List Token) (found : O × List Token) → operator ts ≡ Some found → read found.1 ≡ None
       → chained operator join read left ts ≡ None
@@ -106,7 +106,6 @@ either_some (Some x) without next y e = inr (x, refl, e)
 module _ {A O : Type 0} (operator : Reader O) (IsO : Token → O → Type 0) (join : O → A → A → A) (read : Reader A)
     (IsA IsChain : List Token → A → Type 0) (reads : Reads operator IsO) (sound : IsSound read IsA)
     (more : (ts : List Token) (t : Token) (us : List Token) (left right : A) (o : O) → IsChain ts left → IsO t o → IsA us right → IsChain (ts ++ t ∷ us) (join o left right)) where
-
   abbrev Grown : List Token → List Token → A × List Token → Type 0
   Grown front ts found = (all : List Token) × (front ++ ts ≡ all ++ found.1) × IsChain all found.0
 
@@ -118,13 +117,14 @@ module _ {A O : Type 0} (operator : Reader O) (IsO : Token → O → Type 0) (jo
       → more_in operator join read n left ts ≡ Some found → Grown front ts found
   more_is zero front left ts found d e = ended front left ts found d e
   more_is (suc n) front left ts found d e = elim (either_some (operator ts) _ _ found e) [
-      inl p ↦ ended front left ts found d p.1
+    | inl p ↦ ended front left ts found d p.1
     | inr p ↦
-      let o : (t : Token) × (ts ≡ t ∷ p.0.1) × IsO t p.0.0 = reads ts p.0 p.1 in
-      let q : (x : A × List Token) × (read p.0.1 ≡ Some x) × (more_in operator join read n (join p.0.0 left x.0) x.1 ≡ Some found) = then_some (read p.0.1) _ found p.2 in
-      let r : Took IsA p.0.1 q.0 = sound p.0.1 q.0 q.1 in
-      let g : Grown (front ++ o.0 ∷ r.0) q.0.1 found = more_is n (front ++ o.0 ∷ r.0) (join p.0.0 left q.0.0) q.0.1 found (more front o.0 r.0 left q.0.0 p.0.0 d o.2 r.2) q.2 in
-      (g.0, ap (λ x. front ++ x) (o.1 ∙ ap (λ x. o.0 ∷ x) r.1) ∙ sym (append_assoc front (o.0 ∷ r.0) q.0.1) ∙ g.1, g.2) ]
+        let o : (t : Token) × (ts ≡ t ∷ p.0.1) × IsO t p.0.0 = reads ts p.0 p.1 in
+        let q : (x : A × List Token) × (read p.0.1 ≡ Some x) × (more_in operator join read n (join p.0.0 left x.0) x.1 ≡ Some found) = then_some (read p.0.1) _ found p.2 in
+        let r : Took IsA p.0.1 q.0 = sound p.0.1 q.0 q.1 in
+        let g : Grown (front ++ o.0 ∷ r.0) q.0.1 found = more_is n (front ++ o.0 ∷ r.0) (join p.0.0 left q.0.0) q.0.1 found (more front o.0 r.0 left q.0.0 p.0.0 d o.2 r.2) q.2 in
+        (g.0, ap (λ x. front ++ x) (o.1 ∙ ap (λ x. o.0 ∷ x) r.1) ∙ sym (append_assoc front (o.0 ∷ r.0) q.0.1) ∙ g.1, g.2)
+  ]
 
   pub chain_is : ((ts : List Token) (x : A) → IsA ts x → IsChain ts x) → IsSound (chain operator join read) IsChain
   chain_is one ts found e =

@@ -1,5 +1,5 @@
 -- What the grammar of conditions says, is read.
-use Rattle.std.proofs.Common.{◌≡◌, ℕ, zero, suc, ◌+◌, ◌<◌, ◌≤◌, List, [], ◌∷◌, ◌++◌, length, cond, false, true, Option, Some, None, option_map, refl, sym, ap, ◌∙◌, append_assoc, length-append, arith}
+use Rattle.std.proofs.Common.{◌≡◌, ℕ, zero, suc, ◌+◌, ◌<◌, ◌≤◌, List, [], ◌∷◌, ◌++◌, length, cond, false, true, Some, None, refl, ap, ◌∙◌, append_assoc, length-append, arith}
 use Rattle.vc_syntax.specs.declared.token.Token.{Token}
 use Rattle.vc_syntax.specs.declared.token.Lexeme.{Lexeme}
 use Rattle.vc_syntax.specs.declared.token.Lexeme.TheVariants as lexemes
@@ -14,10 +14,10 @@ use Rattle.vc_syntax.specs.declared.tree.SignedNumber.{SignedNumber}
 use Rattle.vc_syntax.specs.declared.tree.Item.{Item}
 use Rattle.vc_syntax.specs.declared.tree.Item.TheVariants as items
 use Rattle.vc_syntax.specs.declared.tree.Relator.{Relator}
-use Rattle.vc_syntax.specs.Leaves.{is_sign, is_word, text_in, number_in, variable_in, text_of, number_of, variable_of, after_sign, after_word}
-use Rattle.vc_syntax.specs.Reading.{Reader, then, either, or_else, made, leaving, leaving_as, closed, grouped, sign, word, append, single, listed, chained}
+use Rattle.vc_syntax.specs.Leaves.{is_sign, is_word, text_in, number_in, after_sign, after_word}
+use Rattle.vc_syntax.specs.Reading.{Reader, then, either, or_else, made, leaving, leaving_as, closed, grouped, word, listed, chained}
 use Rattle.vc_syntax.specs.TermReading.{operand_in, operand, product_operator_in, sum_operator_in, product_operator, sum_operator, factor_in, join, factor, product, sum}
-use Rattle.vc_syntax.specs.ConditionReading.{relator_in, relator, text_ahead, number_ahead, variable_ahead, with_sign, signed_number, numbers, item, comparison, within, relation, part_of, specified_behind, plain_condition, negation_in, negation_by, both, any, negation, conjunction, condition}
+use Rattle.vc_syntax.specs.ConditionReading.{relator_in, relator, text_ahead, number_ahead, variable_ahead, with_sign, signed_number, numbers, item, comparison, within, relation, part_of, specified_behind, plain_condition, negation_in, both, any, negation, conjunction, condition}
 use Rattle.vc_syntax.specs.Trees as trees
 use Rattle.vc_syntax.specs.Trees.{Term, Relation, Condition}
 use Rattle.vc_syntax.specs.TermGrammar as terms
@@ -60,8 +60,11 @@ relator_closes _ r rest e = absurd (cc)
 
 -- a word ends a term
 pub word_ends : (which : Reserved) (t : Token) (rest : List Token) → IsWord which t → EndsTerm (t ∷ rest)
-word_ends which t rest e = (ap (λ l. cond (is_sign signs.Dot l) (Some rest) None) e,
-    ap (λ l. leaving rest (product_operator_in l)) e, ap (λ l. leaving rest (sum_operator_in l)) e)
+word_ends which t rest e = (
+  ap (λ l. cond (is_sign signs.Dot l) (Some rest) None) e,
+  ap (λ l. leaving rest (product_operator_in l)) e,
+  ap (λ l. leaving rest (sum_operator_in l)) e,
+)
 
 pub text_ahead_again : (t : Token) (rest : List Token) (leaf : TextLeaf) → IsText t leaf → text_ahead (t ∷ rest) ≡ Some (leaf, rest)
 text_ahead_again t rest leaf e = ap (λ o. leaving rest o) e
@@ -110,8 +113,8 @@ reads_items : (ts : List Token) (xs : List Item) → IsListed signs.Comma IsItem
 reads_items ts xs d closing rest c =
     ap (λ y. closed (listed signs.Comma item y)) (append_assoc ts (closing ∷ []) rest)
     ∙ ap (λ o. closed o) (reads_whole_list signs.Comma item IsItem item_shortens (length ts) EndsItem
-        (λ t r e. ap (λ l. cond (is_sign signs.Minus l) (Some r) None) e) (λ us x e k r ends. reads_item us x e r ends)
-        ts xs d (omega arith) (closing ∷ rest) (ap (λ l. cond (is_sign signs.Minus l) (Some rest) None) c) (ap (λ l. cond (is_sign signs.Comma l) (Some rest) None) c))
+    (λ t r e. ap (λ l. cond (is_sign signs.Minus l) (Some r) None) e) (λ us x e k r ends. reads_item us x e r ends)
+    ts xs d (omega arith) (closing ∷ rest) (ap (λ l. cond (is_sign signs.Minus l) (Some rest) None) c) (ap (λ l. cond (is_sign signs.Comma l) (Some rest) None) c))
     ∙ closed_again xs closing rest c
 
 -- an operand, read as a term, up to a word
@@ -130,7 +133,7 @@ comparison_again : (ts : List Token) (t : Token) (us : List Token) (left right :
     → (n : ℕ) → length ts ≤ n → length us ≤ n → (rest : List Token) → EndsTerm rest → comparison n (ts ++ t ∷ (us ++ rest)) ≡ Some (trees.Compared left r right, rest)
 comparison_again ts t us left right r d i e n h k rest ends =
     ap (λ s. then s (λ first. then (relator first.1) (λ sign. made (trees.Compared first.0 sign.0) (sum n sign.1))))
-        (reads_whole_sum ts left d n h (t ∷ (us ++ rest)) (relator_ends t.lexeme r (us ++ rest) i))
+    (reads_whole_sum ts left d n h (t ∷ (us ++ rest)) (relator_ends t.lexeme r (us ++ rest) i))
     ∙ ap (λ o. then (leaving (us ++ rest) o) (λ sign. made (trees.Compared left sign.0) (sum n sign.1))) i
     ∙ ap (λ s. made (trees.Compared left r) s) (reads_whole_sum us right e n k rest ends)
 
@@ -138,12 +141,12 @@ pub relation_again : (ts : List Token) (x : Relation) → IsRelation ts x → (n
 relation_again _ _ (grammar.compared ts t us {left = left} {right = right} {relator = r} d i e) n h rest ends =
     ap (λ y. relation n y) (append_assoc ts (t ∷ us) rest)
     ∙ ap (λ o. or_else o (within (ts ++ t ∷ (us ++ rest)))) (comparison_again ts t us left right r d i e n
-        (omega (arith, length-append ts (t ∷ us))) (omega (arith, length-append ts (t ∷ us))) rest ends)
+    (omega (arith, length-append ts (t ∷ us))) (omega (arith, length-append ts (t ∷ us))) rest ends)
 relation_again _ _ (grammar.within ts t opening us closing {operand = o} {items = xs} d w p e c) n h rest ends =
     let tail : List Token = opening ∷ ((us ++ closing ∷ []) ++ rest) in
     ap (λ y. relation n y) (append_assoc ts (t ∷ opening ∷ (us ++ closing ∷ [])) rest)
     ∙ ap (λ x. or_else x (within (ts ++ t ∷ tail))) (operand_no_comparison ts o d n
-        (omega (arith, length-append ts (t ∷ opening ∷ (us ++ closing ∷ [])))) words.In t tail w refl)
+    (omega (arith, length-append ts (t ∷ opening ∷ (us ++ closing ∷ [])))) words.In t tail w refl)
     ∙ ap (λ x. then x (λ found. then (after_word words.In found.1) (λ r. made (trees.Within found.0) (grouped (listed signs.Comma item) r)))) (reads_operand ts o d (t ∷ tail) ((word_ends words.In t tail w).0))
     ∙ ap (λ x. then x (λ r. made (trees.Within o) (grouped (listed signs.Comma item) r))) (after_word_again words.In t tail w)
     ∙ ap (λ x. made (trees.Within o) (then x (λ r. closed (listed signs.Comma item r)))) (after_sign_again signs.OpenParen opening ((us ++ closing ∷ []) ++ rest) p)
@@ -199,7 +202,7 @@ mutual
   negation_begins_no_group _ _ (grammar.negated t ts w d) n h rest = ap (λ o. closed o) (no_factor_no_sum n (t ∷ (ts ++ rest)) (word_no_factor words.Not t (ts ++ rest) n w (λ m. refl)))
   negation_begins_no_group _ _ (grammar.grouped opening ts closing {condition = x} p d c) n h rest =
       ap (λ o. closed o) (no_factor_no_sum n (opening ∷ ((ts ++ closing ∷ []) ++ rest)) (group_no_factor opening ts closing rest p n
-          (λ m e. condition_begins_no_group ts x d m (omega (arith, length-append ts (closing ∷ []))) (closing ∷ rest))))
+      (λ m e. condition_begins_no_group ts x d m (omega (arith, length-append ts (closing ∷ []))) (closing ∷ rest))))
   negation_begins_no_group _ _ (grammar.related {ts = ts} {relation = x} d) n h rest = relation_begins_no_group ts x d n h rest
   negation_begins_no_group _ _ (grammar.specified t ts w d) n h rest = ap (λ o. closed o) (no_factor_no_sum n (t ∷ (ts ++ rest)) (word_no_factor words.Specified t (ts ++ rest) n w (λ m. refl)))
   negation_begins_no_group _ _ (grammar.specified_behind ts t {operand = o} d w) n h rest =
@@ -257,7 +260,7 @@ specified_again ts o d t w m h rest = let read : operand (ts ++ t ∷ rest) ≡ 
     ap (λ x. or_else (made trees.Related (or_else x (within (ts ++ t ∷ rest)))) (specified_behind (ts ++ t ∷ rest))) (operand_no_comparison ts o d m h words.Specified t rest w refl)
     ∙ ap (λ x. or_else (made trees.Related (then x (λ found. then (after_word words.In found.1) (λ r. made (trees.Within found.0) (grouped (listed signs.Comma item) r))))) (specified_behind (ts ++ t ∷ rest))) read
     ∙ ap (λ x. or_else (made trees.Related (then x (λ r. made (trees.Within o) (grouped (listed signs.Comma item) r)))) (specified_behind (ts ++ t ∷ rest)))
-        (ap (λ l. cond (is_word words.In l) (Some rest) None) w)
+    (ap (λ l. cond (is_word words.In l) (Some rest) None) w)
     ∙ ap (λ x. then x (λ found. leaving_as (trees.Specified found.0) (after_word words.Specified found.1))) read
     ∙ ap (λ x. leaving_as (trees.Specified o) x) (after_word_again words.Specified t rest w)
 
@@ -279,7 +282,7 @@ group_again m opening ts closing rest x p d c h e =
     let tail : List Token = (ts ++ closing ∷ []) ++ rest in
     ap (λ l. negation_in m (negation m) (condition m) l opening tail) p
     ∙ ap (λ o. or_else (made trees.Related o) (closed (condition m tail))) (no_factor_no_relation m (opening ∷ tail)
-        (group_no_factor opening ts closing rest p m (λ k f. condition_begins_no_group ts x d k (omega arith) (closing ∷ rest))) (ap (λ l. operand_in l opening tail) p))
+    (group_no_factor opening ts closing rest p m (λ k f. condition_begins_no_group ts x d k (omega arith) (closing ∷ rest))) (ap (λ l. operand_in l opening tail) p))
     ∙ ap (λ y. closed (condition m y)) (append_assoc ts (closing ∷ []) rest)
     ∙ ap (λ o. closed o) (e ∙ chained_stops (word words.Or) any (conjunction m) x (closing ∷ rest) (ap (λ l. leaving_as tt (cond (is_word words.Or l) (Some rest) None)) c))
     ∙ closed_again x closing rest c
@@ -290,18 +293,18 @@ mutual
       ap (λ l. negation_in m (negation m) (condition m) l t (ts ++ rest)) w ∙ ap (λ o. made trees.Not o) (reads_negation ts x d m (omega arith) rest ends))
   reads_negation _ _ (grammar.grouped opening ts closing {condition = x} p d c) n h rest ends = negation_at n opening ((ts ++ closing ∷ []) ++ rest) _ (omega arith) (λ m e.
       group_again m opening ts closing rest x p d c (omega (arith, length-append ts (closing ∷ [])))
-          (reads_condition ts x d m (omega (arith, length-append ts (closing ∷ []))) (closing ∷ rest) (close_ends closing rest c)
-              (ap (λ l. cond (is_word words.And l) (Some rest) None) c)))
+      (reads_condition ts x d m (omega (arith, length-append ts (closing ∷ []))) (closing ∷ rest) (close_ends closing rest c)
+      (ap (λ l. cond (is_word words.And l) (Some rest) None) c)))
   reads_negation _ _ (grammar.related {ts = ts} {relation = x} d) n h rest ends = related_at n (ts ++ rest) (x, rest) (omega (arith, relation_some ts x d))
       (λ m e. relation_again ts x d m (omega arith) rest ends)
   reads_negation _ _ (grammar.specified t ts {operand = o} w d) n h rest ends = negation_at n t (ts ++ rest) _ (omega arith) (λ m e.
       ap (λ l. negation_in m (negation m) (condition m) l t (ts ++ rest)) w ∙ ap (λ y. made trees.Specified y) (reads_operand ts o d rest ends.0))
   reads_negation _ _ (grammar.specified_behind ts t {operand = o} d w) n h rest ends = ap (λ y. negation n y) (append_assoc ts (t ∷ []) rest)
       ∙ plain_at n (ts ++ t ∷ rest) o (t ∷ rest) _ (omega (arith, length-append ts (t ∷ []))) (reads_operand ts o d (t ∷ rest) ((word_ends words.Specified t rest w).0))
-          (λ m e. specified_again ts o d t w m (omega (arith, length-append ts (t ∷ []))) rest)
+      (λ m e. specified_again ts o d t w m (omega (arith, length-append ts (t ∷ []))) rest)
   reads_negation _ _ (grammar.part_of {t = t} {opening = a} {u = b} {comma = c} {v = d} {closing = e} {part = part} {whole = whole} w p q r s z) n h rest ends =
       negation_at n t (a ∷ b ∷ c ∷ d ∷ e ∷ rest) _ (omega arith) (λ m f.
-          ap (λ l. negation_in m (negation m) (condition m) l t (a ∷ b ∷ c ∷ d ∷ e ∷ rest)) w ∙ reads_part_of a b c d e part whole rest p q r s z)
+      ap (λ l. negation_in m (negation m) (condition m) l t (a ∷ b ∷ c ∷ d ∷ e ∷ rest)) w ∙ reads_part_of a b c d e part whole rest p q r s z)
 
   pub reads_conjunction : (ts : List Token) (x : Condition) → IsConjunction ts x → (n : ℕ) → length ts ≤ n → (rest : List Token) → EndsTerm rest
       → conjunction n (ts ++ rest) ≡ chained (word words.And) both (negation n) x rest
@@ -311,18 +314,18 @@ mutual
       ap (λ y. conjunction n y) (append_assoc ts (t ∷ us) rest)
       ∙ reads_conjunction ts left d n (omega (arith, length-append ts (t ∷ us))) (t ∷ (us ++ rest)) (word_ends words.And t (us ++ rest) w)
       ∙ chained_step (word words.And) both (negation n) (word_takes words.And) (negation_shortens n) left (t ∷ (us ++ rest)) (tt, us ++ rest) (right, rest)
-          (ap (λ o. leaving_as tt o) (after_word_again words.And t (us ++ rest) w)) (reads_negation us right e n (omega (arith, length-append ts (t ∷ us))) rest ends)
+      (ap (λ o. leaving_as tt o) (after_word_again words.And t (us ++ rest) w)) (reads_negation us right e n (omega (arith, length-append ts (t ∷ us))) rest ends)
 
   pub reads_condition : (ts : List Token) (x : Condition) → IsCondition ts x → (n : ℕ) → length ts ≤ n → (rest : List Token) → EndsTerm rest → after_word words.And rest ≡ None
       → condition n (ts ++ rest) ≡ chained (word words.Or) any (conjunction n) x rest
   reads_condition _ _ (grammar.conjunction {ts = ts} {condition = x} d) n h rest ends stops =
       ap (λ o. then o (λ found. chained (word words.Or) any (conjunction n) found.0 found.1))
-          (reads_conjunction ts x d n h rest ends ∙ chained_stops (word words.And) both (negation n) x rest (ap (λ o. leaving_as tt o) stops))
+      (reads_conjunction ts x d n h rest ends ∙ chained_stops (word words.And) both (negation n) x rest (ap (λ o. leaving_as tt o) stops))
   reads_condition _ _ (grammar.or ts t us {left = left} {right = right} d w e) n h rest ends stops =
       ap (λ y. condition n y) (append_assoc ts (t ∷ us) rest)
       ∙ reads_condition ts left d n (omega (arith, length-append ts (t ∷ us))) (t ∷ (us ++ rest)) (word_ends words.Or t (us ++ rest) w)
-          (ap (λ l. cond (is_word words.And l) (Some (us ++ rest)) None) w)
+      (ap (λ l. cond (is_word words.And l) (Some (us ++ rest)) None) w)
       ∙ chained_step (word words.Or) any (conjunction n) (word_takes words.Or) (conjunction_shortens n) left (t ∷ (us ++ rest)) (tt, us ++ rest) (right, rest)
-          (ap (λ o. leaving_as tt o) (after_word_again words.Or t (us ++ rest) w))
-          (reads_conjunction us right e n (omega (arith, length-append ts (t ∷ us))) rest ends
-              ∙ chained_stops (word words.And) both (negation n) right rest (ap (λ o. leaving_as tt o) stops))
+      (ap (λ o. leaving_as tt o) (after_word_again words.Or t (us ++ rest) w))
+      (reads_conjunction us right e n (omega (arith, length-append ts (t ∷ us))) rest ends
+      ∙ chained_stops (word words.And) both (negation n) right rest (ap (λ o. leaving_as tt o) stops))

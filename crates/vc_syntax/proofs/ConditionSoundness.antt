@@ -1,5 +1,5 @@
 -- What is read as a relation or a condition, the grammar says.
-use Rattle.std.proofs.Common.{◌≡◌, ℕ, zero, suc, List, [], ◌∷◌, ◌++◌, false, true, Option, Some, None, option_map, ◌⊎◌, inl, inr, refl, sym, ap, subst, ◌∙◌, append_assoc}
+use Rattle.std.proofs.Common.{◌≡◌, ℕ, zero, suc, List, [], ◌∷◌, ◌++◌, false, true, Option, Some, None, ◌⊎◌, inl, inr, refl, sym, ap, subst, ◌∙◌, append_assoc}
 use Rattle.vc_syntax.specs.declared.token.Token.{Token}
 use Rattle.vc_syntax.specs.declared.token.Lexeme.{Lexeme}
 use Rattle.vc_syntax.specs.declared.token.Lexeme.TheVariants as lexemes
@@ -14,7 +14,7 @@ use Rattle.vc_syntax.specs.declared.tree.Item.{Item}
 use Rattle.vc_syntax.specs.declared.tree.Item.TheVariants as items
 use Rattle.vc_syntax.specs.declared.tree.Relator.{Relator}
 use Rattle.vc_syntax.specs.Leaves.{text_of, number_of, variable_of, after_sign, after_word}
-use Rattle.vc_syntax.specs.Reading.{Reader, then, either, or_else, made, leaving, leaving_as, closed, grouped, word, listed}
+use Rattle.vc_syntax.specs.Reading.{Reader, then, either, or_else, made, leaving_as, closed, grouped, word, listed}
 use Rattle.vc_syntax.specs.TermReading.{operand, sum}
 use Rattle.vc_syntax.specs.ConditionReading.{relator_in, relator, text_ahead, number_ahead, variable_ahead, with_sign, signed_number, numbers, item, comparison, within, relation, part_of, specified_behind, plain_condition, negation_in, negation_by, both, any, conjunction_by, condition_by, negation, conjunction, condition}
 use Rattle.vc_syntax.specs.Trees as trees
@@ -58,38 +58,44 @@ variable_ahead_is (t ∷ ts) found e =
 signed_number_is : IsSound signed_number IsSignedNumber
 signed_number_is ts found e = let P : SignedNumber × List Token → Type 0 = λ x. Took IsSignedNumber ts x in
     elim (either_some (after_sign signs.Minus ts) _ _ found e) [
-      inl p ↦
-      let q : (x : NumberLeaf × List Token) × (number_ahead ts ≡ Some x) × ((with_sign false x.0, x.1) ≡ found) = map_some _ _ found p.1 in
-      let r : (t : Token) × (ts ≡ t ∷ q.0.1) × IsNumber t q.0.0 = number_ahead_is ts q.0 q.1 in
-      subst P q.2 (r.0 ∷ [], r.1, grammar.positive r.2)
-    | inr p ↦
-      let m : (t : Token) × (ts ≡ t ∷ p.0) × IsSign signs.Minus t = after_sign_is signs.Minus ts p.0 p.1 in
-      let q : (x : NumberLeaf × List Token) × (number_ahead p.0 ≡ Some x) × ((with_sign true x.0, x.1) ≡ found) = map_some _ _ found p.2 in
-      let r : (t : Token) × (p.0 ≡ t ∷ q.0.1) × IsNumber t q.0.0 = number_ahead_is p.0 q.0 q.1 in
-      subst P q.2 (m.0 ∷ r.0 ∷ [], m.1 ∙ ap (λ x. m.0 ∷ x) r.1, grammar.negative m.2 r.2) ]
+      | inl p ↦
+          let q : (x : NumberLeaf × List Token) × (number_ahead ts ≡ Some x) × ((with_sign false x.0, x.1) ≡ found) = map_some _ _ found p.1 in
+          let r : (t : Token) × (ts ≡ t ∷ q.0.1) × IsNumber t q.0.0 = number_ahead_is ts q.0 q.1 in
+          subst P q.2 (r.0 ∷ [], r.1, grammar.positive r.2)
+      | inr p ↦
+          let m : (t : Token) × (ts ≡ t ∷ p.0) × IsSign signs.Minus t = after_sign_is signs.Minus ts p.0 p.1 in
+          let q : (x : NumberLeaf × List Token) × (number_ahead p.0 ≡ Some x) × ((with_sign true x.0, x.1) ≡ found) = map_some _ _ found p.2 in
+          let r : (t : Token) × (p.0 ≡ t ∷ q.0.1) × IsNumber t q.0.0 = number_ahead_is p.0 q.0 q.1 in
+          subst P q.2 (m.0 ∷ r.0 ∷ [], m.1 ∙ ap (λ x. m.0 ∷ x) r.1, grammar.negative m.2 r.2)
+    ]
 
 numbers_is : IsSound numbers IsItem
 numbers_is ts found e = let P : Item × List Token → Type 0 = λ x. Took IsItem ts x in
     let low : (x : SignedNumber × List Token) × (signed_number ts ≡ Some x) × (either (after_sign signs.Minus x.1) (Some (items.Number x.0, x.1)) (λ rest.
-        made (items.Interval x.0) (signed_number rest)) ≡ Some found) = then_some _ _ found e in
+    made (items.Interval x.0) (signed_number rest)) ≡ Some found) = then_some _ _ found e in
     let l : Took IsSignedNumber ts low.0 = signed_number_is ts low.0 low.1 in
     elim (either_some (after_sign signs.Minus low.0.1) _ _ found low.2) [
-      inl p ↦ let same : (items.Number low.0.0, low.0.1) ≡ found = cc (p.1) in subst P same (l.0, l.1, grammar.number l.2)
-    | inr p ↦
-      let m : (t : Token) × (low.0.1 ≡ t ∷ p.0) × IsSign signs.Minus t = after_sign_is signs.Minus low.0.1 p.0 p.1 in
-      let q : (x : SignedNumber × List Token) × (signed_number p.0 ≡ Some x) × ((items.Interval low.0.0 x.0, x.1) ≡ found) = map_some _ _ found p.2 in
-      let r : Took IsSignedNumber p.0 q.0 = signed_number_is p.0 q.0 q.1 in
-      subst P q.2 (l.0 ++ m.0 ∷ r.0, l.1 ∙ ap (λ x. l.0 ++ x) (m.1 ∙ ap (λ x. m.0 ∷ x) r.1) ∙ sym (append_assoc l.0 (m.0 ∷ r.0) q.0.1),
-          grammar.interval l.0 m.0 r.0 l.2 m.2 r.2) ]
+      | inl p ↦ let same : (items.Number low.0.0, low.0.1) ≡ found = cc (p.1) in subst P same (l.0, l.1, grammar.number l.2)
+      | inr p ↦
+          let m : (t : Token) × (low.0.1 ≡ t ∷ p.0) × IsSign signs.Minus t = after_sign_is signs.Minus low.0.1 p.0 p.1 in
+          let q : (x : SignedNumber × List Token) × (signed_number p.0 ≡ Some x) × ((items.Interval low.0.0 x.0, x.1) ≡ found) = map_some _ _ found p.2 in
+          let r : Took IsSignedNumber p.0 q.0 = signed_number_is p.0 q.0 q.1 in
+          subst P q.2 (
+            l.0 ++ m.0 ∷ r.0,
+            l.1 ∙ ap (λ x. l.0 ++ x) (m.1 ∙ ap (λ x. m.0 ∷ x) r.1) ∙ sym (append_assoc l.0 (m.0 ∷ r.0) q.0.1),
+            grammar.interval l.0 m.0 r.0 l.2 m.2 r.2,
+          )
+    ]
 
 pub item_is : IsSound item IsItem
 item_is ts found e = let P : Item × List Token → Type 0 = λ x. Took IsItem ts x in
     elim (or_else_some (made items.Text (text_ahead ts)) _ found e) [
-      inl p ↦
-      let q : (x : TextLeaf × List Token) × (text_ahead ts ≡ Some x) × ((items.Text x.0, x.1) ≡ found) = map_some _ _ found p in
-      let r : (t : Token) × (ts ≡ t ∷ q.0.1) × IsText t q.0.0 = text_ahead_is ts q.0 q.1 in
-      subst P q.2 (r.0 ∷ [], r.1, grammar.text r.2)
-    | inr p ↦ numbers_is ts found p ]
+      | inl p ↦
+          let q : (x : TextLeaf × List Token) × (text_ahead ts ≡ Some x) × ((items.Text x.0, x.1) ≡ found) = map_some _ _ found p in
+          let r : (t : Token) × (ts ≡ t ∷ q.0.1) × IsText t q.0.0 = text_ahead_is ts q.0 q.1 in
+          subst P q.2 (r.0 ∷ [], r.1, grammar.text r.2)
+      | inr p ↦ numbers_is ts found p
+    ]
 
 pub item_shortens : Shortens item
 item_shortens = sound_shortens item IsItem item_is
@@ -102,8 +108,11 @@ comparison_is left ts found e = let P : Relation × List Token → Type 0 = λ x
     let a' : Took IsSum ts a.0 = sum_is left ts a.0 a.1 in
     let b' : (t : Token) × (a.0.1 ≡ t ∷ b.0.1) × IsRelator t b.0.0 = relator_is a.0.1 b.0 b.1 in
     let c' : Took IsSum b.0.1 c.0 = sum_is left b.0.1 c.0 c.1 in
-    subst P c.2 (a'.0 ++ b'.0 ∷ c'.0, a'.1 ∙ ap (λ x. a'.0 ++ x) (b'.1 ∙ ap (λ x. b'.0 ∷ x) c'.1) ∙ sym (append_assoc a'.0 (b'.0 ∷ c'.0) c.0.1),
-        grammar.compared a'.0 b'.0 c'.0 a'.2 b'.2 c'.2)
+    subst P c.2 (
+      a'.0 ++ b'.0 ∷ c'.0,
+      a'.1 ∙ ap (λ x. a'.0 ++ x) (b'.1 ∙ ap (λ x. b'.0 ∷ x) c'.1) ∙ sym (append_assoc a'.0 (b'.0 ∷ c'.0) c.0.1),
+      grammar.compared a'.0 b'.0 c'.0 a'.2 b'.2 c'.2,
+    )
 
 within_is : IsSound within IsRelation
 within_is ts found e = let P : Relation × List Token → Type 0 = λ x. Took IsRelation ts x in
@@ -115,11 +124,13 @@ within_is ts found e = let P : Relation × List Token → Type 0 = λ x. Took Is
     let b' : (t : Token) × (a.0.1 ≡ t ∷ b.0) × IsWord words.In t = after_word_is words.In a.0.1 b.0 b.1 in
     let d' : (t : Token) × (b.0 ≡ t ∷ d.0) × IsSign signs.OpenParen t = after_sign_is signs.OpenParen b.0 d.0 d.1 in
     let f : (front : List Token) × (u : Token) × (d.0 ≡ front ++ u ∷ c.0.1) × IsListed signs.Comma IsItem front c.0.0 × IsSign signs.CloseParen u
-        = closed_is (IsListed signs.Comma IsItem) d.0 _ c.0 d.2 (listed_is signs.Comma item IsItem item_is d.0) in
+    = closed_is (IsListed signs.Comma IsItem) d.0 _ c.0 d.2 (listed_is signs.Comma item IsItem item_is d.0) in
     let inner : d.0 ≡ (f.0 ++ f.1 ∷ []) ++ c.0.1 = f.2 ∙ sym (append_assoc f.0 (f.1 ∷ []) c.0.1) in
-    subst P c.2 (a'.0 ++ b'.0 ∷ d'.0 ∷ (f.0 ++ f.1 ∷ []),
-        a'.1 ∙ ap (λ x. a'.0 ++ x) (b'.1 ∙ ap (λ x. b'.0 ∷ x) (d'.1 ∙ ap (λ x. d'.0 ∷ x) inner)) ∙ sym (append_assoc a'.0 (b'.0 ∷ d'.0 ∷ (f.0 ++ f.1 ∷ [])) c.0.1),
-        grammar.within a'.0 b'.0 d'.0 f.0 f.1 a'.2 b'.2 d'.2 f.3 f.4)
+    subst P c.2 (
+      a'.0 ++ b'.0 ∷ d'.0 ∷ (f.0 ++ f.1 ∷ []),
+      a'.1 ∙ ap (λ x. a'.0 ++ x) (b'.1 ∙ ap (λ x. b'.0 ∷ x) (d'.1 ∙ ap (λ x. d'.0 ∷ x) inner)) ∙ sym (append_assoc a'.0 (b'.0 ∷ d'.0 ∷ (f.0 ++ f.1 ∷ [])) c.0.1),
+      grammar.within a'.0 b'.0 d'.0 f.0 f.1 a'.2 b'.2 d'.2 f.3 f.4,
+    )
 
 pub relation_is : (left : ℕ) → IsSound (relation left) IsRelation
 relation_is left ts found e = elim (or_else_some (comparison left ts) _ found e) [ inl p ↦ comparison_is left ts found p | inr p ↦ within_is ts found p ]
@@ -127,7 +138,7 @@ relation_is left ts found e = elim (or_else_some (comparison left ts) _ found e)
 part_of_is : (t : Token) (ts : List Token) (found : Condition × List Token) → IsWord words.PartOf t → part_of ts ≡ Some found → Took IsNegation (t ∷ ts) found
 part_of_is t ts found w e = let P : Condition × List Token → Type 0 = λ x. Took IsNegation (t ∷ ts) x in
     let a : (rest : List Token) × (after_sign signs.OpenParen ts ≡ Some rest) × (then (variable_ahead rest) (λ part.
-        then (after_sign signs.Comma part.1) (λ second. made (trees.PartOf part.0) (closed (variable_ahead second)))) ≡ Some found) = then_some _ _ found e in
+    then (after_sign signs.Comma part.1) (λ second. made (trees.PartOf part.0) (closed (variable_ahead second)))) ≡ Some found) = then_some _ _ found e in
     let b : (x : NameLeaf × List Token) × (variable_ahead a.0 ≡ Some x) × (then (after_sign signs.Comma x.1) (λ second. made (trees.PartOf x.0) (closed (variable_ahead second))) ≡ Some found) = then_some _ _ found a.2 in
     let c : (rest : List Token) × (after_sign signs.Comma b.0.1 ≡ Some rest) × (made (trees.PartOf b.0.0) (closed (variable_ahead rest)) ≡ Some found) = then_some _ _ found b.2 in
     let d : (x : NameLeaf × List Token) × (closed (variable_ahead c.0) ≡ Some x) × ((trees.PartOf b.0.0 x.0, x.1) ≡ found) = map_some _ _ found c.2 in
@@ -140,9 +151,11 @@ part_of_is t ts found w e = let P : Condition × List Token → Type 0 = λ x. T
     let g' : (t : Token) × (f.0.1 ≡ t ∷ g.0) × IsSign signs.CloseParen t = after_sign_is signs.CloseParen f.0.1 g.0 g.1 in
     let whole : IsVariable f'.0 d.0.0 = f'.2 ∙ ap (λ x. Some x.0) g.2 in
     let last : f.0.1 ≡ g'.0 ∷ d.0.1 = g'.1 ∙ ap (λ x. g'.0 ∷ x.1) g.2 in
-    subst P d.2 (t ∷ a'.0 ∷ b'.0 ∷ c'.0 ∷ f'.0 ∷ g'.0 ∷ [],
-        ap (λ x. t ∷ x) (a'.1 ∙ ap (λ x. a'.0 ∷ x) (b'.1 ∙ ap (λ x. b'.0 ∷ x) (c'.1 ∙ ap (λ x. c'.0 ∷ x) (f'.1 ∙ ap (λ x. f'.0 ∷ x) last)))),
-        grammar.part_of w a'.2 b'.2 c'.2 whole g'.2)
+    subst P d.2 (
+      t ∷ a'.0 ∷ b'.0 ∷ c'.0 ∷ f'.0 ∷ g'.0 ∷ [],
+      ap (λ x. t ∷ x) (a'.1 ∙ ap (λ x. a'.0 ∷ x) (b'.1 ∙ ap (λ x. b'.0 ∷ x) (c'.1 ∙ ap (λ x. c'.0 ∷ x) (f'.1 ∙ ap (λ x. f'.0 ∷ x) last)))),
+      grammar.part_of w a'.2 b'.2 c'.2 whole g'.2,
+    )
 
 specified_behind_is : IsSound specified_behind IsNegation
 specified_behind_is ts found e = let P : Condition × List Token → Type 0 = λ x. Took IsNegation ts x in
@@ -157,8 +170,9 @@ related_is left ts found e = made_is IsRelation IsNegation trees.Related ts ts _
 
 plain_condition_is : (left : ℕ) → IsSound (plain_condition left) IsNegation
 plain_condition_is left ts found e = elim (or_else_some (made trees.Related (relation left ts)) _ found e) [
-      inl p ↦ related_is left ts found p
-    | inr p ↦ specified_behind_is ts found p ]
+  | inl p ↦ related_is left ts found p
+  | inr p ↦ specified_behind_is ts found p
+]
 
 module _ (left : ℕ) (read_negation read_condition : Reader Condition) (negation_sound : IsSound read_negation IsNegation) (condition_sound : IsSound read_condition IsCondition) where
   grouped_is : (t : Token) (ts : List Token) (found : Condition × List Token) → IsSign signs.OpenParen t → closed (read_condition ts) ≡ Some found → Took IsNegation (t ∷ ts) found
@@ -174,8 +188,9 @@ module _ (left : ℕ) (read_negation read_condition : Reader Condition) (negatio
       (λ front rest x g d. (t ∷ front, ap (λ x. t ∷ x) g, grammar.specified t front h d))
   negation_in_is (lexemes.Reserved words.PartOf) t ts found h e = part_of_is t ts found h e
   negation_in_is (lexemes.Sign signs.OpenParen) t ts found h e = elim (or_else_some (made trees.Related (relation left (t ∷ ts))) _ found e) [
-      inl p ↦ related_is left (t ∷ ts) found p
-    | inr p ↦ grouped_is t ts found h p ]
+    | inl p ↦ related_is left (t ∷ ts) found p
+    | inr p ↦ grouped_is t ts found h p
+  ]
   negation_in_is _ t ts found h e = plain_condition_is left (t ∷ ts) found e
 
   negation_by_is : IsSound (negation_by left read_negation read_condition) IsNegation

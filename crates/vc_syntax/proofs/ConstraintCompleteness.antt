@@ -1,9 +1,8 @@
 -- What the grammar of constraints says, is read.
-use Rattle.std.proofs.Common.{◌≡◌, ℕ, ◌+◌, ◌≤◌, List, [], ◌∷◌, ◌++◌, length, cond, Option, Some, None, refl, sym, ap, ◌∙◌, append_assoc, length-append, arith}
+use Rattle.std.proofs.Common.{◌≡◌, ℕ, ◌≤◌, List, [], ◌∷◌, ◌++◌, length, cond, Option, Some, None, ap, ◌∙◌, append_assoc, length-append, arith}
 use Rattle.vc_syntax.specs.declared.token.Token.{Token}
 use Rattle.vc_syntax.specs.declared.token.Sign.TheVariants as signs
 use Rattle.vc_syntax.specs.declared.token.Reserved.TheVariants as words
-use Rattle.vc_syntax.specs.declared.tree.NameLeaf.{NameLeaf}
 use Rattle.vc_syntax.specs.declared.tree.TextLeaf.{TextLeaf}
 use Rattle.vc_syntax.specs.declared.tree.Operand.{Operand}
 use Rattle.vc_syntax.specs.declared.tree.ObjectKind.{ObjectKind}
@@ -13,12 +12,12 @@ use Rattle.vc_syntax.specs.declared.tree.Object.{Object}
 use Rattle.vc_syntax.specs.Leaves.{is_sign, is_word, after_sign, after_word, named, any_named}
 use Rattle.vc_syntax.specs.Reading.{Reader, then, either, or_else, made, leaving, leaving_as, closed, listed}
 use Rattle.vc_syntax.specs.TermReading.{product_operator_in, sum_operator_in, operand}
-use Rattle.vc_syntax.specs.ConditionReading.{text_ahead, variable_ahead, condition}
+use Rattle.vc_syntax.specs.ConditionReading.{text_ahead, condition}
 use Rattle.vc_syntax.specs.StatementReading.{restriction}
-use Rattle.vc_syntax.specs.ConstraintReading.{after_class_type, class_type, material_word, class_kind, material_number, material_kind, object_kind, with_alias, with_object, alias, aliases, object, section, object_section, condition_section, restriction_word, restriction_section, inference_section, with_constraint, constraint}
+use Rattle.vc_syntax.specs.ConstraintReading.{after_class_type, class_type, material_word, class_kind, material_number, material_kind, object_kind, with_alias, with_object, alias, aliases, object, section, object_section, condition_section, restriction_section, inference_section, with_constraint, constraint}
 use Rattle.vc_syntax.specs.Trees.{Condition, Restriction, Constraint}
 use Rattle.vc_syntax.specs.TermGrammar.{IsSign, IsWord, IsText, IsOperand}
-use Rattle.vc_syntax.specs.ConditionGrammar.{IsListed, IsCondition}
+use Rattle.vc_syntax.specs.ConditionGrammar.{IsListed}
 use Rattle.vc_syntax.specs.StatementGrammar.{IsRestriction}
 use Rattle.vc_syntax.specs.ConstraintGrammar as grammar
 use Rattle.vc_syntax.specs.ConstraintGrammar.{IsClassType, IsObjectKind, IsAlias, IsWhere, IsObject, IsSection, IsObjectSection, IsConditionSection, IsRestrictionSection, IsInferenceSection, IsConstraint}
@@ -102,9 +101,14 @@ section_again read colon ts period x rest p q e =
     ∙ ap (λ o. leaving_as x o) (after_sign_again signs.Period period rest q)
 
 pub period_ends : (t : Token) (rest : List Token) → IsSign signs.Period t → EndsStatement (t ∷ rest)
-period_ends t rest e = (((ap (λ l. cond (is_sign signs.Dot l) (Some rest) None) e, ap (λ l. leaving rest (product_operator_in l)) e, ap (λ l. leaving rest (sum_operator_in l)) e),
-    ap (λ l. cond (is_word words.And l) (Some rest) None) e, ap (λ l. cond (is_word words.Or l) (Some rest) None) e),
-    ap (λ l. cond (is_word words.If l) (Some rest) None) e)
+period_ends t rest e = (
+  (
+    (ap (λ l. cond (is_sign signs.Dot l) (Some rest) None) e, ap (λ l. leaving rest (product_operator_in l)) e, ap (λ l. leaving rest (sum_operator_in l)) e),
+    ap (λ l. cond (is_word words.And l) (Some rest) None) e,
+    ap (λ l. cond (is_word words.Or l) (Some rest) None) e,
+  ),
+  ap (λ l. cond (is_word words.If l) (Some rest) None) e,
+)
 
 pub period_ends_list : (t : Token) (rest : List Token) → IsSign signs.Period t → after_sign signs.Comma (t ∷ rest) ≡ None
 period_ends_list t rest e = ap (λ l. cond (is_sign signs.Comma l) (Some rest) None) e
@@ -113,10 +117,10 @@ object_section_again : (ts : List Token) (xs : List Object) → IsObjectSection 
 object_section_again _ _ (grammar.objects t _ w (grammar.section colon us period x p d q)) rest =
     ap (λ o. then o (section (listed signs.Comma object))) (after_word_again words.Objects t (colon ∷ ((us ++ period ∷ []) ++ rest)) w)
     ∙ section_again (listed signs.Comma object) colon us period x rest p q
-        (reads_whole_list signs.Comma object IsObject object_shortens (length us) EndsObject
-            (λ u r e. (ap (λ l. cond (is_word words.Where l) (Some r) None) e, ap (λ l. cond (is_sign signs.Semicolon l) (Some r) None) e))
-            (λ vs y e k r ends. object_again vs y e r ends) us x d (omega arith) (period ∷ rest)
-            (ap (λ l. cond (is_word words.Where l) (Some rest) None) q, ap (λ l. cond (is_sign signs.Semicolon l) (Some rest) None) q) (period_ends_list period rest q))
+    (reads_whole_list signs.Comma object IsObject object_shortens (length us) EndsObject
+    (λ u r e. (ap (λ l. cond (is_word words.Where l) (Some r) None) e, ap (λ l. cond (is_sign signs.Semicolon l) (Some r) None) e))
+    (λ vs y e k r ends. object_again vs y e r ends) us x d (omega arith) (period ∷ rest)
+    (ap (λ l. cond (is_word words.Where l) (Some rest) None) q, ap (λ l. cond (is_sign signs.Semicolon l) (Some rest) None) q) (period_ends_list period rest q))
 
 condition_section_again : (ts : List Token) (x : Option Condition) → IsConditionSection ts x → (n : ℕ) → length ts ≤ n → (rest : List Token) → after_word words.Condition rest ≡ None
     → condition_section n (ts ++ rest) ≡ Some (x, rest)
@@ -125,13 +129,13 @@ condition_section_again _ _ (grammar.when t _ w (grammar.section colon us period
     let all : List Token = colon ∷ ((us ++ period ∷ []) ++ rest) in
     ap (λ o. either o (Some (None, t ∷ all)) (λ r. made Some (section (condition n) r))) (after_word_again words.Condition t all w)
     ∙ ap (λ o. made Some o) (section_again (condition n) colon us period x rest p q
-        (reads_whole_condition us x d n (omega (arith, length-append us (period ∷ []))) (period ∷ rest) ((period_ends period rest q).0)))
+    (reads_whole_condition us x d n (omega (arith, length-append us (period ∷ []))) (period ∷ rest) ((period_ends period rest q).0)))
 
 restrictions_again : (colon : Token) (us : List Token) (period : Token) (xs : List Restriction) (n : ℕ) (rest : List Token) → IsSign signs.Colon colon → IsSign signs.Period period
     → IsListed signs.Comma IsRestriction us xs → length us ≤ n → section (listed signs.Comma (restriction n)) (colon ∷ ((us ++ period ∷ []) ++ rest)) ≡ Some (xs, rest)
 restrictions_again colon us period xs n rest p q d h = section_again (listed signs.Comma (restriction n)) colon us period xs rest p q
     (reads_whole_list signs.Comma (restriction n) IsRestriction (restriction_shortens n) n EndsStatement comma_ends
-        (λ vs y e k r ends. reads_restriction vs y e n k r ends) us xs d h (period ∷ rest) (period_ends period rest q) (period_ends_list period rest q))
+    (λ vs y e k r ends. reads_restriction vs y e n k r ends) us xs d h (period ∷ rest) (period_ends period rest q) (period_ends_list period rest q))
 
 restriction_section_again : (ts : List Token) (xs : List Restriction) → IsRestrictionSection ts xs → (n : ℕ) → length ts ≤ n → (rest : List Token)
     → restriction_section n (ts ++ rest) ≡ Some (xs, rest)
@@ -156,18 +160,18 @@ inference_section_again _ _ (grammar.inferences t _ w (grammar.section colon us 
     let all : List Token = colon ∷ ((us ++ period ∷ []) ++ rest) in
     ap (λ o. either o (Some ([], t ∷ all)) (section (listed signs.Comma operand))) (after_word_again words.Inferences t all w)
     ∙ section_again (listed signs.Comma operand) colon us period x rest p q
-        (reads_whole_list signs.Comma operand IsOperand operand_shortens (length us) EndsName (λ u r e. (comma_ends u r e).0.0.0)
-            (λ vs y e k r ends'. reads_operand vs y e r ends') us x d (omega arith) (period ∷ rest) ((period_ends period rest q).0.0.0) (period_ends_list period rest q))
+    (reads_whole_list signs.Comma operand IsOperand operand_shortens (length us) EndsName (λ u r e. (comma_ends u r e).0.0.0)
+    (λ vs y e k r ends'. reads_operand vs y e r ends') us x d (omega arith) (period ∷ rest) ((period_ends period rest q).0.0.0) (period_ends_list period rest q))
 
 pub reads_constraint : (ts : List Token) (x : Constraint) → IsConstraint ts x → (n : ℕ) → length ts ≤ n → (rest : List Token) → after_word words.Inferences rest ≡ None
     → constraint n (ts ++ rest) ≡ Some (x, rest)
 reads_constraint _ _ (grammar.constraint ts us vs ws {objects = a} {condition = b} {restrictions = c} {inferences = d} p q r s) n h rest ends =
     ap (λ y. constraint n y) (append_assoc ts (us ++ (vs ++ ws)) rest ∙ ap (λ y. ts ++ y) (append_assoc us (vs ++ ws) rest ∙ ap (λ y. us ++ y) (append_assoc vs ws rest)))
     ∙ ap (λ o. then o (λ objects. then (condition_section n objects.1) (λ condition. then (restriction_section n condition.1) (λ restrictions.
-        made (with_constraint objects.0 condition.0 restrictions.0) (inference_section restrictions.1))))) (object_section_again ts a p (us ++ (vs ++ (ws ++ rest))))
+    made (with_constraint objects.0 condition.0 restrictions.0) (inference_section restrictions.1))))) (object_section_again ts a p (us ++ (vs ++ (ws ++ rest))))
     ∙ ap (λ o. then o (λ condition. then (restriction_section n condition.1) (λ restrictions.
-        made (with_constraint a condition.0 restrictions.0) (inference_section restrictions.1))))
-        (condition_section_again us b q n (omega (arith, length-append ts (us ++ (vs ++ ws)), length-append us (vs ++ ws))) (vs ++ (ws ++ rest)) (restriction_section_ends vs c r (ws ++ rest)))
+    made (with_constraint a condition.0 restrictions.0) (inference_section restrictions.1))))
+    (condition_section_again us b q n (omega (arith, length-append ts (us ++ (vs ++ ws)), length-append us (vs ++ ws))) (vs ++ (ws ++ rest)) (restriction_section_ends vs c r (ws ++ rest)))
     ∙ ap (λ o. then o (λ restrictions. made (with_constraint a b restrictions.0) (inference_section restrictions.1)))
-        (restriction_section_again vs c r n (omega (arith, length-append ts (us ++ (vs ++ ws)), length-append us (vs ++ ws), length-append vs ws)) (ws ++ rest))
+    (restriction_section_again vs c r n (omega (arith, length-append ts (us ++ (vs ++ ws)), length-append us (vs ++ ws), length-append vs ws)) (ws ++ rest))
     ∙ ap (λ o. made (with_constraint a b c) o) (inference_section_again ws d s rest ends)

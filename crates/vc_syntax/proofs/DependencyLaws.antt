@@ -1,5 +1,5 @@
 -- What is read as a whole dependency is just what the grammar says.
-use Rattle.std.proofs.Common.{◌≡◌, ℕ, ◌≤◌, List, [], ◌∷◌, ◌++◌, length, Bool, true, false, cond, Option, Some, None, option_map, refl, sym, ap, subst, ◌∙◌, length-append, arith}
+use Rattle.std.proofs.Common.{◌≡◌, ℕ, List, [], ◌∷◌, ◌++◌, length, Bool, true, cond, Option, Some, None, option_map, refl, sym, ap, subst, ◌∙◌, length-append, arith}
 use Rattle.vc_syntax.specs.declared.token.Token.{Token}
 use Rattle.vc_syntax.specs.declared.token.Sign.TheVariants as signs
 use Rattle.vc_syntax.specs.declared.fault.Kind.{Kind}
@@ -22,7 +22,7 @@ use Rattle.vc_syntax.specs.StatementGrammar.{IsStatement}
 use Rattle.vc_syntax.specs.ConstraintGrammar.{IsConstraint}
 use Rattle.vc_syntax.specs.DependencyGrammar as grammar
 use Rattle.vc_syntax.specs.DependencyGrammar.{IsStop, IsDependency}
-use Rattle.vc_syntax.proofs.Chains.{Took, IsSound, then_some, map_some}
+use Rattle.vc_syntax.proofs.Chains.{Took, then_some, map_some}
 use Rattle.vc_syntax.proofs.TokenLaws.{cond_some, after_sign_is, after_sign_again}
 use Rattle.vc_syntax.proofs.Lists.{listed_is, reads_whole_list}
 use Rattle.vc_syntax.proofs.TermSoundness.{sum_is}
@@ -76,7 +76,7 @@ dependency_is kinds.Selection left ts tree e =
 dependency_is kinds.Procedure left ts tree e =
     let p : (x : List Statement) × (up_to is_stop (listed signs.Comma (statement left) ts) ≡ Some x) × (trees.Procedure x ≡ tree) = map_some _ _ tree e in
     let q : (front rest : List Token) × (ts ≡ front ++ rest) × IsListed signs.Comma IsStatement front p.0 × (is_stop rest ≡ true)
-        = up_to_is (IsListed signs.Comma IsStatement) is_stop ts _ p.0 p.1 (listed_is signs.Comma (statement left) IsStatement (statement_is left) ts) in
+    = up_to_is (IsListed signs.Comma IsStatement) is_stop ts _ p.0 p.1 (listed_is signs.Comma (statement left) IsStatement (statement_is left) ts) in
     let P : List Token → Type 0 = λ y. IsDependency kinds.Procedure y tree in
     let Q : Dependency → Type 0 = λ y. IsDependency kinds.Procedure (q.0 ++ q.1) y in
     subst P (sym q.2) (subst Q p.2 (grammar.procedure q.0 q.1 q.3 (stop_is q.1 q.4)))
@@ -97,8 +97,11 @@ dependency_is kinds.Term left ts tree e =
 
 stop_ends : (ts : List Token) → IsStop ts → EndsStatement ts × (after_sign signs.Comma ts ≡ None) × (is_stop ts ≡ true)
 stop_ends _ grammar.nothing = ((((refl, refl, refl), refl, refl), refl), refl, refl)
-stop_ends _ (grammar.period {t = t} e) = (period_ends t [] e, period_ends_list t [] e,
-    ap (λ o. is_end (without_period o (t ∷ []))) (after_sign_again signs.Period t [] e))
+stop_ends _ (grammar.period {t = t} e) = (
+  period_ends t [] e,
+  period_ends_list t [] e,
+  ap (λ o. is_end (without_period o (t ∷ []))) (after_sign_again signs.Period t [] e),
+)
 
 up_to_again : {A : Type 0} (ends : List Token → Bool) (read : Option (A × List Token)) (x : A) (rest : List Token) → read ≡ Some (x, rest) → ends rest ≡ true
     → up_to ends read ≡ Some x
@@ -111,7 +114,7 @@ reads_dependency _ _ _ (grammar.selection ts us {x = x} d s) = ap (λ o. option_
     (reads_whole_condition ts x d (length (ts ++ us)) (omega (arith, length-append ts us)) us ((stop_ends us s).0.0)) ((stop_ends us s).2))
 reads_dependency _ _ _ (grammar.procedure ts us {xs = xs} d s) = ap (λ o. option_map trees.Procedure o) (up_to_again is_stop _ xs us
     (reads_whole_list signs.Comma (statement (length (ts ++ us))) IsStatement (statement_shortens (length (ts ++ us))) (length (ts ++ us)) EndsStatement comma_ends
-        (λ vs y e k r ends. reads_statement vs y e (length (ts ++ us)) k r ends) ts xs d (omega (arith, length-append ts us)) us ((stop_ends us s).0) ((stop_ends us s).1))
+    (λ vs y e k r ends. reads_statement vs y e (length (ts ++ us)) k r ends) ts xs d (omega (arith, length-append ts us)) us ((stop_ends us s).0) ((stop_ends us s).1))
     ((stop_ends us s).2))
 reads_dependency _ _ _ (grammar.constraint {ts = ts} {x = x} d) = ap (λ o. option_map trees.Constrains o) (up_to_again is_end _ x []
     (ap (λ y. constraint (length ts) y) (sym (append_nothing ts)) ∙ reads_constraint ts x d (length ts) (omega arith) [] refl) refl)

@@ -1,10 +1,10 @@
 -- Lists with a separator between their members.
-use Rattle.std.proofs.Common.{◌≡◌, ℕ, ◌+◌, ◌<◌, ◌≤◌, List, [], ◌∷◌, ◌++◌, length, Option, Some, None, option_map, refl, sym, ap, subst, ◌∙◌, append_assoc, length-append, map, arith}
+use Rattle.std.proofs.Common.{◌≡◌, ℕ, ◌<◌, ◌≤◌, List, [], ◌∷◌, ◌++◌, length, Option, Some, None, refl, sym, ap, subst, ◌∙◌, append_assoc, length-append, map, arith}
 use Rattle.vc_syntax.specs.declared.token.Token.{Token}
 use Rattle.vc_syntax.specs.declared.token.Sign.{Sign}
 use Rattle.vc_syntax.specs.declared.token.Reserved.{Reserved}
 use Rattle.vc_syntax.specs.Leaves.{after_sign, after_word}
-use Rattle.vc_syntax.specs.Reading.{Reader, then, made, leaving_as, sign, word, append, single, listed, chained, chain}
+use Rattle.vc_syntax.specs.Reading.{Reader, then, made, leaving_as, sign, word, append, single, listed, chained}
 use Rattle.vc_syntax.specs.TermGrammar.{IsSign, IsWord}
 use Rattle.vc_syntax.specs.ConditionGrammar as grammar
 use Rattle.vc_syntax.specs.ConditionGrammar.{IsListed}
@@ -104,7 +104,7 @@ module _ {A : Type 0} (separator : Sign) (read : Reader A) (IsA : List Token →
       ap (λ y. listed separator read y) (append_assoc ts (t ∷ us) rest)
       ∙ reads_listed ts xs d (omega (arith, length-append ts (t ∷ us))) (t ∷ (us ++ rest)) (separator_ends t (us ++ rest) i)
       ∙ listed_step separator read shortens xs (t ∷ (us ++ rest)) (us ++ rest) rest x (after_sign_again separator t (us ++ rest) i)
-          (again us x e (omega (arith, length-append ts (t ∷ us))) rest ends)
+      (again us x e (omega (arith, length-append ts (t ∷ us))) rest ends)
 
   pub reads_whole_list : (ts : List Token) (xs : List A) → IsListed separator IsA ts xs → length ts ≤ n → (rest : List Token) → Ends rest → after_sign separator rest ≡ None
       → listed separator read (ts ++ rest) ≡ Some (xs, rest)

@@ -1,29 +1,26 @@
 -- What the grammar of statements and restrictions says, is read.
-use Rattle.std.proofs.Common.{◌≡◌, ℕ, suc, ◌+◌, ◌≤◌, List, [], ◌∷◌, ◌++◌, length, cond, Option, Some, None, refl, sym, ap, ◌∙◌, append_assoc, length-append, arith}
+use Rattle.std.proofs.Common.{◌≡◌, ℕ, ◌≤◌, List, [], ◌∷◌, ◌++◌, length, cond, Option, Some, None, refl, ap, ◌∙◌, append_assoc, length-append, arith}
 use Rattle.vc_syntax.specs.declared.token.Token.{Token}
 use Rattle.vc_syntax.specs.declared.token.Lexeme.{Lexeme}
 use Rattle.vc_syntax.specs.declared.token.Lexeme.TheVariants as lexemes
-use Rattle.vc_syntax.specs.declared.token.Sign.{Sign}
 use Rattle.vc_syntax.specs.declared.token.Sign.TheVariants as signs
-use Rattle.vc_syntax.specs.declared.token.Dollar.{Dollar}
-use Rattle.vc_syntax.specs.declared.token.Dollar.TheVariants as dollars
 use Rattle.vc_syntax.specs.declared.token.Reserved.TheVariants as words
 use Rattle.vc_syntax.specs.declared.tree.NameLeaf.{NameLeaf}
-use Rattle.vc_syntax.specs.Leaves.{is_sign, is_word, after_sign, after_word, named, any_named}
-use Rattle.vc_syntax.specs.Reading.{then, either, made, leaving, leaving_as, closed, grouped, sign, word, append, single, listed, chained}
-use Rattle.vc_syntax.specs.TermReading.{product_operator_in, sum_operator_in, product_operator, sum_operator, dotted, self_and_name, sum}
+use Rattle.vc_syntax.specs.Leaves.{is_sign, is_word, after_sign, after_word}
+use Rattle.vc_syntax.specs.Reading.{then, either, made, leaving, leaving_as, closed, grouped, word, listed}
+use Rattle.vc_syntax.specs.TermReading.{product_operator_in, sum_operator_in, sum}
 use Rattle.vc_syntax.specs.ConditionReading.{any, relation, conjunction, condition}
-use Rattle.vc_syntax.specs.StatementReading.{bind, call, state, demand, binding, table_call, assignment, defaulted, action_in, action, condition_if, statement, demand_in, demanded, restriction}
+use Rattle.vc_syntax.specs.StatementReading.{bind, call, state, demand, binding, table_call, defaulted, action_in, action, condition_if, statement, demand_in, demanded, restriction}
 use Rattle.vc_syntax.specs.Trees as trees
 use Rattle.vc_syntax.specs.Trees.{Term, Relation, Condition, Binding, TableCall, Action, Statement, Demand, Restriction}
-use Rattle.vc_syntax.specs.TermGrammar.{IsSign, IsWord, IsDollar, IsName, IsAnyName, IsSelfAndName, IsSum}
-use Rattle.vc_syntax.specs.ConditionGrammar.{IsListed, IsRelation, IsCondition}
+use Rattle.vc_syntax.specs.TermGrammar.{IsSign, IsAnyName, IsSelfAndName, IsSum}
+use Rattle.vc_syntax.specs.ConditionGrammar.{IsListed, IsCondition}
 use Rattle.vc_syntax.specs.StatementGrammar as grammar
 use Rattle.vc_syntax.specs.StatementGrammar.{IsBinding, IsTable, IsAction, IsIf, IsStatement, IsDemand, IsRestriction}
 use Rattle.vc_syntax.proofs.Chains.{chained_stops}
 use Rattle.vc_syntax.proofs.TokenLaws.{after_sign_again, after_word_again, named_again, any_named_again}
 use Rattle.vc_syntax.proofs.Lists.{reads_whole_list}
-use Rattle.vc_syntax.proofs.TermCompleteness.{EndsName, closed_again, close_ends, dotted_again, reads_self_and_name}
+use Rattle.vc_syntax.proofs.TermCompleteness.{closed_again, close_ends, dotted_again, reads_self_and_name}
 use Rattle.vc_syntax.proofs.ConditionCompleteness.{EndsTerm, reads_whole_sum, word_ends, word_no_relation, relation_again, reads_condition}
 use Rattle.vc_syntax.proofs.StatementSoundness.{binding_shortens}
 
@@ -58,9 +55,14 @@ binding_again _ _ (grammar.bound t equal ts {column = column} {value = value} a 
 
 -- a comma ends whatever stands before it
 pub comma_ends : (t : Token) (rest : List Token) → IsSign signs.Comma t → EndsStatement (t ∷ rest)
-comma_ends t rest e = (((ap (λ l. cond (is_sign signs.Dot l) (Some rest) None) e, ap (λ l. leaving rest (product_operator_in l)) e, ap (λ l. leaving rest (sum_operator_in l)) e),
-    ap (λ l. cond (is_word words.And l) (Some rest) None) e, ap (λ l. cond (is_word words.Or l) (Some rest) None) e),
-    ap (λ l. cond (is_word words.If l) (Some rest) None) e)
+comma_ends t rest e = (
+  (
+    (ap (λ l. cond (is_sign signs.Dot l) (Some rest) None) e, ap (λ l. leaving rest (product_operator_in l)) e, ap (λ l. leaving rest (sum_operator_in l)) e),
+    ap (λ l. cond (is_word words.And l) (Some rest) None) e,
+    ap (λ l. cond (is_word words.Or l) (Some rest) None) e,
+  ),
+  ap (λ l. cond (is_word words.If l) (Some rest) None) e,
+)
 
 called_again : (u opening : Token) (ts : List Token) (closing : Token) (table : NameLeaf) (xs : List Binding) → IsAnyName u table → IsSign signs.OpenParen opening
     → IsListed signs.Comma IsBinding ts xs → IsSign signs.CloseParen closing → (n : ℕ) → length ts ≤ n → (rest : List Token)
@@ -70,8 +72,8 @@ called_again u opening ts closing table xs a b d c n h rest =
     ∙ ap (λ o. made (call table) (then o (λ r. closed (listed signs.Comma (binding n) r)))) (after_sign_again signs.OpenParen opening ((ts ++ closing ∷ []) ++ rest) b)
     ∙ ap (λ y. made (call table) (closed (listed signs.Comma (binding n) y))) (append_assoc ts (closing ∷ []) rest)
     ∙ ap (λ o. made (call table) (closed o)) (reads_whole_list signs.Comma (binding n) IsBinding (binding_shortens n) n EndsTerm
-        (λ t r e. (comma_ends t r e).0.0) (λ us x e k r ends. binding_again us x e n k r ends) ts xs d h (closing ∷ rest) (close_ends closing rest c)
-        (ap (λ l. cond (is_sign signs.Comma l) (Some rest) None) c))
+    (λ t r e. (comma_ends t r e).0.0) (λ us x e k r ends. binding_again us x e n k r ends) ts xs d h (closing ∷ rest) (close_ends closing rest c)
+    (ap (λ l. cond (is_sign signs.Comma l) (Some rest) None) c))
     ∙ ap (λ o. made (call table) o) (closed_again xs closing rest c)
 
 defaulted_again : (make : NameLeaf → Term → Action) (ts : List Token) (comma : Token) (us : List Token) (closing : Token) (name : NameLeaf) (value : Term)

@@ -1,5 +1,5 @@
 -- What is read as a statement or a restriction, the grammar says.
-use Rattle.std.proofs.Common.{◌≡◌, ℕ, List, [], ◌∷◌, ◌++◌, Option, Some, None, ◌⊎◌, inl, inr, refl, sym, ap, subst, ◌∙◌, append_assoc}
+use Rattle.std.proofs.Common.{◌≡◌, ℕ, List, [], ◌∷◌, ◌++◌, Option, Some, None, inl, inr, refl, sym, ap, subst, ◌∙◌, append_assoc}
 use Rattle.vc_syntax.specs.declared.token.Token.{Token}
 use Rattle.vc_syntax.specs.declared.token.Lexeme.{Lexeme}
 use Rattle.vc_syntax.specs.declared.token.Lexeme.TheVariants as lexemes
@@ -8,7 +8,7 @@ use Rattle.vc_syntax.specs.declared.token.Dollar.TheVariants as dollars
 use Rattle.vc_syntax.specs.declared.token.Reserved.TheVariants as words
 use Rattle.vc_syntax.specs.declared.tree.NameLeaf.{NameLeaf}
 use Rattle.vc_syntax.specs.Leaves.{after_sign, after_word, named, any_named}
-use Rattle.vc_syntax.specs.Reading.{then, either, made, closed, grouped, listed}
+use Rattle.vc_syntax.specs.Reading.{then, made, closed, grouped, listed}
 use Rattle.vc_syntax.specs.TermReading.{dotted, self_and_name, sum}
 use Rattle.vc_syntax.specs.ConditionReading.{relation, condition}
 use Rattle.vc_syntax.specs.StatementReading.{bind, call, state, demand, binding, table_call, assignment, defaulted, action_in, action, condition_if, statement, demand_in, demanded, restriction}
@@ -45,10 +45,12 @@ table_call_is left t ts found w e = let P : TableCall × List Token → Type 0 =
     let a' : (t : Token) × (ts ≡ t ∷ a.0.1) × IsAnyName t a.0.0 = any_named_is ts a.0 a.1 in
     let c' : (t : Token) × (a.0.1 ≡ t ∷ c.0) × IsSign signs.OpenParen t = after_sign_is signs.OpenParen a.0.1 c.0 c.1 in
     let d : (front : List Token) × (u : Token) × (c.0 ≡ front ++ u ∷ b.0.1) × IsListed signs.Comma IsBinding front b.0.0 × IsSign signs.CloseParen u
-        = closed_is (IsListed signs.Comma IsBinding) c.0 _ b.0 c.2 (listed_is signs.Comma (binding left) IsBinding (binding_is left) c.0) in
-    subst P b.2 (t ∷ a'.0 ∷ c'.0 ∷ (d.0 ++ d.1 ∷ []),
-        ap (λ x. t ∷ x) (a'.1 ∙ ap (λ x. a'.0 ∷ x) (c'.1 ∙ ap (λ x. c'.0 ∷ x) (d.2 ∙ sym (append_assoc d.0 (d.1 ∷ []) b.0.1)))),
-        grammar.called t a'.0 c'.0 d.0 d.1 w a'.2 c'.2 d.3 d.4)
+    = closed_is (IsListed signs.Comma IsBinding) c.0 _ b.0 c.2 (listed_is signs.Comma (binding left) IsBinding (binding_is left) c.0) in
+    subst P b.2 (
+      t ∷ a'.0 ∷ c'.0 ∷ (d.0 ++ d.1 ∷ []),
+      ap (λ x. t ∷ x) (a'.1 ∙ ap (λ x. a'.0 ∷ x) (c'.1 ∙ ap (λ x. c'.0 ∷ x) (d.2 ∙ sym (append_assoc d.0 (d.1 ∷ []) b.0.1)))),
+      grammar.called t a'.0 c'.0 d.0 d.1 w a'.2 c'.2 d.3 d.4,
+    )
 
 assignment_is : (left : ℕ) (t : Token) (ts : List Token) (found : Action × List Token) → IsDollar dollars.Itself t → assignment left ts ≡ Some found → Took IsAction (t ∷ ts) found
 assignment_is left t ts found w e = let P : Action × List Token → Type 0 = λ x. Took IsAction (t ∷ ts) x in
@@ -58,13 +60,15 @@ assignment_is left t ts found w e = let P : Action × List Token → Type 0 = λ
     let a' : (dot u : Token) × (ts ≡ dot ∷ u ∷ a.0.1) × IsSign signs.Dot dot × IsName u a.0.0 = dotted_is ts a.0 a.1 in
     let b' : (t : Token) × (a.0.1 ≡ t ∷ b.0) × IsSign signs.Equal t = after_sign_is signs.Equal a.0.1 b.0 b.1 in
     let c' : Took IsSum b.0 c.0 = sum_is left b.0 c.0 c.1 in
-    subst P c.2 (t ∷ a'.0 ∷ a'.1 ∷ b'.0 ∷ c'.0,
-        ap (λ x. t ∷ x) (a'.2 ∙ ap (λ x. a'.0 ∷ a'.1 ∷ x) (b'.1 ∙ ap (λ x. b'.0 ∷ x) c'.1)),
-        grammar.assign t a'.0 a'.1 b'.0 c'.0 w a'.3 a'.4 b'.2 c'.2)
+    subst P c.2 (
+      t ∷ a'.0 ∷ a'.1 ∷ b'.0 ∷ c'.0,
+      ap (λ x. t ∷ x) (a'.2 ∙ ap (λ x. a'.0 ∷ a'.1 ∷ x) (b'.1 ∙ ap (λ x. b'.0 ∷ x) c'.1)),
+      grammar.assign t a'.0 a'.1 b'.0 c'.0 w a'.3 a'.4 b'.2 c'.2,
+    )
 
 defaulted_is : (make : NameLeaf → Term → Action) (left : ℕ) (t : Token) (ts : List Token) (found : Action × List Token)
     → ((us : List Token) (comma : Token) (vs : List Token) (closing : Token) (name : NameLeaf) (value : Term) → IsSelfAndName us name → IsSign signs.Comma comma → IsSum vs value
-        → IsSign signs.CloseParen closing → IsAction (t ∷ (us ++ comma ∷ (vs ++ closing ∷ []))) (make name value))
+    → IsSign signs.CloseParen closing → IsAction (t ∷ (us ++ comma ∷ (vs ++ closing ∷ []))) (make name value))
     → defaulted make left ts ≡ Some found → Took IsAction (t ∷ ts) found
 defaulted_is make left t ts found build e = let P : Action × List Token → Type 0 = λ x. Took IsAction (t ∷ ts) x in
     let a : (x : NameLeaf × List Token) × (self_and_name ts ≡ Some x) × (then (after_sign signs.Comma x.1) (λ rest. made (make x.0) (closed (sum left rest))) ≡ Some found) = then_some _ _ found e in
@@ -74,9 +78,11 @@ defaulted_is make left t ts found build e = let P : Action × List Token → Typ
     let b' : (t : Token) × (a.0.1 ≡ t ∷ b.0) × IsSign signs.Comma t = after_sign_is signs.Comma a.0.1 b.0 b.1 in
     let d : (front : List Token) × (u : Token) × (b.0 ≡ front ++ u ∷ c.0.1) × IsSum front c.0.0 × IsSign signs.CloseParen u = closed_is IsSum b.0 _ c.0 c.1 (sum_is left b.0) in
     let inner : a.0.1 ≡ (b'.0 ∷ (d.0 ++ d.1 ∷ [])) ++ c.0.1 = b'.1 ∙ ap (λ x. b'.0 ∷ x) (d.2 ∙ sym (append_assoc d.0 (d.1 ∷ []) c.0.1)) in
-    subst P c.2 (t ∷ (a'.0 ++ b'.0 ∷ (d.0 ++ d.1 ∷ [])),
-        ap (λ x. t ∷ x) (a'.1 ∙ ap (λ x. a'.0 ++ x) inner ∙ sym (append_assoc a'.0 (b'.0 ∷ (d.0 ++ d.1 ∷ [])) c.0.1)),
-        build a'.0 b'.0 d.0 d.1 a.0.0 c.0.0 a'.2 b'.2 d.3 d.4)
+    subst P c.2 (
+      t ∷ (a'.0 ++ b'.0 ∷ (d.0 ++ d.1 ∷ [])),
+      ap (λ x. t ∷ x) (a'.1 ∙ ap (λ x. a'.0 ++ x) inner ∙ sym (append_assoc a'.0 (b'.0 ∷ (d.0 ++ d.1 ∷ [])) c.0.1)),
+      build a'.0 b'.0 d.0 d.1 a.0.0 c.0.0 a'.2 b'.2 d.3 d.4,
+    )
 
 action_in_is : (left : ℕ) (l : Lexeme) (t : Token) (ts : List Token) (found : Action × List Token) → t.lexeme ≡ l → action_in left l ts ≡ Some found → Took IsAction (t ∷ ts) found
 action_in_is left (lexemes.Dollar dollars.Itself) t ts found h e = assignment_is left t ts found h e
@@ -95,12 +101,13 @@ action_is left (t ∷ ts) found e = action_in_is left t.lexeme t ts found refl e
 condition_if_is : (left : ℕ) → IsSound (condition_if left) IsIf
 condition_if_is left ts found e = let P : Option Condition × List Token → Type 0 = λ x. Took IsIf ts x in
     elim (either_some (after_word words.If ts) _ _ found e) [
-      inl p ↦ let same : (None, ts) ≡ found = cc (p.1) in subst P same ([], refl, grammar.always)
-    | inr p ↦
-      let a : (x : Condition × List Token) × (condition left p.0 ≡ Some x) × ((Some x.0, x.1) ≡ found) = map_some _ _ found p.2 in
-      let w : (t : Token) × (ts ≡ t ∷ p.0) × IsWord words.If t = after_word_is words.If ts p.0 p.1 in
-      let b : Took IsCondition p.0 a.0 = condition_is left p.0 a.0 a.1 in
-      subst P a.2 (w.0 ∷ b.0, w.1 ∙ ap (λ x. w.0 ∷ x) b.1, grammar.when w.0 b.0 w.2 b.2) ]
+      | inl p ↦ let same : (None, ts) ≡ found = cc (p.1) in subst P same ([], refl, grammar.always)
+      | inr p ↦
+          let a : (x : Condition × List Token) × (condition left p.0 ≡ Some x) × ((Some x.0, x.1) ≡ found) = map_some _ _ found p.2 in
+          let w : (t : Token) × (ts ≡ t ∷ p.0) × IsWord words.If t = after_word_is words.If ts p.0 p.1 in
+          let b : Took IsCondition p.0 a.0 = condition_is left p.0 a.0 a.1 in
+          subst P a.2 (w.0 ∷ b.0, w.1 ∙ ap (λ x. w.0 ∷ x) b.1, grammar.when w.0 b.0 w.2 b.2)
+    ]
 
 pub statement_is : (left : ℕ) → IsSound (statement left) IsStatement
 statement_is left ts found e = let P : Statement × List Token → Type 0 = λ x. Took IsStatement ts x in

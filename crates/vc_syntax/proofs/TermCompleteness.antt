@@ -1,24 +1,21 @@
 -- What the grammar of terms says, is read.
-use Rattle.std.proofs.Common.{◌≡◌, ℕ, zero, suc, ◌+◌, ◌<◌, ◌≤◌, List, [], ◌∷◌, ◌++◌, length, cond, Option, Some, None, option_map, refl, sym, ap, ◌∙◌, append_assoc, length-append, arith}
+use Rattle.std.proofs.Common.{◌≡◌, ℕ, zero, suc, ◌<◌, ◌≤◌, List, [], ◌∷◌, ◌++◌, length, cond, Some, None, option_map, refl, ap, ◌∙◌, append_assoc, length-append, arith}
 use Rattle.vc_syntax.specs.declared.token.Token.{Token}
 use Rattle.vc_syntax.specs.declared.token.Lexeme.{Lexeme}
 use Rattle.vc_syntax.specs.declared.token.Lexeme.TheVariants as lexemes
 use Rattle.vc_syntax.specs.declared.token.Sign.TheVariants as signs
-use Rattle.vc_syntax.specs.declared.token.Dollar.{Dollar}
 use Rattle.vc_syntax.specs.declared.token.Dollar.TheVariants as dollars
 use Rattle.vc_syntax.specs.declared.tree.NameLeaf.{NameLeaf}
 use Rattle.vc_syntax.specs.declared.tree.TextLeaf.{TextLeaf}
 use Rattle.vc_syntax.specs.declared.tree.NumberLeaf.{NumberLeaf}
-use Rattle.vc_syntax.specs.declared.tree.Owner.{Owner}
 use Rattle.vc_syntax.specs.declared.tree.Operand.{Operand}
 use Rattle.vc_syntax.specs.declared.tree.Operand.TheVariants as operands
 use Rattle.vc_syntax.specs.declared.tree.Operator.{Operator}
-use Rattle.vc_syntax.specs.declared.tree.Function.{Function}
-use Rattle.vc_syntax.specs.Leaves.{is_sign, name_in, variable_in, text_in, number_in, name_of, variable_of, text_of, number_of, after_sign, after_self, named}
-use Rattle.vc_syntax.specs.Reading.{Reader, then, either, made, leaving, closed, grouped, chain, chained}
+use Rattle.vc_syntax.specs.Leaves.{is_sign, name_in, variable_in, text_in, number_in, after_sign, after_self, named}
+use Rattle.vc_syntax.specs.Reading.{Reader, then, either, made, leaving, closed, grouped, chained}
 use Rattle.vc_syntax.specs.Trees as trees
 use Rattle.vc_syntax.specs.Trees.{Term}
-use Rattle.vc_syntax.specs.TermReading.{owner_of, dotted, member, operand_in, operand, function_of, product_operator_in, sum_operator_in, product_operator, sum_operator, self_and_name, only_self, count_of_parts, dollar_factor, plain_factor, factor_in, join, factor, product, sum}
+use Rattle.vc_syntax.specs.TermReading.{dotted, member, operand_in, operand, product_operator_in, sum_operator_in, product_operator, sum_operator, self_and_name, only_self, factor_in, join, factor, product, sum}
 use Rattle.vc_syntax.specs.TermGrammar as grammar
 use Rattle.vc_syntax.specs.TermGrammar.{IsSign, IsDollar, IsName, IsVariable, IsText, IsNumber, IsOwner, IsOperand, IsSelfAndName, IsOnlySelf, IsFactor, IsProduct, IsSum, IsProductOperator, IsSumOperator}
 use Rattle.vc_syntax.proofs.Chains.{chained_step, chained_stops}
@@ -80,8 +77,11 @@ closed_again x t rest e = ap (λ o. option_map (λ r. (x, r)) o) (after_sign_aga
 
 -- what a sign other than a dot or an operator ends
 pub close_ends : (t : Token) (rest : List Token) → IsSign signs.CloseParen t → EndsName (t ∷ rest) × (product_operator (t ∷ rest) ≡ None) × (sum_operator (t ∷ rest) ≡ None)
-close_ends t rest e = (ap (λ l. cond (is_sign signs.Dot l) (Some rest) None) e,
-    ap (λ l. leaving rest (product_operator_in l)) e, ap (λ l. leaving rest (sum_operator_in l)) e)
+close_ends t rest e = (
+  ap (λ l. cond (is_sign signs.Dot l) (Some rest) None) e,
+  ap (λ l. leaving rest (product_operator_in l)) e,
+  ap (λ l. leaving rest (sum_operator_in l)) e,
+)
 
 product_operator_ends : (l : Lexeme) (operator : Operator) (rest : List Token) → product_operator_in l ≡ Some operator → cond (is_sign signs.Dot l) (Some rest) None ≡ None
 product_operator_ends (lexemes.Sign signs.Star) operator rest e = refl
@@ -144,13 +144,13 @@ mutual
   reads_factor _ _ (grammar.grouped opening ts closing {term = term} o d c) n h rest ends = factor_at n opening ((ts ++ closing ∷ []) ++ rest) _ (omega arith) (λ m f.
       ap (λ l. factor_in (factor m) (sum m) l opening ((ts ++ closing ∷ []) ++ rest)) o
       ∙ sum_closed m ts closing rest term c (reads_sum ts term d m (omega (arith, length-append ts (closing ∷ []))) (closing ∷ rest)
-          ((close_ends closing rest c).0) ((close_ends closing rest c).1)))
+      ((close_ends closing rest c).0) ((close_ends closing rest c).1)))
   reads_factor _ _ (grammar.applied t opening ts closing {function = function} {term = term} w o d c) n h rest ends = factor_at n t (opening ∷ ((ts ++ closing ∷ []) ++ rest)) _ (omega arith) (λ m f.
       ap (λ l. factor_in (factor m) (sum m) l t (opening ∷ ((ts ++ closing ∷ []) ++ rest))) w.1
       ∙ ap (λ x. then x (λ g. made (trees.Applied g) (grouped (sum m) (opening ∷ ((ts ++ closing ∷ []) ++ rest))))) w.2
       ∙ ap (λ x. made (trees.Applied function) (then x (λ r. closed (sum m r)))) (after_sign_again signs.OpenParen opening ((ts ++ closing ∷ []) ++ rest) o)
       ∙ ap (λ x. made (trees.Applied function) x) (sum_closed m ts closing rest term c (reads_sum ts term d m (omega (arith, length-append ts (closing ∷ []))) (closing ∷ rest)
-          ((close_ends closing rest c).0) ((close_ends closing rest c).1))))
+      ((close_ends closing rest c).0) ((close_ends closing rest c).1))))
   reads_factor _ _ (grammar.sum_of_parts t ts closing {name = name} w d c) n h rest ends = factor_at n t ((ts ++ closing ∷ []) ++ rest) _ (omega arith) (λ m f.
       ap (λ l. factor_in (factor m) (sum m) l t ((ts ++ closing ∷ []) ++ rest)) w
       ∙ ap (λ x. made trees.SumOfParts (closed (self_and_name x))) (append_assoc ts (closing ∷ []) rest)
@@ -168,16 +168,16 @@ mutual
       ap (λ x. product n x) (append_assoc ts (t ∷ us) rest)
       ∙ reads_product ts left d n (omega (arith, length-append ts (t ∷ us))) (t ∷ (us ++ rest)) (product_operator_ends t.lexeme operator (us ++ rest) o)
       ∙ chained_step product_operator join (factor n) product_operator_takes (factor_shortens n) left (t ∷ (us ++ rest)) (operator, us ++ rest) (right, rest)
-          (ap (λ x. leaving (us ++ rest) x) o) (reads_factor us right e n (omega (arith, length-append ts (t ∷ us))) rest ends)
+      (ap (λ x. leaving (us ++ rest) x) o) (reads_factor us right e n (omega (arith, length-append ts (t ∷ us))) rest ends)
 
   pub reads_sum : (ts : List Token) (term : Term) → IsSum ts term → (n : ℕ) → length ts ≤ n → (rest : List Token) → EndsName rest → product_operator rest ≡ None
       → sum n (ts ++ rest) ≡ chained sum_operator join (product n) term rest
   reads_sum _ _ (grammar.product {ts = ts} {term = term} d) n h rest ends stops =
       ap (λ x. then x (λ found. chained sum_operator join (product n) found.0 found.1))
-          (reads_product ts term d n h rest ends ∙ chained_stops product_operator join (factor n) term rest stops)
+      (reads_product ts term d n h rest ends ∙ chained_stops product_operator join (factor n) term rest stops)
   reads_sum _ _ (grammar.added ts t us {left = left} {right = right} {operator = operator} d o e) n h rest ends stops =
       ap (λ x. sum n x) (append_assoc ts (t ∷ us) rest)
       ∙ reads_sum ts left d n (omega (arith, length-append ts (t ∷ us))) (t ∷ (us ++ rest)) ((sum_operator_ends t.lexeme operator (us ++ rest) o).0) ((sum_operator_ends t.lexeme operator (us ++ rest) o).1)
       ∙ chained_step sum_operator join (product n) sum_operator_takes (product_shortens n) left (t ∷ (us ++ rest)) (operator, us ++ rest) (right, rest)
-          (ap (λ x. leaving (us ++ rest) x) o)
-          (reads_product us right e n (omega (arith, length-append ts (t ∷ us))) rest ends ∙ chained_stops product_operator join (factor n) right rest stops)
+      (ap (λ x. leaving (us ++ rest) x) o)
+      (reads_product us right e n (omega (arith, length-append ts (t ∷ us))) rest ends ∙ chained_stops product_operator join (factor n) right rest stops)

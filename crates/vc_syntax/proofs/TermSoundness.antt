@@ -1,5 +1,5 @@
 -- What is read as a term, the grammar of terms says.
-use Rattle.std.proofs.Common.{◌≡◌, ℕ, zero, suc, List, [], ◌∷◌, ◌++◌, Option, Some, None, option_map, ◌⊎◌, inl, inr, refl, sym, ap, subst, ◌∙◌, append_assoc}
+use Rattle.std.proofs.Common.{◌≡◌, ℕ, zero, suc, List, [], ◌∷◌, ◌++◌, Option, Some, option_map, inl, inr, refl, sym, ap, subst, ◌∙◌, append_assoc}
 use Rattle.vc_syntax.specs.declared.token.Token.{Token}
 use Rattle.vc_syntax.specs.declared.token.Lexeme.{Lexeme}
 use Rattle.vc_syntax.specs.declared.token.Lexeme.TheVariants as lexemes
@@ -15,10 +15,10 @@ use Rattle.vc_syntax.specs.declared.tree.Operand.TheVariants as operands
 use Rattle.vc_syntax.specs.declared.tree.Operator.{Operator}
 use Rattle.vc_syntax.specs.declared.tree.Function.{Function}
 use Rattle.vc_syntax.specs.Leaves.{name_of, variable_of, text_of, number_of, after_sign, after_self, named}
-use Rattle.vc_syntax.specs.Reading.{Reader, then, either, made, closed, grouped, chain}
+use Rattle.vc_syntax.specs.Reading.{Reader, then, made, closed, grouped}
 use Rattle.vc_syntax.specs.Trees as trees
 use Rattle.vc_syntax.specs.Trees.{Term}
-use Rattle.vc_syntax.specs.TermReading.{owner_of, dotted, member, operand_in, operand, function_of, product_operator_in, sum_operator_in, product_operator, sum_operator, self_and_name, only_self, count_of_parts, dollar_factor, plain_factor, factor_in, factor_by, product_by, sum_by, join, factor, product, sum}
+use Rattle.vc_syntax.specs.TermReading.{owner_of, dotted, member, operand_in, operand, function_of, product_operator_in, sum_operator_in, product_operator, sum_operator, self_and_name, only_self, dollar_factor, plain_factor, factor_in, factor_by, product_by, sum_by, join, factor, product, sum}
 use Rattle.vc_syntax.specs.TermGrammar as grammar
 use Rattle.vc_syntax.specs.TermGrammar.{IsSign, IsDollar, IsName, IsVariable, IsOperand, IsSelfAndName, IsOnlySelf, IsFactor, IsProduct, IsSum, IsProductOperator, IsSumOperator}
 use Rattle.vc_syntax.proofs.Chains.{Took, IsSound, Reads, Shortens, Takes, sound_shortens, reads_takes, then_some, map_some, either_some, chain_is}
@@ -60,12 +60,13 @@ member_is : (t : Token) (variable : NameLeaf) (ts : List Token) (found : Operand
     → member variable ts ≡ Some found → Took IsOperand (t ∷ ts) found
 member_is t variable ts found v e = let P : Operand × List Token → Type 0 = λ x. Took IsOperand (t ∷ ts) x in
     elim (either_some (after_sign signs.Dot ts) _ _ found e) [
-      inl p ↦ let same : (operands.Variable variable, ts) ≡ found = cc in subst P same (t ∷ [], refl, grammar.variable v)
-    | inr p ↦
-      let q : (t : Token) × (ts ≡ t ∷ p.0) × IsSign signs.Dot t = after_sign_is signs.Dot ts p.0 p.1 in
-      let r : (x : NameLeaf × List Token) × (named p.0 ≡ Some x) × ((operands.Member variable x.0, x.1) ≡ found) = map_some _ _ found p.2 in
-      let s : (t : Token) × (p.0 ≡ t ∷ r.0.1) × IsName t r.0.0 = named_is p.0 r.0 r.1 in
-      subst P r.2 (t ∷ q.0 ∷ s.0 ∷ [], ap (λ x. t ∷ x) (q.1 ∙ ap (λ x. q.0 ∷ x) s.1), grammar.member v q.2 s.2) ]
+      | inl p ↦ let same : (operands.Variable variable, ts) ≡ found = cc in subst P same (t ∷ [], refl, grammar.variable v)
+      | inr p ↦
+          let q : (t : Token) × (ts ≡ t ∷ p.0) × IsSign signs.Dot t = after_sign_is signs.Dot ts p.0 p.1 in
+          let r : (x : NameLeaf × List Token) × (named p.0 ≡ Some x) × ((operands.Member variable x.0, x.1) ≡ found) = map_some _ _ found p.2 in
+          let s : (t : Token) × (p.0 ≡ t ∷ r.0.1) × IsName t r.0.0 = named_is p.0 r.0 r.1 in
+          subst P r.2 (t ∷ q.0 ∷ s.0 ∷ [], ap (λ x. t ∷ x) (q.1 ∙ ap (λ x. q.0 ∷ x) s.1), grammar.member v q.2 s.2)
+    ]
 
 operand_in_is : (l : Lexeme) (t : Token) (ts : List Token) (found : Operand × List Token) → t.lexeme ≡ l
     → operand_in l t ts ≡ Some found → Took IsOperand (t ∷ ts) found
@@ -108,10 +109,11 @@ self_and_name_is ts found e =
     let p' : (t : Token) × (ts ≡ t ∷ p.0) × IsSign signs.OpenParen t = after_sign_is signs.OpenParen ts p.0 p.1 in
     let q' : (t : Token) × (p.0 ≡ t ∷ q.0) × IsDollar dollars.Itself t = after_self_is p.0 q.0 q.1 in
     let r' : (t : Token) × (q.0 ≡ t ∷ r.0) × IsSign signs.Comma t = after_sign_is signs.Comma q.0 r.0 r.1 in
-    let s' : (t : Token) × (r.0 ≡ t ∷ found.1) × IsName t found.0 = named_is r.0 found r.2 in
-    (p'.0 ∷ q'.0 ∷ r'.0 ∷ s'.0 ∷ [],
-     p'.1 ∙ ap (λ x. p'.0 ∷ x) (q'.1 ∙ ap (λ x. q'.0 ∷ x) (r'.1 ∙ ap (λ x. r'.0 ∷ x) s'.1)),
-     grammar.self_and_name p'.2 q'.2 r'.2 s'.2)
+    let s' : (t : Token) × (r.0 ≡ t ∷ found.1) × IsName t found.0 = named_is r.0 found r.2 in (
+      p'.0 ∷ q'.0 ∷ r'.0 ∷ s'.0 ∷ [],
+      p'.1 ∙ ap (λ x. p'.0 ∷ x) (q'.1 ∙ ap (λ x. q'.0 ∷ x) (r'.1 ∙ ap (λ x. r'.0 ∷ x) s'.1)),
+      grammar.self_and_name p'.2 q'.2 r'.2 s'.2,
+    )
 
 only_self_is : (ts rest : List Token) → only_self ts ≡ Some rest → (front : List Token) × (ts ≡ front ++ rest) × IsOnlySelf front
 only_self_is ts rest e =
@@ -169,9 +171,11 @@ module _ (read_factor read_sum : Reader Term) (factor_sound : IsSound read_facto
       let o' : (u : Token) × (ts ≡ u ∷ o.0) × IsSign signs.OpenParen u = after_sign_is signs.OpenParen ts o.0 o.1 in
       let q : (front : List Token) × (u : Token) × (o.0 ≡ front ++ u ∷ x.0.1) × IsSum front x.0.0 × IsSign signs.CloseParen u = closed_is IsSum o.0 _ x.0 o.2 (sum_sound o.0) in
       let P : Term × List Token → Type 0 = λ y. Took IsFactor (t ∷ ts) y in
-      subst P x.2 (t ∷ o'.0 ∷ (q.0 ++ q.1 ∷ []),
-          ap (λ y. t ∷ y) (o'.1 ∙ ap (λ y. o'.0 ∷ y) (q.2 ∙ sym (append_assoc q.0 (q.1 ∷ []) x.0.1))),
-          grammar.applied t o'.0 q.0 q.1 (word, h, p.1) o'.2 q.3 q.4)
+      subst P x.2 (
+        t ∷ o'.0 ∷ (q.0 ++ q.1 ∷ []),
+        ap (λ y. t ∷ y) (o'.1 ∙ ap (λ y. o'.0 ∷ y) (q.2 ∙ sym (append_assoc q.0 (q.1 ∷ []) x.0.1))),
+        grammar.applied t o'.0 q.0 q.1 (word, h, p.1) o'.2 q.3 q.4,
+      )
   factor_in_is l t ts found h e = plain_factor_is l t ts found h e
 
   factor_by_is : IsSound (factor_by read_factor read_sum) IsFactor

@@ -1,5 +1,5 @@
 -- The trees of dependencies, without the places of their nodes in memory.
-use Rattle.std.specs.Prelude.{List, map, Option, Some, None, option_map}
+use Rattle.std.specs.Prelude.{List, map, Option, option_map}
 use Rattle.vc_syntax.specs.declared.tree.NameLeaf.{NameLeaf}
 use Rattle.vc_syntax.specs.declared.tree.TextLeaf.{TextLeaf}
 use Rattle.vc_syntax.specs.declared.tree.NumberLeaf.{NumberLeaf}
@@ -144,8 +144,12 @@ pub data Dependency : Type 0 where
   Counts : Term → Dependency
 
 abbrev pub constraint_of : StoredConstraint → Constraint
-constraint_of constraint = record { objects = constraint.objects; condition = option_map (λ boxed. condition_of boxed.value) constraint.condition;
-    restrictions = map restriction_of constraint.restrictions; inferences = constraint.inferences }
+constraint_of constraint = record {
+  objects = constraint.objects;
+  condition = option_map (λ boxed. condition_of boxed.value) constraint.condition;
+  restrictions = map restriction_of constraint.restrictions;
+  inferences = constraint.inferences;
+}
 
 abbrev pub dependency_of : StoredDependency → Dependency
 dependency_of (stored_dependencies.Precondition condition) = Precondition (condition_of condition.value)

@@ -9,11 +9,14 @@ ghost use Rattle.vc_syntax.specs.Trees.{relation_of, condition_of};
 ghost use Rattle.vc_syntax.specs.declared.token.Sign.TheVariants as signs;
 
 use crate::reading::{
-    ReadFault, after_sign, after_word, number_leaf, sign_ahead, text_leaf, variable_leaf, word_ahead,
+    ReadFault, after_sign, after_word, number_leaf, sign_ahead, text_leaf, variable_leaf,
+    word_ahead,
 };
 use crate::terms::{operand, sum};
 use crate::token::{Lexeme, Reserved, Sign, Token};
-use crate::tree::{Condition, Item, NameLeaf, NumberLeaf, Relation, Relator, SignedNumber, TextLeaf};
+use crate::tree::{
+    Condition, Item, NameLeaf, NumberLeaf, Relation, Relator, SignedNumber, TextLeaf,
+};
 use std::alloc::Global;
 use vc_value::Listed;
 
@@ -26,7 +29,9 @@ fn relator_of(token: &Token) -> Result<Relator, ReadFault>
         Lexeme::Sign(Sign::Less) | Lexeme::Reserved(Reserved::Lt) => Ok(Relator::Less),
         Lexeme::Sign(Sign::LessEqual) | Lexeme::Reserved(Reserved::Le) => Ok(Relator::LessEqual),
         Lexeme::Sign(Sign::Greater) | Lexeme::Reserved(Reserved::Gt) => Ok(Relator::Greater),
-        Lexeme::Sign(Sign::GreaterEqual) | Lexeme::Reserved(Reserved::Ge) => Ok(Relator::GreaterEqual),
+        Lexeme::Sign(Sign::GreaterEqual) | Lexeme::Reserved(Reserved::Ge) => Ok(
+            Relator::GreaterEqual,
+        ),
         _ => Err(ReadFault::Ungrammatical),
     }
 }
@@ -76,11 +81,23 @@ fn signed_number(tokens: &[Token]) -> Result<(SignedNumber, &[Token]), ReadFault
     match sign_ahead(Sign::Minus, tokens) {
         Some(rest) => {
             let (leaf, rest) = number_ahead(rest)?;
-            Ok((SignedNumber { negative: true, leaf }, rest))
+            Ok((
+                SignedNumber {
+                    negative: true,
+                    leaf,
+                },
+                rest,
+            ))
         }
         None => {
             let (leaf, rest) = number_ahead(tokens)?;
-            Ok((SignedNumber { negative: false, leaf }, rest))
+            Ok((
+                SignedNumber {
+                    negative: false,
+                    leaf,
+                },
+                rest,
+            ))
         }
     }
 }
@@ -143,7 +160,11 @@ fn within(alloc: Global, tokens: &[Token]) -> Result<(Relation, &[Token]), ReadF
 }
 
 /// The relation in front, its terms nested less deep than the bound, and what follows it.
-pub fn relation(alloc: Global, tokens: &[Token], left: u32) -> Result<(Relation, &[Token]), ReadFault>
+pub fn relation(
+    alloc: Global,
+    tokens: &[Token],
+    left: u32,
+) -> Result<(Relation, &[Token]), ReadFault>
     ensures { Gives (λ x. (relation_of x.0, x.1.now)) result (reads.relation left tokens.now) }
 {
     match comparison(alloc, tokens, left) {
@@ -180,7 +201,10 @@ fn specified(alloc: Global, tokens: &[Token]) -> Result<(Box<Condition>, &[Token
     Ok((condition, rest))
 }
 
-fn specified_behind(alloc: Global, tokens: &[Token]) -> Result<(Box<Condition>, &[Token]), ReadFault>
+fn specified_behind(
+    alloc: Global,
+    tokens: &[Token],
+) -> Result<(Box<Condition>, &[Token]), ReadFault>
     ensures { Gives (λ x. (condition_of x.0.value, x.1.now)) result (reads.specified_behind tokens.now) }
 {
     let (operand, rest) = operand(alloc, tokens)?;
@@ -189,7 +213,11 @@ fn specified_behind(alloc: Global, tokens: &[Token]) -> Result<(Box<Condition>, 
     Ok((condition, rest))
 }
 
-fn related(alloc: Global, tokens: &[Token], left: u32) -> Result<(Box<Condition>, &[Token]), ReadFault>
+fn related(
+    alloc: Global,
+    tokens: &[Token],
+    left: u32,
+) -> Result<(Box<Condition>, &[Token]), ReadFault>
     ensures { Gives (λ x. (condition_of x.0.value, x.1.now)) result (made trees.Related (reads.relation left tokens.now)) }
 {
     let (relation, rest) = relation(alloc, tokens, left)?;
@@ -198,7 +226,11 @@ fn related(alloc: Global, tokens: &[Token], left: u32) -> Result<(Box<Condition>
 }
 
 // A condition that begins with an operand or a term.
-fn plain_condition(alloc: Global, tokens: &[Token], left: u32) -> Result<(Box<Condition>, &[Token]), ReadFault>
+fn plain_condition(
+    alloc: Global,
+    tokens: &[Token],
+    left: u32,
+) -> Result<(Box<Condition>, &[Token]), ReadFault>
     ensures { Gives (λ x. (condition_of x.0.value, x.1.now)) result (reads.plain_condition left tokens.now) }
 {
     match related(alloc, tokens, left) {
@@ -209,7 +241,10 @@ fn plain_condition(alloc: Global, tokens: &[Token], left: u32) -> Result<(Box<Co
 }
 
 // The condition, if a closing parenthesis follows it.
-fn closed(condition: Box<Condition>, tokens: &[Token]) -> Result<(Box<Condition>, &[Token]), ReadFault>
+fn closed(
+    condition: Box<Condition>,
+    tokens: &[Token],
+) -> Result<(Box<Condition>, &[Token]), ReadFault>
     ensures { Gives (λ x. (condition_of x.0.value, x.1.now)) result (closed (Some (condition_of condition.value, tokens.now))) }
 {
     let rest = after_sign(Sign::CloseParen, tokens)?;
@@ -222,20 +257,32 @@ fn negated(alloc: Global, condition: Box<Condition>) -> Result<Box<Condition>, R
     boxed(alloc, Condition::Not(condition))
 }
 
-fn both(alloc: Global, left: Box<Condition>, right: Box<Condition>) -> Result<Box<Condition>, ReadFault>
+fn both(
+    alloc: Global,
+    left: Box<Condition>,
+    right: Box<Condition>,
+) -> Result<Box<Condition>, ReadFault>
     ensures { Gives (λ b. condition_of b.value) result (Some (trees.And (condition_of left.value) (condition_of right.value))) }
 {
     boxed(alloc, Condition::And(left, right))
 }
 
-fn either(alloc: Global, left: Box<Condition>, right: Box<Condition>) -> Result<Box<Condition>, ReadFault>
+fn either(
+    alloc: Global,
+    left: Box<Condition>,
+    right: Box<Condition>,
+) -> Result<Box<Condition>, ReadFault>
     ensures { Gives (λ b. condition_of b.value) result (Some (trees.Or (condition_of left.value) (condition_of right.value))) }
 {
     boxed(alloc, Condition::Or(left, right))
 }
 
 #[cycle(conditions)]
-fn negation(alloc: Global, tokens: &[Token], left: u32) -> Result<(Box<Condition>, &[Token]), ReadFault>
+fn negation(
+    alloc: Global,
+    tokens: &[Token],
+    left: u32,
+) -> Result<(Box<Condition>, &[Token]), ReadFault>
     ensures { Gives (λ x. (condition_of x.0.value, x.1.now)) result (reads.negation left tokens.now) }
 {
     if left == 0 {
@@ -245,18 +292,46 @@ fn negation(alloc: Global, tokens: &[Token], left: u32) -> Result<(Box<Condition
 }
 
 #[cycle(conditions)]
-fn negation_below(alloc: Global, tokens: &[Token], left: u32) -> Result<(Box<Condition>, &[Token]), ReadFault>
+fn negation_below(
+    alloc: Global,
+    tokens: &[Token],
+    left: u32,
+) -> Result<(Box<Condition>, &[Token]), ReadFault>
     ensures { Gives (λ x. (condition_of x.0.value, x.1.now)) result (reads.negation_by left (reads.negation left) (reads.condition left) tokens.now) }
 {
     match tokens {
-        [Token { lexeme: Lexeme::Reserved(Reserved::Not), .. }, rest @ ..] => {
+        [
+            Token {
+                lexeme: Lexeme::Reserved(Reserved::Not),
+                ..
+            },
+            rest @ ..,
+        ] => {
             let (condition, rest) = negation(alloc, rest, left)?;
             let condition = negated(alloc, condition)?;
             Ok((condition, rest))
         }
-        [Token { lexeme: Lexeme::Reserved(Reserved::Specified), .. }, rest @ ..] => specified(alloc, rest),
-        [Token { lexeme: Lexeme::Reserved(Reserved::PartOf), .. }, rest @ ..] => part_of(alloc, rest),
-        [Token { lexeme: Lexeme::Sign(Sign::OpenParen), .. }, rest @ ..] => {
+        [
+            Token {
+                lexeme: Lexeme::Reserved(Reserved::Specified),
+                ..
+            },
+            rest @ ..,
+        ] => specified(alloc, rest),
+        [
+            Token {
+                lexeme: Lexeme::Reserved(Reserved::PartOf),
+                ..
+            },
+            rest @ ..,
+        ] => part_of(alloc, rest),
+        [
+            Token {
+                lexeme: Lexeme::Sign(Sign::OpenParen),
+                ..
+            },
+            rest @ ..,
+        ] => {
             match related(alloc, tokens, left) {
                 Ok((condition, rest)) => Ok((condition, rest)),
                 Err(ReadFault::Ungrammatical) => {
@@ -271,7 +346,11 @@ fn negation_below(alloc: Global, tokens: &[Token], left: u32) -> Result<(Box<Con
 }
 
 #[cycle(conditions)]
-fn conjunction(alloc: Global, tokens: &[Token], left: u32) -> Result<(Box<Condition>, &[Token]), ReadFault>
+fn conjunction(
+    alloc: Global,
+    tokens: &[Token],
+    left: u32,
+) -> Result<(Box<Condition>, &[Token]), ReadFault>
     ensures { Gives (λ x. (condition_of x.0.value, x.1.now)) result (reads.conjunction left tokens.now) }
 {
     let (mut condition, mut rest) = negation(alloc, tokens, left)?;
@@ -285,7 +364,11 @@ fn conjunction(alloc: Global, tokens: &[Token], left: u32) -> Result<(Box<Condit
 
 /// The condition in front, each negation nested less deep than the bound, and what follows it.
 #[cycle(conditions)]
-pub fn condition(alloc: Global, tokens: &[Token], left: u32) -> Result<(Box<Condition>, &[Token]), ReadFault>
+pub fn condition(
+    alloc: Global,
+    tokens: &[Token],
+    left: u32,
+) -> Result<(Box<Condition>, &[Token]), ReadFault>
     ensures { Gives (λ x. (condition_of x.0.value, x.1.now)) result (reads.condition left tokens.now) }
 {
     let (mut condition, mut rest) = conjunction(alloc, tokens, left)?;

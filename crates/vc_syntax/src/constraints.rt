@@ -21,7 +21,13 @@ fn after_class_type(tokens: &[Token]) -> Result<&[Token], ReadFault>
     ensures { Gives (λ rest. rest.now) result (reads.after_class_type tokens.now) }
 {
     match tokens {
-        [Token { lexeme: Lexeme::Number(number), .. }, rest @ ..] if number.millionths == 300_000_000 => Ok(rest),
+        [
+            Token {
+                lexeme: Lexeme::Number(number),
+                ..
+            },
+            rest @ ..,
+        ] if number.millionths == 300_000_000 => Ok(rest),
         _ => Err(ReadFault::Ungrammatical),
     }
 }
@@ -89,7 +95,13 @@ fn alias(alloc: Global, tokens: &[Token]) -> Result<(Alias, &[Token]), ReadFault
     let (variable, rest) = variable_ahead(alloc, tokens)?;
     let rest = after_sign(Sign::Equal, rest)?;
     let (characteristic, rest) = named(alloc, rest)?;
-    Ok((Alias { variable, characteristic }, rest))
+    Ok((
+        Alias {
+            variable,
+            characteristic,
+        },
+        rest,
+    ))
 }
 
 fn aliases_behind(alloc: Global, tokens: &[Token]) -> Result<(Listed<Alias>, &[Token]), ReadFault>
@@ -121,7 +133,14 @@ fn object(alloc: Global, tokens: &[Token]) -> Result<(Object, &[Token]), ReadFau
     let (variable, rest) = variable_ahead(alloc, tokens)?;
     let (kind, rest) = object_kind(alloc, rest)?;
     let (aliases, rest) = aliases(alloc, rest)?;
-    Ok((Object { variable, kind, aliases }, rest))
+    Ok((
+        Object {
+            variable,
+            kind,
+            aliases,
+        },
+        rest,
+    ))
 }
 
 fn objects(alloc: Global, tokens: &[Token]) -> Result<(Listed<Object>, &[Token]), ReadFault>
@@ -162,7 +181,11 @@ fn object_section(alloc: Global, tokens: &[Token]) -> Result<(Listed<Object>, &[
     Ok((objects, rest))
 }
 
-fn condition_section(alloc: Global, tokens: &[Token], left: u32) -> Result<(Option<Box<Condition>>, &[Token]), ReadFault>
+fn condition_section(
+    alloc: Global,
+    tokens: &[Token],
+    left: u32,
+) -> Result<(Option<Box<Condition>>, &[Token]), ReadFault>
     ensures { Gives (λ x. (option_map (λ b. condition_of b.value) x.0, x.1.now)) result (reads.condition_section left tokens.now) }
 {
     match word_ahead(Reserved::Condition, tokens) {
@@ -185,7 +208,11 @@ fn restriction_word(tokens: &[Token]) -> Result<&[Token], ReadFault>
     }
 }
 
-fn restriction_section(alloc: Global, tokens: &[Token], left: u32) -> Result<(Listed<Restriction>, &[Token]), ReadFault>
+fn restriction_section(
+    alloc: Global,
+    tokens: &[Token],
+    left: u32,
+) -> Result<(Listed<Restriction>, &[Token]), ReadFault>
     ensures { Gives (λ x. (map restriction_of x.0, x.1.now)) result (reads.restriction_section left tokens.now) }
 {
     let rest = restriction_word(tokens)?;
@@ -195,7 +222,10 @@ fn restriction_section(alloc: Global, tokens: &[Token], left: u32) -> Result<(Li
     Ok((restrictions, rest))
 }
 
-fn inference_section(alloc: Global, tokens: &[Token]) -> Result<(Listed<Operand>, &[Token]), ReadFault>
+fn inference_section(
+    alloc: Global,
+    tokens: &[Token],
+) -> Result<(Listed<Operand>, &[Token]), ReadFault>
     ensures { Gives (λ x. (x.0, x.1.now)) result (reads.inference_section tokens.now) }
 {
     match word_ahead(Reserved::Inferences, tokens) {
@@ -210,7 +240,11 @@ fn inference_section(alloc: Global, tokens: &[Token]) -> Result<(Listed<Operand>
 }
 
 /// The constraint in front, its terms and conditions nested less deep than the bound, and what follows it.
-pub fn constraint(alloc: Global, tokens: &[Token], left: u32) -> Result<(Constraint, &[Token]), ReadFault>
+pub fn constraint(
+    alloc: Global,
+    tokens: &[Token],
+    left: u32,
+) -> Result<(Constraint, &[Token]), ReadFault>
     ensures { Gives (λ x. (constraint_of x.0, x.1.now)) result (reads.constraint left tokens.now) }
 {
     let (objects, rest) = object_section(alloc, tokens)?;

@@ -46,31 +46,56 @@ fn whole_condition(alloc: Global, tokens: &[Token], left: u32) -> Result<Box<Con
     ensures { Gives (λ b. condition_of b.value) result (reads.up_to reads.is_stop (conditions.condition left tokens.now)) }
 {
     let (condition, rest) = condition(alloc, tokens, left)?;
-    if is_stop(rest) { Ok(condition) } else { Err(ReadFault::Ungrammatical) }
+    if is_stop(rest) {
+        Ok(condition)
+    } else {
+        Err(ReadFault::Ungrammatical)
+    }
 }
 
-fn whole_procedure(alloc: Global, tokens: &[Token], left: u32) -> Result<Listed<Statement>, ReadFault>
+fn whole_procedure(
+    alloc: Global,
+    tokens: &[Token],
+    left: u32,
+) -> Result<Listed<Statement>, ReadFault>
     ensures { Gives (map statement_of) result (reads.up_to reads.is_stop (listed signs.Comma (statements.statement left) tokens.now)) }
 {
     let (statements, rest) = statements(alloc, tokens, left)?;
-    if is_stop(rest) { Ok(statements) } else { Err(ReadFault::Ungrammatical) }
+    if is_stop(rest) {
+        Ok(statements)
+    } else {
+        Err(ReadFault::Ungrammatical)
+    }
 }
 
 fn whole_constraint(alloc: Global, tokens: &[Token], left: u32) -> Result<Constraint, ReadFault>
     ensures { Gives constraint_of result (reads.up_to reads.is_end (constraints.constraint left tokens.now)) }
 {
     let (constraint, rest) = constraint(alloc, tokens, left)?;
-    if is_end(rest) { Ok(constraint) } else { Err(ReadFault::Ungrammatical) }
+    if is_end(rest) {
+        Ok(constraint)
+    } else {
+        Err(ReadFault::Ungrammatical)
+    }
 }
 
 fn whole_term(alloc: Global, tokens: &[Token], left: u32) -> Result<Box<Term>, ReadFault>
     ensures { Gives (λ b. term_of b.value) result (reads.up_to reads.is_end (terms.sum left tokens.now)) }
 {
     let (term, rest) = sum(alloc, tokens, left)?;
-    if is_end(rest) { Ok(term) } else { Err(ReadFault::Ungrammatical) }
+    if is_end(rest) {
+        Ok(term)
+    } else {
+        Err(ReadFault::Ungrammatical)
+    }
 }
 
-fn dependency_within(alloc: Global, tokens: &[Token], kind: Kind, left: u32) -> Result<Dependency, ReadFault>
+fn dependency_within(
+    alloc: Global,
+    tokens: &[Token],
+    kind: Kind,
+    left: u32,
+) -> Result<Dependency, ReadFault>
     ensures { Gives dependency_of result (reads.dependency kind left tokens.now) }
 {
     match kind {

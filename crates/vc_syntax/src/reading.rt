@@ -48,7 +48,11 @@ pub fn name_leaf(alloc: Global, token: &Token) -> Result<NameLeaf, ReadFault>
     match &token.lexeme {
         Lexeme::Name(name) => {
             let name = Word::from_bytes(alloc, name.bytes())?;
-            Ok(NameLeaf { name, start: token.start, end: token.end })
+            Ok(NameLeaf {
+                name,
+                start: token.start,
+                end: token.end,
+            })
         }
         _ => Err(ReadFault::Ungrammatical),
     }
@@ -61,7 +65,11 @@ pub fn any_name_leaf(alloc: Global, token: &Token) -> Result<NameLeaf, ReadFault
     match &token.lexeme {
         Lexeme::Reserved(word) => {
             let name = Word::from_bytes(alloc, reserved_spelling(*word).as_bytes())?;
-            Ok(NameLeaf { name, start: token.start, end: token.end })
+            Ok(NameLeaf {
+                name,
+                start: token.start,
+                end: token.end,
+            })
         }
         _ => name_leaf(alloc, token),
     }
@@ -84,7 +92,11 @@ pub fn variable_leaf(alloc: Global, token: &Token) -> Result<NameLeaf, ReadFault
     match &token.lexeme {
         Lexeme::Variable(name) => {
             let name = Word::from_bytes(alloc, name.bytes())?;
-            Ok(NameLeaf { name, start: token.start, end: token.end })
+            Ok(NameLeaf {
+                name,
+                start: token.start,
+                end: token.end,
+            })
         }
         _ => Err(ReadFault::Ungrammatical),
     }
@@ -97,7 +109,11 @@ pub fn text_leaf(alloc: Global, token: &Token) -> Result<TextLeaf, ReadFault>
     match &token.lexeme {
         Lexeme::Text(text) => {
             let text = Word::from_bytes(alloc, text.bytes())?;
-            Ok(TextLeaf { text, start: token.start, end: token.end })
+            Ok(TextLeaf {
+                text,
+                start: token.start,
+                end: token.end,
+            })
         }
         _ => Err(ReadFault::Ungrammatical),
     }
@@ -108,7 +124,11 @@ pub fn number_leaf(token: &Token) -> Result<NumberLeaf, ReadFault>
     ensures { Gives (λ leaf. leaf) result (number_of token.now) }
 {
     match &token.lexeme {
-        Lexeme::Number(number) => Ok(NumberLeaf { number: *number, start: token.start, end: token.end }),
+        Lexeme::Number(number) => Ok(NumberLeaf {
+            number: *number,
+            start: token.start,
+            end: token.end,
+        }),
         _ => Err(ReadFault::Ungrammatical),
     }
 }
@@ -118,7 +138,13 @@ pub fn after_sign(sign: Sign, tokens: &[Token]) -> Result<&[Token], ReadFault>
     ensures { Gives (λ rest. rest.now) result (after_sign sign tokens.now) }
 {
     match tokens {
-        [Token { lexeme: Lexeme::Sign(found), .. }, rest @ ..] if *found == sign => Ok(rest),
+        [
+            Token {
+                lexeme: Lexeme::Sign(found),
+                ..
+            },
+            rest @ ..,
+        ] if *found == sign => Ok(rest),
         _ => Err(ReadFault::Ungrammatical),
     }
 }
@@ -128,7 +154,13 @@ pub fn after_word(word: Reserved, tokens: &[Token]) -> Result<&[Token], ReadFaul
     ensures { Gives (λ rest. rest.now) result (after_word word tokens.now) }
 {
     match tokens {
-        [Token { lexeme: Lexeme::Reserved(found), .. }, rest @ ..] if *found == word => Ok(rest),
+        [
+            Token {
+                lexeme: Lexeme::Reserved(found),
+                ..
+            },
+            rest @ ..,
+        ] if *found == word => Ok(rest),
         _ => Err(ReadFault::Ungrammatical),
     }
 }
@@ -138,7 +170,13 @@ pub fn sign_ahead(sign: Sign, tokens: &[Token]) -> Option<&[Token]>
     ensures { option_copied result ≡ after_sign sign tokens.now }
 {
     match tokens {
-        [Token { lexeme: Lexeme::Sign(found), .. }, rest @ ..] if *found == sign => Some(rest),
+        [
+            Token {
+                lexeme: Lexeme::Sign(found),
+                ..
+            },
+            rest @ ..,
+        ] if *found == sign => Some(rest),
         _ => None,
     }
 }
@@ -148,7 +186,13 @@ pub fn word_ahead(word: Reserved, tokens: &[Token]) -> Option<&[Token]>
     ensures { option_copied result ≡ after_word word tokens.now }
 {
     match tokens {
-        [Token { lexeme: Lexeme::Reserved(found), .. }, rest @ ..] if *found == word => Some(rest),
+        [
+            Token {
+                lexeme: Lexeme::Reserved(found),
+                ..
+            },
+            rest @ ..,
+        ] if *found == word => Some(rest),
         _ => None,
     }
 }
@@ -158,7 +202,13 @@ pub fn after_self(tokens: &[Token]) -> Result<&[Token], ReadFault>
     ensures { Gives (λ rest. rest.now) result (after_self tokens.now) }
 {
     match tokens {
-        [Token { lexeme: Lexeme::Dollar(Dollar::Itself), .. }, rest @ ..] => Ok(rest),
+        [
+            Token {
+                lexeme: Lexeme::Dollar(Dollar::Itself),
+                ..
+            },
+            rest @ ..,
+        ] => Ok(rest),
         _ => Err(ReadFault::Ungrammatical),
     }
 }

@@ -11,7 +11,9 @@ use crate::conditions::{condition, relation};
 use crate::reading::{ReadFault, after_sign, any_named, named, sign_ahead, word_ahead};
 use crate::terms::{dotted, self_and_name, sum};
 use crate::token::{Dollar, Lexeme, Reserved, Sign, Token};
-use crate::tree::{Action, Binding, Condition, Demand, NameLeaf, Restriction, Statement, TableCall, Term};
+use crate::tree::{
+    Action, Binding, Condition, Demand, NameLeaf, Restriction, Statement, TableCall, Term,
+};
 use std::alloc::Global;
 use vc_value::Listed;
 
@@ -24,7 +26,11 @@ fn binding(alloc: Global, tokens: &[Token], left: u32) -> Result<(Binding, &[Tok
     Ok((Binding { column, value }, rest))
 }
 
-fn bindings(alloc: Global, tokens: &[Token], left: u32) -> Result<(Listed<Binding>, &[Token]), ReadFault>
+fn bindings(
+    alloc: Global,
+    tokens: &[Token],
+    left: u32,
+) -> Result<(Listed<Binding>, &[Token]), ReadFault>
     ensures { Gives (λ x. (map binding_of x.0, x.1.now)) result (listed signs.Comma (reads.binding left) tokens.now) }
 {
     let mut bindings = Listed::new(alloc);
@@ -38,7 +44,11 @@ fn bindings(alloc: Global, tokens: &[Token], left: u32) -> Result<(Listed<Bindin
     Ok((bindings, rest))
 }
 
-fn table_call(alloc: Global, tokens: &[Token], left: u32) -> Result<(TableCall, &[Token]), ReadFault>
+fn table_call(
+    alloc: Global,
+    tokens: &[Token],
+    left: u32,
+) -> Result<(TableCall, &[Token]), ReadFault>
     ensures { Gives (λ x. (table_call_of x.0, x.1.now)) result (reads.table_call left tokens.now) }
 {
     let (table, rest) = any_named(alloc, tokens)?;
@@ -77,16 +87,40 @@ fn action(alloc: Global, tokens: &[Token], left: u32) -> Result<(Action, &[Token
     ensures { Gives (λ x. (action_of x.0, x.1.now)) result (reads.action left tokens.now) }
 {
     match tokens {
-        [Token { lexeme: Lexeme::Dollar(Dollar::Itself), .. }, rest @ ..] => assignment(alloc, rest, left),
-        [Token { lexeme: Lexeme::Dollar(Dollar::SetDefault), .. }, rest @ ..] => {
+        [
+            Token {
+                lexeme: Lexeme::Dollar(Dollar::Itself),
+                ..
+            },
+            rest @ ..,
+        ] => assignment(alloc, rest, left),
+        [
+            Token {
+                lexeme: Lexeme::Dollar(Dollar::SetDefault),
+                ..
+            },
+            rest @ ..,
+        ] => {
             let (name, value, rest) = defaulted(alloc, rest, left)?;
             Ok((Action::SetDefault(name, value), rest))
         }
-        [Token { lexeme: Lexeme::Dollar(Dollar::DelDefault), .. }, rest @ ..] => {
+        [
+            Token {
+                lexeme: Lexeme::Dollar(Dollar::DelDefault),
+                ..
+            },
+            rest @ ..,
+        ] => {
             let (name, value, rest) = defaulted(alloc, rest, left)?;
             Ok((Action::DelDefault(name, value), rest))
         }
-        [Token { lexeme: Lexeme::Reserved(Reserved::Table), .. }, rest @ ..] => {
+        [
+            Token {
+                lexeme: Lexeme::Reserved(Reserved::Table),
+                ..
+            },
+            rest @ ..,
+        ] => {
             let (call, rest) = table_call(alloc, rest, left)?;
             Ok((Action::Table(call), rest))
         }
@@ -95,7 +129,11 @@ fn action(alloc: Global, tokens: &[Token], left: u32) -> Result<(Action, &[Token
 }
 
 // The condition behind IF, if there is an IF.
-fn condition_if(alloc: Global, tokens: &[Token], left: u32) -> Result<(Option<Box<Condition>>, &[Token]), ReadFault>
+fn condition_if(
+    alloc: Global,
+    tokens: &[Token],
+    left: u32,
+) -> Result<(Option<Box<Condition>>, &[Token]), ReadFault>
     ensures { Gives (λ x. (option_map (λ b. condition_of b.value) x.0, x.1.now)) result (reads.condition_if left tokens.now) }
 {
     match word_ahead(Reserved::If, tokens) {
@@ -116,7 +154,11 @@ fn statement(alloc: Global, tokens: &[Token], left: u32) -> Result<(Statement, &
 }
 
 /// The statements in front, with commas between them, and what follows them.
-pub fn statements(alloc: Global, tokens: &[Token], left: u32) -> Result<(Listed<Statement>, &[Token]), ReadFault>
+pub fn statements(
+    alloc: Global,
+    tokens: &[Token],
+    left: u32,
+) -> Result<(Listed<Statement>, &[Token]), ReadFault>
     ensures { Gives (λ x. (map statement_of x.0, x.1.now)) result (listed signs.Comma (reads.statement left) tokens.now) }
 {
     let mut statements = Listed::new(alloc);
@@ -134,11 +176,23 @@ fn demand(alloc: Global, tokens: &[Token], left: u32) -> Result<(Demand, &[Token
     ensures { Gives (λ x. (demand_of x.0, x.1.now)) result (reads.demanded left tokens.now) }
 {
     match tokens {
-        [Token { lexeme: Lexeme::Reserved(Reserved::Table), .. }, rest @ ..] => {
+        [
+            Token {
+                lexeme: Lexeme::Reserved(Reserved::Table),
+                ..
+            },
+            rest @ ..,
+        ] => {
             let (call, rest) = table_call(alloc, rest, left)?;
             Ok((Demand::Table(call), rest))
         }
-        [Token { lexeme: Lexeme::Reserved(Reserved::False), .. }, rest @ ..] => Ok((Demand::False, rest)),
+        [
+            Token {
+                lexeme: Lexeme::Reserved(Reserved::False),
+                ..
+            },
+            rest @ ..,
+        ] => Ok((Demand::False, rest)),
         _ => {
             let (relation, rest) = relation(alloc, tokens, left)?;
             Ok((Demand::Relation(relation), rest))
@@ -146,7 +200,11 @@ fn demand(alloc: Global, tokens: &[Token], left: u32) -> Result<(Demand, &[Token
     }
 }
 
-fn restriction(alloc: Global, tokens: &[Token], left: u32) -> Result<(Restriction, &[Token]), ReadFault>
+fn restriction(
+    alloc: Global,
+    tokens: &[Token],
+    left: u32,
+) -> Result<(Restriction, &[Token]), ReadFault>
     ensures { Gives (λ x. (restriction_of x.0, x.1.now)) result (reads.restriction left tokens.now) }
 {
     let (demand, rest) = demand(alloc, tokens, left)?;
@@ -155,7 +213,11 @@ fn restriction(alloc: Global, tokens: &[Token], left: u32) -> Result<(Restrictio
 }
 
 /// The restrictions in front, with commas between them, and what follows them.
-pub fn restrictions(alloc: Global, tokens: &[Token], left: u32) -> Result<(Listed<Restriction>, &[Token]), ReadFault>
+pub fn restrictions(
+    alloc: Global,
+    tokens: &[Token],
+    left: u32,
+) -> Result<(Listed<Restriction>, &[Token]), ReadFault>
     ensures { Gives (λ x. (map restriction_of x.0, x.1.now)) result (listed signs.Comma (reads.restriction left) tokens.now) }
 {
     let mut restrictions = Listed::new(alloc);

@@ -8,7 +8,8 @@ ghost use Rattle.vc_syntax.specs.Trees as trees;
 ghost use Rattle.vc_syntax.specs.Trees.{term_of};
 
 use crate::reading::{
-    ReadFault, after_self, after_sign, name_leaf, named, number_leaf, sign_ahead, text_leaf, variable_leaf,
+    ReadFault, after_self, after_sign, name_leaf, named, number_leaf, sign_ahead, text_leaf,
+    variable_leaf,
 };
 use crate::token::{Dollar, Lexeme, Reserved, Sign, Token};
 use crate::tree::{Function, NameLeaf, Operand, Operator, Owner, Term};
@@ -34,7 +35,11 @@ pub fn dotted(alloc: Global, tokens: &[Token]) -> Result<(NameLeaf, &[Token]), R
     Ok((name, rest))
 }
 
-fn member(alloc: Global, variable: NameLeaf, tokens: &[Token]) -> Result<(Operand, &[Token]), ReadFault>
+fn member(
+    alloc: Global,
+    variable: NameLeaf,
+    tokens: &[Token],
+) -> Result<(Operand, &[Token]), ReadFault>
     ensures { Gives (λ x. (x.0, x.1.now)) result (reads.member variable tokens.now) }
 {
     match sign_ahead(Sign::Dot, tokens) {
@@ -46,7 +51,11 @@ fn member(alloc: Global, variable: NameLeaf, tokens: &[Token]) -> Result<(Operan
     }
 }
 
-fn operand_from<'a>(alloc: Global, token: &Token, rest: &'a [Token]) -> Result<(Operand, &'a [Token]), ReadFault>
+fn operand_from<'a>(
+    alloc: Global,
+    token: &Token,
+    rest: &'a [Token],
+) -> Result<(Operand, &'a [Token]), ReadFault>
     ensures { Gives (λ x. (x.0, x.1.now)) result (reads.operand_in token.now.lexeme token.now rest.now) }
 {
     match &token.lexeme {
@@ -92,8 +101,20 @@ fn product_operator(tokens: &[Token]) -> Option<(Operator, &[Token])>
     ensures { option_map (λ x. (x.0, x.1.now)) result ≡ reads.product_operator tokens.now }
 {
     match tokens {
-        [Token { lexeme: Lexeme::Sign(Sign::Star), .. }, rest @ ..] => Some((Operator::Times, rest)),
-        [Token { lexeme: Lexeme::Sign(Sign::Slash), .. }, rest @ ..] => Some((Operator::Over, rest)),
+        [
+            Token {
+                lexeme: Lexeme::Sign(Sign::Star),
+                ..
+            },
+            rest @ ..,
+        ] => Some((Operator::Times, rest)),
+        [
+            Token {
+                lexeme: Lexeme::Sign(Sign::Slash),
+                ..
+            },
+            rest @ ..,
+        ] => Some((Operator::Over, rest)),
         _ => None,
     }
 }
@@ -102,8 +123,20 @@ fn sum_operator(tokens: &[Token]) -> Option<(Operator, &[Token])>
     ensures { option_map (λ x. (x.0, x.1.now)) result ≡ reads.sum_operator tokens.now }
 {
     match tokens {
-        [Token { lexeme: Lexeme::Sign(Sign::Plus), .. }, rest @ ..] => Some((Operator::Plus, rest)),
-        [Token { lexeme: Lexeme::Sign(Sign::Minus), .. }, rest @ ..] => Some((Operator::Minus, rest)),
+        [
+            Token {
+                lexeme: Lexeme::Sign(Sign::Plus),
+                ..
+            },
+            rest @ ..,
+        ] => Some((Operator::Plus, rest)),
+        [
+            Token {
+                lexeme: Lexeme::Sign(Sign::Minus),
+                ..
+            },
+            rest @ ..,
+        ] => Some((Operator::Minus, rest)),
         _ => None,
     }
 }
@@ -135,7 +168,11 @@ fn boxed(alloc: Global, term: Term) -> Result<Box<Term>, ReadFault>
     Ok(Box::new(alloc, term)?)
 }
 
-fn operand_term<'a>(alloc: Global, token: &Token, rest: &'a [Token]) -> Result<(Box<Term>, &'a [Token]), ReadFault>
+fn operand_term<'a>(
+    alloc: Global,
+    token: &Token,
+    rest: &'a [Token],
+) -> Result<(Box<Term>, &'a [Token]), ReadFault>
     ensures { Gives (λ x. (term_of x.0.value, x.1.now)) result (made trees.Operand (reads.operand_in token.now.lexeme token.now rest.now)) }
 {
     let (operand, rest) = operand_from(alloc, token, rest)?;
@@ -161,7 +198,11 @@ fn count_of_parts(alloc: Global, tokens: &[Token]) -> Result<(Box<Term>, &[Token
 }
 
 // The factors that hold no other term.
-fn plain_factor<'a>(alloc: Global, token: &Token, rest: &'a [Token]) -> Result<(Box<Term>, &'a [Token]), ReadFault>
+fn plain_factor<'a>(
+    alloc: Global,
+    token: &Token,
+    rest: &'a [Token],
+) -> Result<(Box<Term>, &'a [Token]), ReadFault>
     ensures { Gives (λ x. (term_of x.0.value, x.1.now)) result (reads.plain_factor token.now.lexeme token.now rest.now) }
 {
     match &token.lexeme {
@@ -189,7 +230,12 @@ fn closed(term: Box<Term>, tokens: &[Token]) -> Result<(Box<Term>, &[Token]), Re
     Ok((term, rest))
 }
 
-fn combined(alloc: Global, operator: Operator, left: Box<Term>, right: Box<Term>) -> Result<Box<Term>, ReadFault>
+fn combined(
+    alloc: Global,
+    operator: Operator,
+    left: Box<Term>,
+    right: Box<Term>,
+) -> Result<Box<Term>, ReadFault>
     ensures { Gives (λ b. term_of b.value) result (Some (join operator (term_of left.value) (term_of right.value))) }
 {
     boxed(alloc, Term::Combined(left, operator, right))
@@ -209,7 +255,11 @@ fn applied(alloc: Global, function: Function, term: Box<Term>) -> Result<Box<Ter
 
 /// The factor in front, nested less deep than the bound, and what follows it.
 #[cycle(terms)]
-pub fn factor(alloc: Global, tokens: &[Token], left: u32) -> Result<(Box<Term>, &[Token]), ReadFault>
+pub fn factor(
+    alloc: Global,
+    tokens: &[Token],
+    left: u32,
+) -> Result<(Box<Term>, &[Token]), ReadFault>
     ensures { Gives (λ x. (term_of x.0.value, x.1.now)) result (reads.factor left tokens.now) }
 {
     if left == 0 {
@@ -222,7 +272,12 @@ pub fn factor(alloc: Global, tokens: &[Token], left: u32) -> Result<(Box<Term>, 
 }
 
 #[cycle(terms)]
-fn factor_from<'a>(alloc: Global, token: &Token, rest: &'a [Token], left: u32) -> Result<(Box<Term>, &'a [Token]), ReadFault>
+fn factor_from<'a>(
+    alloc: Global,
+    token: &Token,
+    rest: &'a [Token],
+    left: u32,
+) -> Result<(Box<Term>, &'a [Token]), ReadFault>
     ensures { Gives (λ x. (term_of x.0.value, x.1.now)) result (reads.factor_in (reads.factor left) (reads.sum left) token.now.lexeme token.now rest.now) }
 {
     match &token.lexeme {
