@@ -1,5 +1,5 @@
 -- What the grammar of conditions says, is read.
-use Rattle.std.proofs.Common.{◌≡◌, ℕ, zero, suc, ◌+◌, ◌<◌, ◌≤◌, List, [], ◌∷◌, ◌++◌, length, cond, false, true, Option, Some, None, option_map, refl, sym, ap, ◌∙◌, append_assoc, length-append, arith}
+use Rattle.std.proofs.Common.{◌≡◌, ℕ, zero, suc, ◌+◌, ◌<◌, ◌≤◌, List, [], ◌∷◌, ◌++◌, length, cond, false, true, Some, None, refl, ap, ◌∙◌, append_assoc, length-append, arith}
 use Rattle.vc_syntax.specs.declared.token.Token.{Token}
 use Rattle.vc_syntax.specs.declared.token.Lexeme.{Lexeme}
 use Rattle.vc_syntax.specs.declared.token.Lexeme.TheVariants as lexemes
@@ -14,10 +14,10 @@ use Rattle.vc_syntax.specs.declared.tree.SignedNumber.{SignedNumber}
 use Rattle.vc_syntax.specs.declared.tree.Item.{Item}
 use Rattle.vc_syntax.specs.declared.tree.Item.TheVariants as items
 use Rattle.vc_syntax.specs.declared.tree.Relator.{Relator}
-use Rattle.vc_syntax.specs.Leaves.{is_sign, is_word, text_in, number_in, variable_in, text_of, number_of, variable_of, after_sign, after_word}
-use Rattle.vc_syntax.specs.Reading.{Reader, then, either, or_else, made, leaving, leaving_as, closed, grouped, sign, word, append, single, listed, chained}
+use Rattle.vc_syntax.specs.Leaves.{is_sign, is_word, text_in, number_in, after_sign, after_word}
+use Rattle.vc_syntax.specs.Reading.{Reader, then, either, or_else, made, leaving, leaving_as, closed, grouped, word, listed, chained}
 use Rattle.vc_syntax.specs.TermReading.{operand_in, operand, product_operator_in, sum_operator_in, product_operator, sum_operator, factor_in, join, factor, product, sum}
-use Rattle.vc_syntax.specs.ConditionReading.{relator_in, relator, text_ahead, number_ahead, variable_ahead, with_sign, signed_number, numbers, item, comparison, within, relation, part_of, specified_behind, plain_condition, negation_in, negation_by, both, any, negation, conjunction, condition}
+use Rattle.vc_syntax.specs.ConditionReading.{relator_in, relator, text_ahead, number_ahead, variable_ahead, with_sign, signed_number, numbers, item, comparison, within, relation, part_of, specified_behind, plain_condition, negation_in, both, any, negation, conjunction, condition}
 use Rattle.vc_syntax.specs.Trees as trees
 use Rattle.vc_syntax.specs.Trees.{Term, Relation, Condition}
 use Rattle.vc_syntax.specs.TermGrammar as terms

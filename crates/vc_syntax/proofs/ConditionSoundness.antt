@@ -1,5 +1,5 @@
 -- What is read as a relation or a condition, the grammar says.
-use Rattle.std.proofs.Common.{◌≡◌, ℕ, zero, suc, List, [], ◌∷◌, ◌++◌, false, true, Option, Some, None, option_map, ◌⊎◌, inl, inr, refl, sym, ap, subst, ◌∙◌, append_assoc}
+use Rattle.std.proofs.Common.{◌≡◌, ℕ, zero, suc, List, [], ◌∷◌, ◌++◌, false, true, Option, Some, None, ◌⊎◌, inl, inr, refl, sym, ap, subst, ◌∙◌, append_assoc}
 use Rattle.vc_syntax.specs.declared.token.Token.{Token}
 use Rattle.vc_syntax.specs.declared.token.Lexeme.{Lexeme}
 use Rattle.vc_syntax.specs.declared.token.Lexeme.TheVariants as lexemes
@@ -14,7 +14,7 @@ use Rattle.vc_syntax.specs.declared.tree.Item.{Item}
 use Rattle.vc_syntax.specs.declared.tree.Item.TheVariants as items
 use Rattle.vc_syntax.specs.declared.tree.Relator.{Relator}
 use Rattle.vc_syntax.specs.Leaves.{text_of, number_of, variable_of, after_sign, after_word}
-use Rattle.vc_syntax.specs.Reading.{Reader, then, either, or_else, made, leaving, leaving_as, closed, grouped, word, listed}
+use Rattle.vc_syntax.specs.Reading.{Reader, then, either, or_else, made, leaving_as, closed, grouped, word, listed}
 use Rattle.vc_syntax.specs.TermReading.{operand, sum}
 use Rattle.vc_syntax.specs.ConditionReading.{relator_in, relator, text_ahead, number_ahead, variable_ahead, with_sign, signed_number, numbers, item, comparison, within, relation, part_of, specified_behind, plain_condition, negation_in, negation_by, both, any, conjunction_by, condition_by, negation, conjunction, condition}
 use Rattle.vc_syntax.specs.Trees as trees

@@ -1,9 +1,8 @@
 -- What the grammar of constraints says, is read.
-use Rattle.std.proofs.Common.{◌≡◌, ℕ, ◌+◌, ◌≤◌, List, [], ◌∷◌, ◌++◌, length, cond, Option, Some, None, refl, sym, ap, ◌∙◌, append_assoc, length-append, arith}
+use Rattle.std.proofs.Common.{◌≡◌, ℕ, ◌≤◌, List, [], ◌∷◌, ◌++◌, length, cond, Option, Some, None, ap, ◌∙◌, append_assoc, length-append, arith}
 use Rattle.vc_syntax.specs.declared.token.Token.{Token}
 use Rattle.vc_syntax.specs.declared.token.Sign.TheVariants as signs
 use Rattle.vc_syntax.specs.declared.token.Reserved.TheVariants as words
-use Rattle.vc_syntax.specs.declared.tree.NameLeaf.{NameLeaf}
 use Rattle.vc_syntax.specs.declared.tree.TextLeaf.{TextLeaf}
 use Rattle.vc_syntax.specs.declared.tree.Operand.{Operand}
 use Rattle.vc_syntax.specs.declared.tree.ObjectKind.{ObjectKind}
@@ -13,12 +12,12 @@ use Rattle.vc_syntax.specs.declared.tree.Object.{Object}
 use Rattle.vc_syntax.specs.Leaves.{is_sign, is_word, after_sign, after_word, named, any_named}
 use Rattle.vc_syntax.specs.Reading.{Reader, then, either, or_else, made, leaving, leaving_as, closed, listed}
 use Rattle.vc_syntax.specs.TermReading.{product_operator_in, sum_operator_in, operand}
-use Rattle.vc_syntax.specs.ConditionReading.{text_ahead, variable_ahead, condition}
+use Rattle.vc_syntax.specs.ConditionReading.{text_ahead, condition}
 use Rattle.vc_syntax.specs.StatementReading.{restriction}
-use Rattle.vc_syntax.specs.ConstraintReading.{after_class_type, class_type, material_word, class_kind, material_number, material_kind, object_kind, with_alias, with_object, alias, aliases, object, section, object_section, condition_section, restriction_word, restriction_section, inference_section, with_constraint, constraint}
+use Rattle.vc_syntax.specs.ConstraintReading.{after_class_type, class_type, material_word, class_kind, material_number, material_kind, object_kind, with_alias, with_object, alias, aliases, object, section, object_section, condition_section, restriction_section, inference_section, with_constraint, constraint}
 use Rattle.vc_syntax.specs.Trees.{Condition, Restriction, Constraint}
 use Rattle.vc_syntax.specs.TermGrammar.{IsSign, IsWord, IsText, IsOperand}
-use Rattle.vc_syntax.specs.ConditionGrammar.{IsListed, IsCondition}
+use Rattle.vc_syntax.specs.ConditionGrammar.{IsListed}
 use Rattle.vc_syntax.specs.StatementGrammar.{IsRestriction}
 use Rattle.vc_syntax.specs.ConstraintGrammar as grammar
 use Rattle.vc_syntax.specs.ConstraintGrammar.{IsClassType, IsObjectKind, IsAlias, IsWhere, IsObject, IsSection, IsObjectSection, IsConditionSection, IsRestrictionSection, IsInferenceSection, IsConstraint}

@@ -1,5 +1,5 @@
 -- What is read as a constraint, the grammar says.
-use Rattle.std.proofs.Common.{◌≡◌, ℕ, List, [], ◌∷◌, ◌++◌, true, Option, Some, None, ◌⊎◌, inl, inr, refl, sym, ap, subst, ◌∙◌, append_assoc}
+use Rattle.std.proofs.Common.{◌≡◌, ℕ, List, [], ◌∷◌, ◌++◌, true, Option, Some, None, inl, inr, refl, sym, ap, subst, ◌∙◌, append_assoc}
 use Rattle.vc_syntax.specs.declared.token.Token.{Token}
 use Rattle.vc_syntax.specs.declared.token.Sign.TheVariants as signs
 use Rattle.vc_syntax.specs.declared.token.Reserved.TheVariants as words
@@ -11,7 +11,7 @@ use Rattle.vc_syntax.specs.declared.tree.ObjectKind.TheVariants as kinds
 use Rattle.vc_syntax.specs.declared.tree.Alias.{Alias}
 use Rattle.vc_syntax.specs.declared.tree.Object.{Object}
 use Rattle.vc_syntax.specs.Leaves.{after_sign, after_word, named, any_named}
-use Rattle.vc_syntax.specs.Reading.{Reader, then, either, or_else, made, leaving_as, closed, listed}
+use Rattle.vc_syntax.specs.Reading.{Reader, then, made, leaving_as, closed, listed}
 use Rattle.vc_syntax.specs.TermReading.{operand}
 use Rattle.vc_syntax.specs.ConditionReading.{text_ahead, variable_ahead, condition}
 use Rattle.vc_syntax.specs.StatementReading.{restriction}

@@ -3,6 +3,7 @@ pub mod ConditionCompleteness
 pub mod ConditionSoundness
 pub mod ConstraintCompleteness
 pub mod ConstraintSoundness
+pub mod DependencyLaws
 pub mod Lengths
 pub mod LexemesAgain
 pub mod Lists

@@ -1,5 +1,5 @@
 -- What is read as a statement or a restriction, the grammar says.
-use Rattle.std.proofs.Common.{◌≡◌, ℕ, List, [], ◌∷◌, ◌++◌, Option, Some, None, ◌⊎◌, inl, inr, refl, sym, ap, subst, ◌∙◌, append_assoc}
+use Rattle.std.proofs.Common.{◌≡◌, ℕ, List, [], ◌∷◌, ◌++◌, Option, Some, None, inl, inr, refl, sym, ap, subst, ◌∙◌, append_assoc}
 use Rattle.vc_syntax.specs.declared.token.Token.{Token}
 use Rattle.vc_syntax.specs.declared.token.Lexeme.{Lexeme}
 use Rattle.vc_syntax.specs.declared.token.Lexeme.TheVariants as lexemes
@@ -8,7 +8,7 @@ use Rattle.vc_syntax.specs.declared.token.Dollar.TheVariants as dollars
 use Rattle.vc_syntax.specs.declared.token.Reserved.TheVariants as words
 use Rattle.vc_syntax.specs.declared.tree.NameLeaf.{NameLeaf}
 use Rattle.vc_syntax.specs.Leaves.{after_sign, after_word, named, any_named}
-use Rattle.vc_syntax.specs.Reading.{then, either, made, closed, grouped, listed}
+use Rattle.vc_syntax.specs.Reading.{then, made, closed, grouped, listed}
 use Rattle.vc_syntax.specs.TermReading.{dotted, self_and_name, sum}
 use Rattle.vc_syntax.specs.ConditionReading.{relation, condition}
 use Rattle.vc_syntax.specs.StatementReading.{bind, call, state, demand, binding, table_call, assignment, defaulted, action_in, action, condition_if, statement, demand_in, demanded, restriction}

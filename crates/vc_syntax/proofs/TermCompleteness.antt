@@ -1,24 +1,21 @@
 -- What the grammar of terms says, is read.
-use Rattle.std.proofs.Common.{◌≡◌, ℕ, zero, suc, ◌+◌, ◌<◌, ◌≤◌, List, [], ◌∷◌, ◌++◌, length, cond, Option, Some, None, option_map, refl, sym, ap, ◌∙◌, append_assoc, length-append, arith}
+use Rattle.std.proofs.Common.{◌≡◌, ℕ, zero, suc, ◌<◌, ◌≤◌, List, [], ◌∷◌, ◌++◌, length, cond, Some, None, option_map, refl, ap, ◌∙◌, append_assoc, length-append, arith}
 use Rattle.vc_syntax.specs.declared.token.Token.{Token}
 use Rattle.vc_syntax.specs.declared.token.Lexeme.{Lexeme}
 use Rattle.vc_syntax.specs.declared.token.Lexeme.TheVariants as lexemes
 use Rattle.vc_syntax.specs.declared.token.Sign.TheVariants as signs
-use Rattle.vc_syntax.specs.declared.token.Dollar.{Dollar}
 use Rattle.vc_syntax.specs.declared.token.Dollar.TheVariants as dollars
 use Rattle.vc_syntax.specs.declared.tree.NameLeaf.{NameLeaf}
 use Rattle.vc_syntax.specs.declared.tree.TextLeaf.{TextLeaf}
 use Rattle.vc_syntax.specs.declared.tree.NumberLeaf.{NumberLeaf}
-use Rattle.vc_syntax.specs.declared.tree.Owner.{Owner}
 use Rattle.vc_syntax.specs.declared.tree.Operand.{Operand}
 use Rattle.vc_syntax.specs.declared.tree.Operand.TheVariants as operands
 use Rattle.vc_syntax.specs.declared.tree.Operator.{Operator}
-use Rattle.vc_syntax.specs.declared.tree.Function.{Function}
-use Rattle.vc_syntax.specs.Leaves.{is_sign, name_in, variable_in, text_in, number_in, name_of, variable_of, text_of, number_of, after_sign, after_self, named}
-use Rattle.vc_syntax.specs.Reading.{Reader, then, either, made, leaving, closed, grouped, chain, chained}
+use Rattle.vc_syntax.specs.Leaves.{is_sign, name_in, variable_in, text_in, number_in, after_sign, after_self, named}
+use Rattle.vc_syntax.specs.Reading.{Reader, then, either, made, leaving, closed, grouped, chained}
 use Rattle.vc_syntax.specs.Trees as trees
 use Rattle.vc_syntax.specs.Trees.{Term}
-use Rattle.vc_syntax.specs.TermReading.{owner_of, dotted, member, operand_in, operand, function_of, product_operator_in, sum_operator_in, product_operator, sum_operator, self_and_name, only_self, count_of_parts, dollar_factor, plain_factor, factor_in, join, factor, product, sum}
+use Rattle.vc_syntax.specs.TermReading.{dotted, member, operand_in, operand, product_operator_in, sum_operator_in, product_operator, sum_operator, self_and_name, only_self, factor_in, join, factor, product, sum}
 use Rattle.vc_syntax.specs.TermGrammar as grammar
 use Rattle.vc_syntax.specs.TermGrammar.{IsSign, IsDollar, IsName, IsVariable, IsText, IsNumber, IsOwner, IsOperand, IsSelfAndName, IsOnlySelf, IsFactor, IsProduct, IsSum, IsProductOperator, IsSumOperator}
 use Rattle.vc_syntax.proofs.Chains.{chained_step, chained_stops}

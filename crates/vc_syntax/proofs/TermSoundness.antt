@@ -1,5 +1,5 @@
 -- What is read as a term, the grammar of terms says.
-use Rattle.std.proofs.Common.{◌≡◌, ℕ, zero, suc, List, [], ◌∷◌, ◌++◌, Option, Some, None, option_map, ◌⊎◌, inl, inr, refl, sym, ap, subst, ◌∙◌, append_assoc}
+use Rattle.std.proofs.Common.{◌≡◌, ℕ, zero, suc, List, [], ◌∷◌, ◌++◌, Option, Some, option_map, inl, inr, refl, sym, ap, subst, ◌∙◌, append_assoc}
 use Rattle.vc_syntax.specs.declared.token.Token.{Token}
 use Rattle.vc_syntax.specs.declared.token.Lexeme.{Lexeme}
 use Rattle.vc_syntax.specs.declared.token.Lexeme.TheVariants as lexemes
@@ -15,10 +15,10 @@ use Rattle.vc_syntax.specs.declared.tree.Operand.TheVariants as operands
 use Rattle.vc_syntax.specs.declared.tree.Operator.{Operator}
 use Rattle.vc_syntax.specs.declared.tree.Function.{Function}
 use Rattle.vc_syntax.specs.Leaves.{name_of, variable_of, text_of, number_of, after_sign, after_self, named}
-use Rattle.vc_syntax.specs.Reading.{Reader, then, either, made, closed, grouped, chain}
+use Rattle.vc_syntax.specs.Reading.{Reader, then, made, closed, grouped}
 use Rattle.vc_syntax.specs.Trees as trees
 use Rattle.vc_syntax.specs.Trees.{Term}
-use Rattle.vc_syntax.specs.TermReading.{owner_of, dotted, member, operand_in, operand, function_of, product_operator_in, sum_operator_in, product_operator, sum_operator, self_and_name, only_self, count_of_parts, dollar_factor, plain_factor, factor_in, factor_by, product_by, sum_by, join, factor, product, sum}
+use Rattle.vc_syntax.specs.TermReading.{owner_of, dotted, member, operand_in, operand, function_of, product_operator_in, sum_operator_in, product_operator, sum_operator, self_and_name, only_self, dollar_factor, plain_factor, factor_in, factor_by, product_by, sum_by, join, factor, product, sum}
 use Rattle.vc_syntax.specs.TermGrammar as grammar
 use Rattle.vc_syntax.specs.TermGrammar.{IsSign, IsDollar, IsName, IsVariable, IsOperand, IsSelfAndName, IsOnlySelf, IsFactor, IsProduct, IsSum, IsProductOperator, IsSumOperator}
 use Rattle.vc_syntax.proofs.Chains.{Took, IsSound, Reads, Shortens, Takes, sound_shortens, reads_takes, then_some, map_some, either_some, chain_is}

@@ -1,6 +1,6 @@
 -- What the readers of single tokens read.
 use denote.Enum.Bare.{same_true, true_same}
-use Rattle.std.proofs.Common.{◌≡◌, ℕ, List, [], ◌∷◌, Bool, true, false, cond, Option, Some, None, option_map, refl, sym, ap, ◌∙◌}
+use Rattle.std.proofs.Common.{◌≡◌, List, [], ◌∷◌, Bool, true, false, cond, Some, None, option_map, refl, ap, ◌∙◌}
 use Rattle.vc_syntax.specs.contracts.token.Sign.{the_type as sign_type}
 use Rattle.vc_syntax.specs.contracts.token.Reserved.{the_type as word_type}
 use Rattle.vc_syntax.specs.declared.token.Token.{Token}

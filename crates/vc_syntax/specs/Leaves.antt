@@ -1,5 +1,5 @@
 -- What single tokens are.
-use Rattle.std.specs.Prelude.{◌≡◌, ℕ, List, [], ◌∷◌, Option, Some, None, option_map, Bool, true, false, if◌then◌else◌}
+use Rattle.std.specs.Prelude.{ℕ, List, [], ◌∷◌, Option, Some, None, option_map, Bool, true, false, if◌then◌else◌}
 use denote.Enum.Bare.{sameb}
 use Rattle.vc_syntax.specs.contracts.token.Sign.{the_type as sign_type}
 use Rattle.vc_syntax.specs.contracts.token.Reserved.{the_type as word_type}

@@ -2,6 +2,8 @@ pub mod ConditionGrammar
 pub mod ConditionReading
 pub mod ConstraintGrammar
 pub mod ConstraintReading
+pub mod DependencyGrammar
+pub mod DependencyReading
 pub mod Leaves
 pub mod Lexemes
 pub mod Limits

@@ -3,7 +3,6 @@ use Rattle.std.specs.Prelude.{ℕ, zero, suc, List, [], ◌∷◌, Option, Some,
 use Rattle.vc_syntax.specs.declared.token.Token.{Token}
 use Rattle.vc_syntax.specs.declared.token.Lexeme.{Lexeme}
 use Rattle.vc_syntax.specs.declared.token.Lexeme.TheVariants as lexemes
-use Rattle.vc_syntax.specs.declared.token.Sign.{Sign}
 use Rattle.vc_syntax.specs.declared.token.Sign.TheVariants as signs
 use Rattle.vc_syntax.specs.declared.token.Reserved.{Reserved}
 use Rattle.vc_syntax.specs.declared.token.Reserved.TheVariants as words

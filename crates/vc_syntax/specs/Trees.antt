@@ -1,5 +1,5 @@
 -- The trees of dependencies, without the places of their nodes in memory.
-use Rattle.std.specs.Prelude.{List, map, Option, Some, None, option_map}
+use Rattle.std.specs.Prelude.{List, map, Option, option_map}
 use Rattle.vc_syntax.specs.declared.tree.NameLeaf.{NameLeaf}
 use Rattle.vc_syntax.specs.declared.tree.TextLeaf.{TextLeaf}
 use Rattle.vc_syntax.specs.declared.tree.NumberLeaf.{NumberLeaf}

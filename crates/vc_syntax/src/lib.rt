@@ -3,6 +3,7 @@
 
 pub mod conditions;
 pub mod constraints;
+pub mod dependencies;
 pub mod fault;
 pub mod lexing;
 pub mod limits;

@@ -1,4 +1,4 @@
-use Rattle.std.proofs.Common.{◌≡◌, ℕ, ◌+◌, ◌*◌, length}
+use Rattle.std.proofs.Common.{◌≡◌, ◌+◌, ◌*◌, length}
 use Rattle.vc_syntax.specs.Reading.{chained}
 use Rattle.vc_syntax.specs.TermReading as reads
 use Rattle.vc_syntax.specs.TermReading.{join}

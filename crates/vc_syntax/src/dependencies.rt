@@ -1,0 +1,117 @@
+//! Whole dependencies, read from all of their tokens.
+
+ghost use Rattle.std.specs.Prelude.{◌≡◌, ◌<◌, ◌^◌, length, option_map, map, IfOk, Some};
+ghost use Rattle.vc_syntax.specs.Reading.{Gives, listed};
+ghost use Rattle.vc_syntax.specs.TermReading as terms;
+ghost use Rattle.vc_syntax.specs.ConditionReading as conditions;
+ghost use Rattle.vc_syntax.specs.StatementReading as statements;
+ghost use Rattle.vc_syntax.specs.ConstraintReading as constraints;
+ghost use Rattle.vc_syntax.specs.DependencyReading as reads;
+ghost use Rattle.vc_syntax.specs.DependencyGrammar.{IsDependency};
+ghost use Rattle.vc_syntax.specs.Trees as trees;
+ghost use Rattle.vc_syntax.specs.Trees.{term_of, condition_of, statement_of, constraint_of, dependency_of};
+ghost use Rattle.vc_syntax.specs.declared.token.Sign.TheVariants as signs;
+
+use crate::conditions::condition;
+use crate::constraints::constraint;
+use crate::fault::Kind;
+use crate::reading::{ReadFault, sign_ahead};
+use crate::statements::statements;
+use crate::terms::sum;
+use crate::token::{Sign, Token};
+use crate::tree::{Condition, Constraint, Dependency, Statement, Term};
+use std::alloc::Global;
+use vc_value::Listed;
+
+// Whether nothing stands there, or a period and nothing more.
+fn is_stop(tokens: &[Token]) -> bool
+    ensures { result ≡ reads.is_stop tokens.now }
+{
+    match sign_ahead(Sign::Period, tokens) {
+        Some(rest) => is_end(rest),
+        None => is_end(tokens),
+    }
+}
+
+fn is_end(tokens: &[Token]) -> bool
+    ensures { result ≡ reads.is_end tokens.now }
+{
+    match tokens {
+        [] => true,
+        _ => false,
+    }
+}
+
+fn whole_condition(alloc: Global, tokens: &[Token], left: u32) -> Result<Box<Condition>, ReadFault>
+    ensures { Gives (λ b. condition_of b.value) result (reads.up_to reads.is_stop (conditions.condition left tokens.now)) }
+{
+    let (condition, rest) = condition(alloc, tokens, left)?;
+    if is_stop(rest) {
+        Ok(condition)
+    } else {
+        Err(ReadFault::Ungrammatical)
+    }
+}
+
+fn whole_procedure(
+    alloc: Global,
+    tokens: &[Token],
+    left: u32,
+) -> Result<Listed<Statement>, ReadFault>
+    ensures { Gives (map statement_of) result (reads.up_to reads.is_stop (listed signs.Comma (statements.statement left) tokens.now)) }
+{
+    let (statements, rest) = statements(alloc, tokens, left)?;
+    if is_stop(rest) {
+        Ok(statements)
+    } else {
+        Err(ReadFault::Ungrammatical)
+    }
+}
+
+fn whole_constraint(alloc: Global, tokens: &[Token], left: u32) -> Result<Constraint, ReadFault>
+    ensures { Gives constraint_of result (reads.up_to reads.is_end (constraints.constraint left tokens.now)) }
+{
+    let (constraint, rest) = constraint(alloc, tokens, left)?;
+    if is_end(rest) {
+        Ok(constraint)
+    } else {
+        Err(ReadFault::Ungrammatical)
+    }
+}
+
+fn whole_term(alloc: Global, tokens: &[Token], left: u32) -> Result<Box<Term>, ReadFault>
+    ensures { Gives (λ b. term_of b.value) result (reads.up_to reads.is_end (terms.sum left tokens.now)) }
+{
+    let (term, rest) = sum(alloc, tokens, left)?;
+    if is_end(rest) {
+        Ok(term)
+    } else {
+        Err(ReadFault::Ungrammatical)
+    }
+}
+
+fn dependency_within(
+    alloc: Global,
+    tokens: &[Token],
+    kind: Kind,
+    left: u32,
+) -> Result<Dependency, ReadFault>
+    ensures { Gives dependency_of result (reads.dependency kind left tokens.now) }
+{
+    match kind {
+        Kind::Precondition => Ok(Dependency::Precondition(whole_condition(alloc, tokens, left)?)),
+        Kind::Selection => Ok(Dependency::Selection(whole_condition(alloc, tokens, left)?)),
+        Kind::Procedure => Ok(Dependency::Procedure(whole_procedure(alloc, tokens, left)?)),
+        Kind::Constraint => Ok(Dependency::Constraint(whole_constraint(alloc, tokens, left)?)),
+        Kind::Term => Ok(Dependency::Term(whole_term(alloc, tokens, left)?)),
+    }
+}
+
+/// The dependency of this kind that the tokens spell, all of them. They spell at most one.
+pub fn dependency(alloc: Global, tokens: &[Token], kind: Kind) -> Result<Dependency, ReadFault>
+    requires { length tokens.now < 2 ^ 32 }
+    ensures found { IfOk result (λ d. IsDependency kind tokens.now (dependency_of d)) }
+    ensures only { (tree : trees.Dependency) → IsDependency kind tokens.now tree → Gives dependency_of result (Some tree) }
+{
+    dependency_within(alloc, tokens, kind, tokens.len() as u32)
+}
