@@ -17,3 +17,6 @@ pub mod tree;
 
 pub use fault::{Kind, SyntaxFault, SyntaxKind};
 pub use token::{Dollar, Lexeme, Reserved, Sign, Token};
+
+#[cfg(test)]
+mod reading_tests;
