@@ -4,6 +4,7 @@ pub mod ConstraintGrammar
 pub mod ConstraintReading
 pub mod DependencyGrammar
 pub mod DependencyReading
+pub mod DependencyTexts
 pub mod Leaves
 pub mod Lexemes
 pub mod Limits

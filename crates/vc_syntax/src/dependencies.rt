@@ -8,13 +8,16 @@ ghost use Rattle.vc_syntax.specs.StatementReading as statements;
 ghost use Rattle.vc_syntax.specs.ConstraintReading as constraints;
 ghost use Rattle.vc_syntax.specs.DependencyReading as reads;
 ghost use Rattle.vc_syntax.specs.DependencyGrammar.{IsDependency};
+ghost use Rattle.vc_syntax.specs.DependencyTexts as texts;
 ghost use Rattle.vc_syntax.specs.Trees as trees;
 ghost use Rattle.vc_syntax.specs.Trees.{term_of, condition_of, statement_of, constraint_of, dependency_of};
 ghost use Rattle.vc_syntax.specs.declared.token.Sign.TheVariants as signs;
 
 use crate::conditions::condition;
 use crate::constraints::constraint;
-use crate::fault::Kind;
+use crate::fault::{Kind, SyntaxFault, SyntaxKind};
+use crate::lexing::tokens_of;
+use crate::limits::{is_too_deep, is_too_long};
 use crate::reading::{ReadFault, sign_ahead};
 use crate::statements::statements;
 use crate::terms::sum;
@@ -114,4 +117,38 @@ pub fn dependency(alloc: Global, tokens: &[Token], kind: Kind) -> Result<Depende
     ensures only { (tree : trees.Dependency) → IsDependency kind tokens.now tree → Gives dependency_of result (Some tree) }
 {
     dependency_within(alloc, tokens, kind, tokens.len() as u32)
+}
+
+fn judged(alloc: Global, tokens: &[Token], kind: Kind) -> Result<Dependency, SyntaxFault>
+    ensures { texts.Answers dependency_of result (texts.judged kind tokens.now) }
+{
+    if is_too_long(tokens) {
+        return Err(SyntaxFault::Bad {
+            kind: SyntaxKind::TooLong,
+            at: 0,
+        });
+    }
+    if is_too_deep(tokens) {
+        return Err(SyntaxFault::Bad {
+            kind: SyntaxKind::TooDeep,
+            at: 0,
+        });
+    }
+    match dependency_within(alloc, tokens, kind, tokens.len() as u32) {
+        Ok(dependency) => Ok(dependency),
+        Err(ReadFault::Ungrammatical) => Err(SyntaxFault::Bad {
+            kind: SyntaxKind::NotADependency,
+            at: 0,
+        }),
+        Err(ReadFault::OutOfMemory) => Err(SyntaxFault::OutOfMemory),
+    }
+}
+
+/// The dependency of this kind that the text spells, or the text's first fault.
+pub fn read_dependency(alloc: Global, text: &[u8], kind: Kind) -> Result<Dependency, SyntaxFault>
+    requires { length text.now < 2 ^ 32 }
+    ensures { texts.Answers dependency_of result (texts.dependency_in kind text.now) }
+{
+    let tokens = tokens_of(alloc, text)?;
+    judged(alloc, tokens.as_slice(), kind)
 }

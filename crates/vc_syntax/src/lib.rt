@@ -19,4 +19,6 @@ pub use fault::{Kind, SyntaxFault, SyntaxKind};
 pub use token::{Dollar, Lexeme, Reserved, Sign, Token};
 
 #[cfg(test)]
+mod reading_tests;
+#[cfg(test)]
 mod tests;
