@@ -9,6 +9,7 @@ pub mod LexemesAgain
 pub mod Lists
 pub mod NumbersAgain
 pub mod Quotes
+pub mod SpelledLaws
 pub mod StatementCompleteness
 pub mod StatementSoundness
 pub mod TermCompleteness

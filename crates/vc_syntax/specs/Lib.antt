@@ -9,6 +9,7 @@ pub mod Leaves
 pub mod Lexemes
 pub mod Limits
 pub mod Reading
+pub mod Spelled
 pub mod Spellings
 pub mod StatementGrammar
 pub mod StatementReading

@@ -1,6 +1,6 @@
 //! Whole dependencies, read from all of their tokens.
 
-ghost use Rattle.std.specs.Prelude.{◌≡◌, ◌<◌, ◌^◌, length, option_map, map, IfOk, Some};
+ghost use Rattle.std.specs.Prelude.{◌≡◌, ℕ, ◌<◌, ◌^◌, List, length, option_map, map, IfOk, Some, Ok, Err};
 ghost use Rattle.vc_syntax.specs.Reading.{Gives, listed};
 ghost use Rattle.vc_syntax.specs.TermReading as terms;
 ghost use Rattle.vc_syntax.specs.ConditionReading as conditions;
@@ -9,6 +9,9 @@ ghost use Rattle.vc_syntax.specs.ConstraintReading as constraints;
 ghost use Rattle.vc_syntax.specs.DependencyReading as reads;
 ghost use Rattle.vc_syntax.specs.DependencyGrammar.{IsDependency};
 ghost use Rattle.vc_syntax.specs.DependencyTexts as texts;
+ghost use Rattle.vc_syntax.specs.Spelled.{Spells, IsFault};
+ghost use Rattle.vc_syntax.specs.declared.fault.Kind.{Kind};
+ghost use Rattle.vc_syntax.specs.declared.fault.SyntaxKind.{SyntaxKind};
 ghost use Rattle.vc_syntax.specs.Trees as trees;
 ghost use Rattle.vc_syntax.specs.Trees.{term_of, condition_of, statement_of, constraint_of, dependency_of};
 ghost use Rattle.vc_syntax.specs.declared.token.Sign.TheVariants as signs;
@@ -144,11 +147,33 @@ fn judged(alloc: Global, tokens: &[Token], kind: Kind) -> Result<Dependency, Syn
     }
 }
 
-/// The dependency of this kind that the text spells, or the text's first fault.
-pub fn read_dependency(alloc: Global, text: &[u8], kind: Kind) -> Result<Dependency, SyntaxFault>
+/// What the text is as a dependency of this kind, by the reader of tokens.
+fn read_judged(alloc: Global, text: &[u8], kind: Kind) -> Result<Dependency, SyntaxFault>
     requires { length text.now < 2 ^ 32 }
     ensures { texts.Answers dependency_of result (texts.dependency_in kind text.now) }
 {
     let tokens = tokens_of(alloc, text)?;
     judged(alloc, tokens.as_slice(), kind)
 }
+
+/// The dependency of this kind that the text spells. A fault tells the first bad token by its kind
+/// and its first byte; else, at 0, too many tokens, too deep nesting, or that the tokens spell none.
+pub fn read_dependency(alloc: Global, text: &[u8], kind: Kind) -> Result<Dependency, SyntaxFault>
+    requires { length text.now < 2 ^ 32 }
+    // What is read is spelled by the text.
+    ensures found { IfOk result (λ d. Spells kind text.now (dependency_of d)) }
+    // What the text spells is read, unless memory ran out.
+    ensures only { (tree : trees.Dependency) → Spells kind text.now tree → texts.Answers dependency_of result (Ok tree) }
+    // A fault that is told is the text's, and the text's fault is told, unless memory ran out.
+    ensures told { (fault : SyntaxKind) (place : ℕ) → result ≡ Err (SyntaxFault.Bad fault place)
+        → IsFault kind text.now fault place }
+    ensures fault { (fault : SyntaxKind) (place : ℕ) → IsFault kind text.now fault place
+        → texts.Answers dependency_of result (Err (SyntaxFault.Bad fault place)) }
+{
+    read_judged(alloc, text, kind)
+}
+
+/// A text spells at most one dependency of a kind.
+pub fn one_tree_is_spelled()
+    ensures { (kind : Kind) (text : List ℕ) (one other : trees.Dependency) → Spells kind text one → Spells kind text other → one ≡ other }
+{}
