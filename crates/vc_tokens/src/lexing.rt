@@ -65,7 +65,8 @@ fn word_at(alloc: Global, bytes: &[u8]) -> Result<Word, AllocError>
     Word::upper_from(alloc, &bytes[..name_length(bytes)])
 }
 
-fn lexeme_of_word(word: Word) -> Lexeme
+/// The reserved word that the word in upper case is, or the name.
+pub fn lexeme_of_word(word: Word) -> Lexeme
     ensures { result ≡ lexemes.lexeme_of_word word }
 {
     match reserved_of(word.bytes()) {
