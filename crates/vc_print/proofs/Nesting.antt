@@ -1,5 +1,5 @@
 -- What is made simpler is no longer, and nests no deeper.
-use Rattle.std.proofs.Common.{◌≡◌, ℕ, ◌+◌, ◌<◌, ◌≤◌, Bool, true, false, List, [], ◌∷◌, ◌++◌, length, map, refl, sym, ap, subst, ◌∙◌, append_assoc, length-append, arith}
+use Rattle.std.proofs.Common.{◌≡◌, ℕ, ◌+◌, ◌≤◌, Bool, true, List, [], ◌∷◌, ◌++◌, length, sym, ap, subst, append_assoc, length-append, arith}
 use Rattle.vc_tokens.specs.declared.token.Token.{Token}
 use Rattle.vc_tokens.specs.declared.token.Lexeme.{Lexeme}
 use Rattle.vc_tokens.specs.declared.token.Lexeme.TheVariants as lexemes

@@ -1,5 +1,5 @@
 -- What is made simpler has no longer rows of NOTs or minuses.
-use Rattle.std.proofs.Common.{◌≡◌, ℕ, ◌+◌, ◌<◌, ◌≤◌, Bool, true, false, if◌then◌else◌, List, [], ◌∷◌, ◌++◌, refl, sym, ap, subst, ◌∙◌, append_assoc, arith}
+use Rattle.std.proofs.Common.{◌≡◌, ℕ, ◌+◌, ◌≤◌, Bool, true, false, if◌then◌else◌, List, [], ◌∷◌, ◌++◌, refl, sym, ap, subst, ◌∙◌, append_assoc, arith}
 use Rattle.vc_tokens.specs.declared.token.Token.{Token}
 use Rattle.vc_tokens.specs.declared.token.Lexeme.{Lexeme}
 use Rattle.vc_tokens.specs.declared.token.Lexeme.TheVariants as lexemes

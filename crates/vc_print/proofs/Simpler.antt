@@ -1,5 +1,5 @@
 -- Tokens made simpler: parentheses left out, and lexemes in the place of others of their sort.
-use Rattle.std.specs.Prelude.{◌≡◌, ℕ, ◌+◌, ◌≤◌, Bool, true, false, ◌&&◌, not, List, [], ◌∷◌, ◌++◌, length}
+use Rattle.std.specs.Prelude.{◌≡◌, ℕ, Bool, true, false, List, [], ◌∷◌, ◌++◌}
 use Rattle.vc_tokens.specs.declared.token.Token.{Token}
 use Rattle.vc_tokens.specs.declared.token.Lexeme.{Lexeme}
 use Rattle.vc_tokens.specs.declared.token.Lexeme.TheVariants as lexemes

@@ -1,5 +1,5 @@
 -- What is made simpler keeps all that a text has to keep.
-use Rattle.std.proofs.Common.{◌≡◌, ℕ, ◌+◌, ◌<◌, ◌≤◌, Bool, true, false, List, [], ◌∷◌, ◌++◌, length, map, refl, sym, ap, subst, ◌∙◌, length-append, arith}
+use Rattle.std.proofs.Common.{◌≡◌, ℕ, ◌+◌, ◌≤◌, Bool, true, false, List, [], ◌∷◌, ◌++◌, length, map, refl, subst, length-append, arith}
 use Rattle.std.specs.Prelude.{◌&&◌, ◌||◌, nat_lt}
 use Rattle.std.specs.List.{list_all}
 use Rattle.std.proofs.lemmas.List.{append-nil}
@@ -9,10 +9,10 @@ use Rattle.vc_tokens.specs.declared.token.Lexeme.{Lexeme}
 use Rattle.vc_tokens.specs.declared.limits.Prefix.{Prefix}
 use Rattle.vc_tokens.specs.declared.limits.Prefix.TheVariants.{Negation, Negative}
 use Rattle.vc_tokens.specs.Limits.{is_open, is_close, one_if, nests_deep, row_up_to, has_long_row, is_too_deep, is_too_long}
-use Rattle.vc_tokens.specs.Written.{is_lexeme, stands_before, stand_together, begins_no_comment, are_lexemes}
+use Rattle.vc_tokens.specs.Written.{is_lexeme, stand_together, begins_no_comment, are_lexemes}
 use Rattle.vc_print.proofs.Simpler.{Simpler, Sections}
 use Rattle.vc_print.proofs.Nesting.{AllGood, Shallow, lexeme, itself, Deeper, fewer, keeps_depth, sections_fewer, sections_keep_depth}
-use Rattle.vc_print.proofs.Rows.{Rowed, Behind, Shorter, keeps_row, sections_keep_row}
+use Rattle.vc_print.proofs.Rows.{Rowed, Shorter, keeps_row, sections_keep_row}
 use Rattle.vc_print.proofs.Standing.{Together, keeps_together, begins, sections_begin, sections_together}
 
 -- the lexemes are as few, as shallow and as well told apart as the tokens

@@ -1,5 +1,5 @@
 -- What is made simpler is told apart again in its text.
-use Rattle.std.proofs.Common.{◌≡◌, ℕ, Bool, true, false, not, List, [], ◌∷◌, ◌++◌, refl, sym, ap, subst, ◌∙◌, append_assoc}
+use Rattle.std.proofs.Common.{◌≡◌, Bool, true, false, not, List, [], ◌∷◌, ◌++◌, refl, sym, ap, subst, ◌∙◌, append_assoc}
 use Rattle.std.specs.Prelude.{◌&&◌, ◌||◌}
 use Rattle.vc_tokens.specs.declared.token.Token.{Token}
 use Rattle.vc_tokens.specs.declared.token.Lexeme.{Lexeme}
@@ -7,7 +7,7 @@ use Rattle.vc_tokens.specs.declared.token.Lexeme.TheVariants as lexemes
 use Rattle.vc_tokens.specs.declared.token.Sign.TheVariants.{Dot, Colon, Period}
 use Rattle.vc_tokens.specs.declared.token.Reserved.TheVariants as words
 use Rattle.vc_tokens.specs.Texts.{is_dot, is_period}
-use Rattle.vc_tokens.specs.Written.{is_lexeme, is_word, is_star, stands_before, stand_together, begins_no_comment}
+use Rattle.vc_tokens.specs.Written.{is_lexeme, is_word, is_star, stands_before, begins_no_comment}
 use Rattle.vc_print.proofs.Simpler as simpler
 use Rattle.vc_print.proofs.Simpler.{Same, Simpler, Sections}
 use Rattle.vc_print.proofs.Nesting.{AllGood, all_good_front, all_good_back}

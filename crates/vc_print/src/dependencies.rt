@@ -1,8 +1,12 @@
 //! The canonical text of a whole dependency.
 
-ghost use Rattle.std.specs.Prelude.{◌≡◌, ◌++◌, IfOk, OnOk};
+ghost use Rattle.std.specs.Prelude.{◌≡◌, ◌++◌, ℕ, List, IfOk, OnOk};
+ghost use Rattle.vc_tokens.specs.declared.fault.Kind.{Kind};
+ghost use Rattle.vc_syntax.specs.Spelled.{Spells};
+ghost use Rattle.vc_syntax.specs.Trees as trees;
 ghost use Rattle.vc_syntax.specs.Trees.{dependency_of};
 ghost use Rattle.vc_print.specs.DependencyLexemes as prints;
+ghost use Rattle.vc_print.specs.Places.{bare};
 
 use crate::conditions::put_condition;
 use crate::constraints::put_constraint;
@@ -39,3 +43,10 @@ pub fn print_dependency(alloc: Global, dependency: &Dependency) -> Result<Word, 
     put_dependency(alloc, &mut lexemes, dependency)?;
     text_of(alloc, lexemes.as_slice())
 }
+
+/// The canonical text of a dependency that some text spells, spells the same dependency again, but
+/// for the places of its leaves; limits included, and of the same kind.
+pub fn canonical_text_is_read_again()
+    ensures { (kind : Kind) (text : List ℕ) (tree : trees.Dependency) → Spells kind text tree
+        → (again : trees.Dependency) × Spells kind (prints.canonical_text tree) again × (bare again ≡ bare tree) }
+{}
