@@ -1,6 +1,6 @@
 -- Chains of operands: a step at a time, apart from the bound in their definition.
 use Rattle.std.proofs.Common.{◌≡◌, ℕ, zero, suc, ◌<◌, ◌≤◌, List, [], ◌∷◌, length, Option, Some, None, ◌++◌, option_map, ◌⊎◌, inl, inr, refl, sym, ap, subst, ◌∙◌, append_assoc, length-append, arith}
-use Rattle.vc_syntax.specs.declared.token.Token.{Token}
+use Rattle.vc_tokens.specs.declared.token.Token.{Token}
 use Rattle.vc_syntax.specs.Reading.{Reader, then, either, more_in, chained, chain}
 
 -- a reader that leaves no more tokens than there were, and one that takes some

@@ -1,10 +1,10 @@
 -- What is read as a relation or a condition, the grammar says.
 use Rattle.std.proofs.Common.{◌≡◌, ℕ, zero, suc, List, [], ◌∷◌, ◌++◌, false, true, Option, Some, None, ◌⊎◌, inl, inr, refl, sym, ap, subst, ◌∙◌, append_assoc}
-use Rattle.vc_syntax.specs.declared.token.Token.{Token}
-use Rattle.vc_syntax.specs.declared.token.Lexeme.{Lexeme}
-use Rattle.vc_syntax.specs.declared.token.Lexeme.TheVariants as lexemes
-use Rattle.vc_syntax.specs.declared.token.Sign.TheVariants as signs
-use Rattle.vc_syntax.specs.declared.token.Reserved.TheVariants as words
+use Rattle.vc_tokens.specs.declared.token.Token.{Token}
+use Rattle.vc_tokens.specs.declared.token.Lexeme.{Lexeme}
+use Rattle.vc_tokens.specs.declared.token.Lexeme.TheVariants as lexemes
+use Rattle.vc_tokens.specs.declared.token.Sign.TheVariants as signs
+use Rattle.vc_tokens.specs.declared.token.Reserved.TheVariants as words
 use Rattle.vc_syntax.specs.declared.tree.NameLeaf.{NameLeaf}
 use Rattle.vc_syntax.specs.declared.tree.TextLeaf.{TextLeaf}
 use Rattle.vc_syntax.specs.declared.tree.NumberLeaf.{NumberLeaf}

@@ -1,9 +1,9 @@
 -- What is read as a whole dependency is just what the grammar says.
 use Rattle.std.proofs.Common.{◌≡◌, ℕ, List, [], ◌∷◌, ◌++◌, length, Bool, true, cond, Option, Some, None, option_map, refl, sym, ap, subst, ◌∙◌, length-append, arith}
-use Rattle.vc_syntax.specs.declared.token.Token.{Token}
-use Rattle.vc_syntax.specs.declared.token.Sign.TheVariants as signs
-use Rattle.vc_syntax.specs.declared.fault.Kind.{Kind}
-use Rattle.vc_syntax.specs.declared.fault.Kind.TheVariants as kinds
+use Rattle.vc_tokens.specs.declared.token.Token.{Token}
+use Rattle.vc_tokens.specs.declared.token.Sign.TheVariants as signs
+use Rattle.vc_tokens.specs.declared.fault.Kind.{Kind}
+use Rattle.vc_tokens.specs.declared.fault.Kind.TheVariants as kinds
 use Rattle.vc_syntax.specs.Leaves.{after_sign}
 use Rattle.vc_syntax.specs.Reading.{Gives, listed}
 use Rattle.vc_syntax.specs.TermReading.{sum}

@@ -4,17 +4,10 @@ pub mod ConditionSoundness
 pub mod ConstraintCompleteness
 pub mod ConstraintSoundness
 pub mod DependencyLaws
-pub mod Lengths
-pub mod LexemesAgain
 pub mod Lists
-pub mod NumbersAgain
-pub mod Quotes
 pub mod SpelledLaws
 pub mod StatementCompleteness
 pub mod StatementSoundness
 pub mod TermCompleteness
 pub mod TermSoundness
-pub mod TextsAgain
 pub mod TokenLaws
-pub mod TokensFrom
-pub mod LexemesGood

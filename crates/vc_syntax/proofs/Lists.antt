@@ -1,8 +1,8 @@
 -- Lists with a separator between their members.
 use Rattle.std.proofs.Common.{◌≡◌, ℕ, ◌<◌, ◌≤◌, List, [], ◌∷◌, ◌++◌, length, Option, Some, None, refl, sym, ap, subst, ◌∙◌, append_assoc, length-append, map, arith}
-use Rattle.vc_syntax.specs.declared.token.Token.{Token}
-use Rattle.vc_syntax.specs.declared.token.Sign.{Sign}
-use Rattle.vc_syntax.specs.declared.token.Reserved.{Reserved}
+use Rattle.vc_tokens.specs.declared.token.Token.{Token}
+use Rattle.vc_tokens.specs.declared.token.Sign.{Sign}
+use Rattle.vc_tokens.specs.declared.token.Reserved.{Reserved}
 use Rattle.vc_syntax.specs.Leaves.{after_sign, after_word}
 use Rattle.vc_syntax.specs.Reading.{Reader, then, made, leaving_as, sign, word, append, single, listed, chained}
 use Rattle.vc_syntax.specs.TermGrammar.{IsSign, IsWord}

@@ -1,11 +1,11 @@
 -- What is read as a statement or a restriction, the grammar says.
 use Rattle.std.proofs.Common.{◌≡◌, ℕ, List, [], ◌∷◌, ◌++◌, Option, Some, None, inl, inr, refl, sym, ap, subst, ◌∙◌, append_assoc}
-use Rattle.vc_syntax.specs.declared.token.Token.{Token}
-use Rattle.vc_syntax.specs.declared.token.Lexeme.{Lexeme}
-use Rattle.vc_syntax.specs.declared.token.Lexeme.TheVariants as lexemes
-use Rattle.vc_syntax.specs.declared.token.Sign.TheVariants as signs
-use Rattle.vc_syntax.specs.declared.token.Dollar.TheVariants as dollars
-use Rattle.vc_syntax.specs.declared.token.Reserved.TheVariants as words
+use Rattle.vc_tokens.specs.declared.token.Token.{Token}
+use Rattle.vc_tokens.specs.declared.token.Lexeme.{Lexeme}
+use Rattle.vc_tokens.specs.declared.token.Lexeme.TheVariants as lexemes
+use Rattle.vc_tokens.specs.declared.token.Sign.TheVariants as signs
+use Rattle.vc_tokens.specs.declared.token.Dollar.TheVariants as dollars
+use Rattle.vc_tokens.specs.declared.token.Reserved.TheVariants as words
 use Rattle.vc_syntax.specs.declared.tree.NameLeaf.{NameLeaf}
 use Rattle.vc_syntax.specs.Leaves.{after_sign, after_word, named, any_named}
 use Rattle.vc_syntax.specs.Reading.{then, made, closed, grouped, listed}

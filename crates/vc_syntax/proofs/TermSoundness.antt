@@ -1,11 +1,11 @@
 -- What is read as a term, the grammar of terms says.
 use Rattle.std.proofs.Common.{◌≡◌, ℕ, zero, suc, List, [], ◌∷◌, ◌++◌, Option, Some, option_map, inl, inr, refl, sym, ap, subst, ◌∙◌, append_assoc}
-use Rattle.vc_syntax.specs.declared.token.Token.{Token}
-use Rattle.vc_syntax.specs.declared.token.Lexeme.{Lexeme}
-use Rattle.vc_syntax.specs.declared.token.Lexeme.TheVariants as lexemes
-use Rattle.vc_syntax.specs.declared.token.Sign.TheVariants as signs
-use Rattle.vc_syntax.specs.declared.token.Dollar.{Dollar}
-use Rattle.vc_syntax.specs.declared.token.Dollar.TheVariants as dollars
+use Rattle.vc_tokens.specs.declared.token.Token.{Token}
+use Rattle.vc_tokens.specs.declared.token.Lexeme.{Lexeme}
+use Rattle.vc_tokens.specs.declared.token.Lexeme.TheVariants as lexemes
+use Rattle.vc_tokens.specs.declared.token.Sign.TheVariants as signs
+use Rattle.vc_tokens.specs.declared.token.Dollar.{Dollar}
+use Rattle.vc_tokens.specs.declared.token.Dollar.TheVariants as dollars
 use Rattle.vc_syntax.specs.declared.tree.NameLeaf.{NameLeaf}
 use Rattle.vc_syntax.specs.declared.tree.TextLeaf.{TextLeaf}
 use Rattle.vc_syntax.specs.declared.tree.NumberLeaf.{NumberLeaf}

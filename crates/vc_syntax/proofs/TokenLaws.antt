@@ -1,14 +1,14 @@
 -- What the readers of single tokens read.
 use denote.Enum.Bare.{same_true, true_same}
 use Rattle.std.proofs.Common.{◌≡◌, List, [], ◌∷◌, Bool, true, false, cond, Some, None, option_map, refl, ap, ◌∙◌}
-use Rattle.vc_syntax.specs.contracts.token.Sign.{the_type as sign_type}
-use Rattle.vc_syntax.specs.contracts.token.Reserved.{the_type as word_type}
-use Rattle.vc_syntax.specs.declared.token.Token.{Token}
-use Rattle.vc_syntax.specs.declared.token.Lexeme.{Lexeme}
-use Rattle.vc_syntax.specs.declared.token.Lexeme.TheVariants as lexemes
-use Rattle.vc_syntax.specs.declared.token.Sign.{Sign}
-use Rattle.vc_syntax.specs.declared.token.Reserved.{Reserved}
-use Rattle.vc_syntax.specs.declared.token.Dollar.TheVariants.{Itself}
+use Rattle.vc_tokens.specs.contracts.token.Sign.{the_type as sign_type}
+use Rattle.vc_tokens.specs.contracts.token.Reserved.{the_type as word_type}
+use Rattle.vc_tokens.specs.declared.token.Token.{Token}
+use Rattle.vc_tokens.specs.declared.token.Lexeme.{Lexeme}
+use Rattle.vc_tokens.specs.declared.token.Lexeme.TheVariants as lexemes
+use Rattle.vc_tokens.specs.declared.token.Sign.{Sign}
+use Rattle.vc_tokens.specs.declared.token.Reserved.{Reserved}
+use Rattle.vc_tokens.specs.declared.token.Dollar.TheVariants.{Itself}
 use Rattle.vc_syntax.specs.declared.tree.NameLeaf.{NameLeaf}
 use Rattle.vc_syntax.specs.Leaves.{is_sign, is_word, is_self, after_sign, after_word, after_self, named, any_named, name_of, any_name_of}
 use Rattle.vc_syntax.specs.TermGrammar.{IsSign, IsWord, IsDollar, IsName, IsAnyName}

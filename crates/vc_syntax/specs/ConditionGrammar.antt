@@ -1,9 +1,9 @@
 -- The grammar of relations and conditions, a constructor for each production.
 use Rattle.std.specs.Prelude.{◌≡◌, List, [], ◌∷◌, ◌++◌, false, true, Some}
-use Rattle.vc_syntax.specs.declared.token.Token.{Token}
-use Rattle.vc_syntax.specs.declared.token.Sign.{Sign}
-use Rattle.vc_syntax.specs.declared.token.Sign.TheVariants.{OpenParen, CloseParen, Comma, Minus}
-use Rattle.vc_syntax.specs.declared.token.Reserved.TheVariants as words
+use Rattle.vc_tokens.specs.declared.token.Token.{Token}
+use Rattle.vc_tokens.specs.declared.token.Sign.{Sign}
+use Rattle.vc_tokens.specs.declared.token.Sign.TheVariants.{OpenParen, CloseParen, Comma, Minus}
+use Rattle.vc_tokens.specs.declared.token.Reserved.TheVariants as words
 use Rattle.vc_syntax.specs.declared.tree.NameLeaf.{NameLeaf}
 use Rattle.vc_syntax.specs.declared.tree.TextLeaf.{TextLeaf}
 use Rattle.vc_syntax.specs.declared.tree.NumberLeaf.{NumberLeaf}

@@ -1,9 +1,9 @@
 -- The grammar of whole dependencies, a constructor for each kind.
 use Rattle.std.specs.Prelude.{List, [], ◌∷◌, ◌++◌}
-use Rattle.vc_syntax.specs.declared.token.Token.{Token}
-use Rattle.vc_syntax.specs.declared.token.Sign.TheVariants as signs
-use Rattle.vc_syntax.specs.declared.fault.Kind.{Kind}
-use Rattle.vc_syntax.specs.declared.fault.Kind.TheVariants as kinds
+use Rattle.vc_tokens.specs.declared.token.Token.{Token}
+use Rattle.vc_tokens.specs.declared.token.Sign.TheVariants as signs
+use Rattle.vc_tokens.specs.declared.fault.Kind.{Kind}
+use Rattle.vc_tokens.specs.declared.fault.Kind.TheVariants as kinds
 use Rattle.vc_syntax.specs.TermGrammar.{IsSign, IsSum}
 use Rattle.vc_syntax.specs.ConditionGrammar.{IsListed, IsCondition}
 use Rattle.vc_syntax.specs.StatementGrammar.{IsStatement}

@@ -1,9 +1,9 @@
 -- How a dependency of a kind is read, from all of its tokens.
 use Rattle.std.specs.Prelude.{ℕ, List, [], ◌∷◌, Bool, true, false, Option, Some, None, option_map, cond}
-use Rattle.vc_syntax.specs.declared.token.Token.{Token}
-use Rattle.vc_syntax.specs.declared.token.Sign.TheVariants as signs
-use Rattle.vc_syntax.specs.declared.fault.Kind.{Kind}
-use Rattle.vc_syntax.specs.declared.fault.Kind.TheVariants as kinds
+use Rattle.vc_tokens.specs.declared.token.Token.{Token}
+use Rattle.vc_tokens.specs.declared.token.Sign.TheVariants as signs
+use Rattle.vc_tokens.specs.declared.fault.Kind.{Kind}
+use Rattle.vc_tokens.specs.declared.fault.Kind.TheVariants as kinds
 use Rattle.vc_syntax.specs.Leaves.{after_sign}
 use Rattle.vc_syntax.specs.Reading.{then, listed}
 use Rattle.vc_syntax.specs.TermReading.{sum}

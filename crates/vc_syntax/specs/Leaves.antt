@@ -1,18 +1,18 @@
 -- What single tokens are.
 use Rattle.std.specs.Prelude.{ℕ, List, [], ◌∷◌, Option, Some, None, option_map, Bool, true, false, if◌then◌else◌}
 use denote.Enum.Bare.{sameb}
-use Rattle.vc_syntax.specs.contracts.token.Sign.{the_type as sign_type}
-use Rattle.vc_syntax.specs.contracts.token.Reserved.{the_type as word_type}
-use Rattle.vc_syntax.specs.declared.token.Sign.{Sign}
-use Rattle.vc_syntax.specs.declared.token.Reserved.{Reserved}
-use Rattle.vc_syntax.specs.Spellings.{reserved_spelling}
-use Rattle.vc_syntax.specs.declared.token.Token.{Token}
-use Rattle.vc_syntax.specs.declared.token.Lexeme.{Lexeme}
-use Rattle.vc_syntax.specs.declared.token.Lexeme.TheVariants as lexemes
+use Rattle.vc_tokens.specs.contracts.token.Sign.{the_type as sign_type}
+use Rattle.vc_tokens.specs.contracts.token.Reserved.{the_type as word_type}
+use Rattle.vc_tokens.specs.declared.token.Sign.{Sign}
+use Rattle.vc_tokens.specs.declared.token.Reserved.{Reserved}
+use Rattle.vc_tokens.specs.Spellings.{reserved_spelling}
+use Rattle.vc_tokens.specs.declared.token.Token.{Token}
+use Rattle.vc_tokens.specs.declared.token.Lexeme.{Lexeme}
+use Rattle.vc_tokens.specs.declared.token.Lexeme.TheVariants as lexemes
 use Rattle.vc_syntax.specs.declared.tree.NameLeaf.{NameLeaf}
 use Rattle.vc_syntax.specs.declared.tree.TextLeaf.{TextLeaf}
 use Rattle.vc_syntax.specs.declared.tree.NumberLeaf.{NumberLeaf}
-use Rattle.vc_syntax.specs.declared.token.Dollar.TheVariants as dollars
+use Rattle.vc_tokens.specs.declared.token.Dollar.TheVariants as dollars
 
 abbrev pub name_in : Lexeme → ℕ → ℕ → Option NameLeaf
 name_in (lexemes.Name name) start end = Some (record { name = name; start = start; end = end })

@@ -6,16 +6,10 @@ pub mod DependencyGrammar
 pub mod DependencyReading
 pub mod DependencyTexts
 pub mod Leaves
-pub mod Lexemes
-pub mod Limits
 pub mod Reading
 pub mod Spelled
-pub mod Spellings
 pub mod StatementGrammar
 pub mod StatementReading
 pub mod TermGrammar
 pub mod TermReading
-pub mod Texts
-pub mod Tokens
 pub mod Trees
-pub mod Written

@@ -2,10 +2,10 @@
 use Rattle.std.specs.Prelude.{◌≡◌, ℕ, zero, suc, List, [], ◌∷◌, ◌++◌, length, Option, Some, None, option_map, Result, Ok, Err}
 use Rattle.vc_syntax.specs.declared.reading.ReadFault.{ReadFault}
 use Rattle.vc_syntax.specs.declared.reading.ReadFault.TheVariants.{Ungrammatical, OutOfMemory}
-use Rattle.vc_syntax.specs.declared.token.Token.{Token}
-use Rattle.vc_syntax.specs.declared.token.Sign.TheVariants.{OpenParen, CloseParen}
-use Rattle.vc_syntax.specs.declared.token.Sign.{Sign}
-use Rattle.vc_syntax.specs.declared.token.Reserved.{Reserved}
+use Rattle.vc_tokens.specs.declared.token.Token.{Token}
+use Rattle.vc_tokens.specs.declared.token.Sign.TheVariants.{OpenParen, CloseParen}
+use Rattle.vc_tokens.specs.declared.token.Sign.{Sign}
+use Rattle.vc_tokens.specs.declared.token.Reserved.{Reserved}
 use Rattle.vc_syntax.specs.Leaves.{after_sign, after_word}
 
 -- what the call answers, seen by view, is what there is to read, unless memory ran out

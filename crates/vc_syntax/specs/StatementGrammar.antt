@@ -1,9 +1,9 @@
 -- The grammar of the statements of procedures and of the demands of constraints, a constructor for each production.
 use Rattle.std.specs.Prelude.{List, [], ◌∷◌, ◌++◌, Option, Some, None}
-use Rattle.vc_syntax.specs.declared.token.Token.{Token}
-use Rattle.vc_syntax.specs.declared.token.Sign.TheVariants.{OpenParen, CloseParen, Comma, Dot, Equal}
-use Rattle.vc_syntax.specs.declared.token.Dollar.TheVariants as dollars
-use Rattle.vc_syntax.specs.declared.token.Reserved.TheVariants as words
+use Rattle.vc_tokens.specs.declared.token.Token.{Token}
+use Rattle.vc_tokens.specs.declared.token.Sign.TheVariants.{OpenParen, CloseParen, Comma, Dot, Equal}
+use Rattle.vc_tokens.specs.declared.token.Dollar.TheVariants as dollars
+use Rattle.vc_tokens.specs.declared.token.Reserved.TheVariants as words
 use Rattle.vc_syntax.specs.declared.tree.NameLeaf.{NameLeaf}
 use Rattle.vc_syntax.specs.TermGrammar.{IsSign, IsWord, IsDollar, IsName, IsAnyName, IsSelfAndName, IsSum}
 use Rattle.vc_syntax.specs.ConditionGrammar.{IsListed, IsRelation, IsCondition}

@@ -1,12 +1,12 @@
 -- The grammar of operands and terms, a constructor for each production. The tokens stand left, the tree that they spell right.
 use Rattle.std.specs.Prelude.{◌≡◌, List, [], ◌∷◌, ◌++◌, Some}
-use Rattle.vc_syntax.specs.declared.token.Token.{Token}
-use Rattle.vc_syntax.specs.declared.token.Lexeme.TheVariants as lexemes
-use Rattle.vc_syntax.specs.declared.token.Sign.{Sign}
-use Rattle.vc_syntax.specs.declared.token.Sign.TheVariants.{OpenParen, CloseParen, Comma, Dot, Minus}
-use Rattle.vc_syntax.specs.declared.token.Dollar.{Dollar}
-use Rattle.vc_syntax.specs.declared.token.Dollar.TheVariants.{Itself, SumParts, CountParts}
-use Rattle.vc_syntax.specs.declared.token.Reserved.{Reserved}
+use Rattle.vc_tokens.specs.declared.token.Token.{Token}
+use Rattle.vc_tokens.specs.declared.token.Lexeme.TheVariants as lexemes
+use Rattle.vc_tokens.specs.declared.token.Sign.{Sign}
+use Rattle.vc_tokens.specs.declared.token.Sign.TheVariants.{OpenParen, CloseParen, Comma, Dot, Minus}
+use Rattle.vc_tokens.specs.declared.token.Dollar.{Dollar}
+use Rattle.vc_tokens.specs.declared.token.Dollar.TheVariants.{Itself, SumParts, CountParts}
+use Rattle.vc_tokens.specs.declared.token.Reserved.{Reserved}
 use Rattle.vc_syntax.specs.declared.tree.NameLeaf.{NameLeaf}
 use Rattle.vc_syntax.specs.declared.tree.TextLeaf.{TextLeaf}
 use Rattle.vc_syntax.specs.declared.tree.NumberLeaf.{NumberLeaf}

@@ -1,13 +1,13 @@
 -- How terms are read.
 use Rattle.std.specs.Prelude.{ℕ, zero, suc, List, [], ◌∷◌, Option, Some, None, option_map}
-use Rattle.vc_syntax.specs.declared.token.Token.{Token}
-use Rattle.vc_syntax.specs.declared.token.Lexeme.{Lexeme}
-use Rattle.vc_syntax.specs.declared.token.Lexeme.TheVariants as lexemes
-use Rattle.vc_syntax.specs.declared.token.Sign.TheVariants as signs
-use Rattle.vc_syntax.specs.declared.token.Reserved.{Reserved}
-use Rattle.vc_syntax.specs.declared.token.Reserved.TheVariants as words
-use Rattle.vc_syntax.specs.declared.token.Dollar.{Dollar}
-use Rattle.vc_syntax.specs.declared.token.Dollar.TheVariants as dollars
+use Rattle.vc_tokens.specs.declared.token.Token.{Token}
+use Rattle.vc_tokens.specs.declared.token.Lexeme.{Lexeme}
+use Rattle.vc_tokens.specs.declared.token.Lexeme.TheVariants as lexemes
+use Rattle.vc_tokens.specs.declared.token.Sign.TheVariants as signs
+use Rattle.vc_tokens.specs.declared.token.Reserved.{Reserved}
+use Rattle.vc_tokens.specs.declared.token.Reserved.TheVariants as words
+use Rattle.vc_tokens.specs.declared.token.Dollar.{Dollar}
+use Rattle.vc_tokens.specs.declared.token.Dollar.TheVariants as dollars
 use Rattle.vc_syntax.specs.declared.tree.NameLeaf.{NameLeaf}
 use Rattle.vc_syntax.specs.declared.tree.Owner.{Owner}
 use Rattle.vc_syntax.specs.declared.tree.Owner.TheVariants as owners

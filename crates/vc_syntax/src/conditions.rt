@@ -6,18 +6,18 @@ ghost use Rattle.vc_syntax.specs.Reading.{Gives, made, closed, listed};
 ghost use Rattle.vc_syntax.specs.TermReading as terms;
 ghost use Rattle.vc_syntax.specs.Trees as trees;
 ghost use Rattle.vc_syntax.specs.Trees.{relation_of, condition_of};
-ghost use Rattle.vc_syntax.specs.declared.token.Sign.TheVariants as signs;
+ghost use Rattle.vc_tokens.specs.declared.token.Sign.TheVariants as signs;
 
 use crate::reading::{
     ReadFault, after_sign, after_word, number_leaf, sign_ahead, text_leaf, variable_leaf,
     word_ahead,
 };
 use crate::terms::{operand, sum};
-use crate::token::{Lexeme, Reserved, Sign, Token};
 use crate::tree::{
     Condition, Item, NameLeaf, NumberLeaf, Relation, Relator, SignedNumber, TextLeaf,
 };
 use std::alloc::Global;
+use vc_tokens::token::{Lexeme, Reserved, Sign, Token};
 use vc_value::Listed;
 
 fn relator_of(token: &Token) -> Result<Relator, ReadFault>

@@ -10,23 +10,23 @@ ghost use Rattle.vc_syntax.specs.DependencyReading as reads;
 ghost use Rattle.vc_syntax.specs.DependencyGrammar.{IsDependency};
 ghost use Rattle.vc_syntax.specs.DependencyTexts as texts;
 ghost use Rattle.vc_syntax.specs.Spelled.{Spells, IsFault};
-ghost use Rattle.vc_syntax.specs.declared.fault.Kind.{Kind};
-ghost use Rattle.vc_syntax.specs.declared.fault.SyntaxKind.{SyntaxKind};
+ghost use Rattle.vc_tokens.specs.declared.fault.Kind.{Kind};
+ghost use Rattle.vc_tokens.specs.declared.fault.SyntaxKind.{SyntaxKind};
 ghost use Rattle.vc_syntax.specs.Trees as trees;
 ghost use Rattle.vc_syntax.specs.Trees.{term_of, condition_of, statement_of, constraint_of, dependency_of};
-ghost use Rattle.vc_syntax.specs.declared.token.Sign.TheVariants as signs;
+ghost use Rattle.vc_tokens.specs.declared.token.Sign.TheVariants as signs;
 
 use crate::conditions::condition;
 use crate::constraints::constraint;
-use crate::fault::{Kind, SyntaxFault, SyntaxKind};
-use crate::lexing::tokens_of;
-use crate::limits::{is_too_deep, is_too_long};
 use crate::reading::{ReadFault, sign_ahead};
 use crate::statements::statements;
 use crate::terms::sum;
-use crate::token::{Sign, Token};
 use crate::tree::{Condition, Constraint, Dependency, Statement, Term};
 use std::alloc::Global;
+use vc_tokens::fault::{Kind, SyntaxFault, SyntaxKind};
+use vc_tokens::lexing::tokens_of;
+use vc_tokens::limits::{is_too_deep, is_too_long};
+use vc_tokens::token::{Sign, Token};
 use vc_value::Listed;
 
 // Whether nothing stands there, or a period and nothing more.

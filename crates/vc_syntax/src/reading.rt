@@ -5,10 +5,10 @@ ghost use Rattle.std.specs.Option.{option_copied};
 ghost use Rattle.vc_syntax.specs.Leaves.{name_of, any_name_of, any_named, variable_of, text_of, number_of, after_self, after_sign, after_word, named};
 ghost use Rattle.vc_syntax.specs.Reading.{Gives};
 
-use crate::spelling::reserved_spelling;
-use crate::token::{Dollar, Lexeme, Reserved, Sign, Token};
 use crate::tree::{NameLeaf, NumberLeaf, TextLeaf};
 use std::alloc::{AllocError, AllocFailed, Global};
+use vc_tokens::spelling::reserved_spelling;
+use vc_tokens::token::{Dollar, Lexeme, Reserved, Sign, Token};
 use vc_value::Word;
 
 /// Why tokens were not read.

@@ -1,8 +1,8 @@
 //! Texts and what they are read as.
 
 use crate::dependencies::read_dependency;
-use crate::fault::{Kind, SyntaxFault, SyntaxKind};
 use std::test::Fail;
+use vc_tokens::fault::{Kind, SyntaxFault, SyntaxKind};
 
 const SPELLED: [(Kind, &str); 9] = [
     (Kind::Precondition, "size='L' and not specified Flow"),

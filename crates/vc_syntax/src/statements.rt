@@ -5,16 +5,16 @@ ghost use Rattle.vc_syntax.specs.Reading.{Gives, made, grouped, listed};
 ghost use Rattle.vc_syntax.specs.StatementReading as reads;
 ghost use Rattle.vc_syntax.specs.Trees as trees;
 ghost use Rattle.vc_syntax.specs.Trees.{term_of, condition_of, binding_of, table_call_of, action_of, statement_of, demand_of, restriction_of};
-ghost use Rattle.vc_syntax.specs.declared.token.Sign.TheVariants as signs;
+ghost use Rattle.vc_tokens.specs.declared.token.Sign.TheVariants as signs;
 
 use crate::conditions::{condition, relation};
 use crate::reading::{ReadFault, after_sign, any_named, named, sign_ahead, word_ahead};
 use crate::terms::{dotted, self_and_name, sum};
-use crate::token::{Dollar, Lexeme, Reserved, Sign, Token};
 use crate::tree::{
     Action, Binding, Condition, Demand, NameLeaf, Restriction, Statement, TableCall, Term,
 };
 use std::alloc::Global;
+use vc_tokens::token::{Dollar, Lexeme, Reserved, Sign, Token};
 use vc_value::Listed;
 
 fn binding(alloc: Global, tokens: &[Token], left: u32) -> Result<(Binding, &[Token]), ReadFault>

@@ -11,9 +11,9 @@ use crate::reading::{
     ReadFault, after_self, after_sign, name_leaf, named, number_leaf, sign_ahead, text_leaf,
     variable_leaf,
 };
-use crate::token::{Dollar, Lexeme, Reserved, Sign, Token};
 use crate::tree::{Function, NameLeaf, Operand, Operator, Owner, Term};
 use std::alloc::Global;
+use vc_tokens::token::{Dollar, Lexeme, Reserved, Sign, Token};
 
 fn owner_of(dollar: Dollar) -> Result<Owner, ReadFault>
     ensures { Gives (λ owner. owner) result (reads.owner_of dollar) }

@@ -2,7 +2,7 @@ use Rattle.std.proofs.Common.{sym, ap}
 use Rattle.vc_syntax.specs.ConditionReading as reads
 use Rattle.vc_syntax.specs.Reading.{word, leaving_as}
 use Rattle.vc_syntax.specs.Trees.{condition_of}
-use Rattle.vc_syntax.specs.declared.token.Reserved.TheVariants as words
+use Rattle.vc_tokens.specs.declared.token.Reserved.TheVariants as words
 use Rattle.vc_syntax.proofs.Chains.{chain_turn, chain_shorter}
 use Rattle.vc_syntax.proofs.ConditionSoundness.{negation_shortens, conjunction_shortens}
 use Rattle.vc_syntax.proofs.Lists.{word_takes}

@@ -2,7 +2,7 @@ use Rattle.std.proofs.Common.{◌≡◌, ◌+◌, ◌*◌, length}
 use Rattle.vc_syntax.specs.ConditionReading as reads
 use Rattle.vc_syntax.specs.Reading.{word, chained}
 use Rattle.vc_syntax.specs.Trees.{condition_of}
-use Rattle.vc_syntax.specs.declared.token.Reserved.TheVariants as words
+use Rattle.vc_tokens.specs.declared.token.Reserved.TheVariants as words
 use Rattle.vc_syntax.proofs.conditions.+conditions.Given as goal
 
 abbrev pub decreases-negation : goal.decreases-negation

@@ -1,7 +1,7 @@
 use Rattle.std.proofs.Common.{◌≡◌, length}
 use Rattle.vc_syntax.specs.ConditionReading as reads
 use Rattle.vc_syntax.specs.Reading.{append, single, sign, chained, listed}
-use Rattle.vc_syntax.specs.declared.token.Sign.TheVariants as signs
+use Rattle.vc_tokens.specs.declared.token.Sign.TheVariants as signs
 use Rattle.vc_syntax.proofs.conditions.items.Given as goal
 
 abbrev pub invariant-loop-after : goal.invariant-loop-after

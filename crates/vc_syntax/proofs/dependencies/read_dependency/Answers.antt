@@ -1,7 +1,7 @@
 -- What the text is found to be is what it spells, or its fault.
 use Rattle.std.proofs.Common.{Result, Ok, Err, subst}
-use Rattle.vc_syntax.specs.declared.fault.SyntaxFault.{SyntaxFault}
-use Rattle.vc_syntax.specs.declared.fault.SyntaxFault.TheVariants.{Bad}
+use Rattle.vc_tokens.specs.declared.fault.SyntaxFault.{SyntaxFault}
+use Rattle.vc_tokens.specs.declared.fault.SyntaxFault.TheVariants.{Bad}
 use Rattle.vc_syntax.specs.DependencyTexts.{Answers}
 use Rattle.vc_syntax.specs.Trees.{Dependency, dependency_of}
 use Rattle.vc_syntax.proofs.SpelledLaws.{answers_spell, answers_tell, spelled_is_found, fault_is_found}
