@@ -1,0 +1,9 @@
+//! The lines of a model text, taken apart by their words alone.
+#![tactic(auto)]
+
+pub mod line;
+
+pub use line::{
+    BillLine, BlockKind, BlockLine, CharLine, ColumnLine, HeadLine, IntervalLine, Keyword, Line,
+    NumLine, ObjectLine, OperationLine, TableLine,
+};
