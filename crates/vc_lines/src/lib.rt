@@ -2,6 +2,7 @@
 #![tactic(auto)]
 
 pub mod line;
+pub mod words;
 
 pub use line::{
     BillLine, BlockKind, BlockLine, CharLine, ColumnLine, HeadLine, IntervalLine, Keyword, Line,
