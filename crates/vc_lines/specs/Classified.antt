@@ -1,5 +1,6 @@
 -- The lines of a model text: each raw line as a line of its form.
 use Rattle.std.specs.Prelude.{ℕ, Bool, true, false, ◌==◌, nat_lt, List, [], ◌∷◌, length, codes, Option, Some, None, unwrap_or, drop, if◌then◌else◌}
+use Rattle.std.specs.Str.Lines.{lines}
 use Rattle.vc_value.specs.Words.{same_ignoring_case}
 use Rattle.vc_lines.specs.declared.line.Keyword.{Keyword}
 use Rattle.vc_lines.specs.declared.line.Line.{Line}
@@ -17,10 +18,14 @@ abbrev pub is_skipped : List ℕ → Bool
 is_skipped [] = true
 is_skipped (byte ∷ bytes) = byte == 42
 
--- the line with this keyword, if it has one; a line without spaces at its ends is given
+-- the line with this keyword; a line without spaces at its ends is given
+abbrev pub formed_line : List ℕ → Keyword → Line
+formed_line text keyword = unwrap_or (form_of keyword text (drop 1 (words text))) (line.NoForm (Some keyword))
+
+-- the line with this keyword, if it has one
 abbrev pub keyed_line : List ℕ → Option Keyword → Line
 keyed_line text None = line.NoForm None
-keyed_line text (Some keyword) = unwrap_or (form_of keyword text (drop 1 (words text))) (line.NoForm (Some keyword))
+keyed_line text (Some keyword) = formed_line text keyword
 
 -- a raw line outside blocks; first without the spaces before it
 abbrev pub counted : List ℕ → List ℕ → Line
@@ -53,3 +58,7 @@ is_in_block other = false
 abbrev pub lines_from : Bool → List (List ℕ) → List Line
 lines_from inside [] = []
 lines_from inside (raw ∷ raws) = let first = line_of inside raw in first ∷ lines_from (is_in_block first) raws
+
+-- the lines of a text: its raw lines end with LF or CR LF, and what follows the last LF is one where it isn't empty
+abbrev pub lines_of : List ℕ → List Line
+lines_of text = lines_from false (lines text)

@@ -1,5 +1,5 @@
 -- The words of a line, and the spaces that don't count.
-use Rattle.std.specs.Prelude.{ℕ, suc, zero, Bool, true, false, not, ◌==◌, List, [], ◌∷◌, length, if◌then◌else◌}
+use Rattle.std.specs.Prelude.{ℕ, suc, zero, Bool, not, ◌==◌, List, [], ◌∷◌, length, if◌then◌else◌}
 use Rattle.std.specs.List.{before_first, filter, list_any, slice_split}
 use Rattle.std.specs.Prelude.{map, drop}
 use Rattle.std.specs.Char.{to_ascii_uppercase}

@@ -1,5 +1,5 @@
 -- The parts are those of the list, since the closure tests for a space.
-use Rattle.std.proofs.Common.{rules, ◌==◌}
+use Rattle.std.proofs.Common.{rules}
 use Rattle.std.proofs.lemmas.Iterator.Consumers.{map_from_collect}
 use Rattle.std.proofs.lemmas.Iterator.Splits.{YieldsList-from_slice_split}
 use Rattle.vc_lines.specs.LineWords.{is_space}

@@ -1,5 +1,5 @@
 -- The last byte that is no space ends what is kept.
-use Rattle.std.proofs.Common.{rules, sym, ◌∙◌, ◌≡◌, ◌+◌, ◌-◌, ap, arith, take, suc, get_or, ℕ}
+use Rattle.std.proofs.Common.{sym, ◌∙◌, arith}
 use Rattle.vc_lines.proofs.WordLemmas.{kept_up_to, left_out_last}
 use Rattle.vc_lines.proofs.words.without_spaces_behind.Goals as goal
 
