@@ -1,0 +1,19 @@
+//! The lines of a model text, taken apart by their words alone.
+#![tactic(auto)]
+
+pub mod classified;
+pub mod counts;
+pub mod forms;
+pub mod keywords;
+pub mod line;
+pub mod quoted;
+pub mod words;
+
+pub use classified::classify;
+pub use line::{
+    BillLine, BlockKind, BlockLine, CharLine, ColumnLine, HeadLine, IntervalLine, Keyword, Line,
+    NumLine, ObjectLine, OperationLine, TableLine,
+};
+
+#[cfg(test)]
+mod tests;

@@ -1,0 +1,93 @@
+//! A line of each form, lines that miss a form by little, and a block.
+
+use crate::classify;
+use crate::line::Line;
+use std::test::Fail;
+
+fn form(line: &Line) -> &'static str {
+    match line {
+        Line::Skipped => "skipped",
+        Line::Inner(_) => "inner",
+        Line::LongInner => "long inner",
+        Line::End => "end",
+        Line::TooLong(_) => "too long",
+        Line::NoForm(_) => "none",
+        Line::Head(_) => "head",
+        Line::Char(_) => "char",
+        Line::Num(_) => "num",
+        Line::Text(_) => "text",
+        Line::Interval(_) => "interval",
+        Line::Uses(_) => "uses",
+        Line::Class(_) => "class",
+        Line::Has(_) => "has",
+        Line::Table(_) => "table",
+        Line::Column(_) => "column",
+        Line::Net(_) => "net",
+        Line::Object(_) => "object",
+        Line::Bill(_) => "bill",
+        Line::Operation(_) => "operation",
+        Line::Block(_) => "block",
+        Line::Root(_) => "root",
+        Line::Action => "action",
+    }
+}
+
+#[test]
+fn a_line_is_of_one_form(rt: HostRuntime) -> Result<(), Fail> {
+    for (text, want) in [
+        ("MODEL PUMP VERSION 1", "head"),
+        ("MODEL PUMP VERSION", "none"),
+        ("  char SIZE x REQUIRED restrictable ", "char"),
+        ("CHAR SIZE 1 REQUIRED REQUIRED", "none"),
+        ("CHAR SIZE", "none"),
+        ("NUM FLOW 1 RESTRICTABLE UNIT m3/h", "num"),
+        ("NUM FLOW 1 UNIT m3/h REQUIRED", "none"),
+        ("NUM FLOW 1 MULTIPLE", "none"),
+        ("VALUE 'it''s  two'", "text"),
+        ("VALUE 'A' X", "none"),
+        ("VALUE 'A", "none"),
+        ("VALUE x", "interval"),
+        ("VALUE 0 .. 100", "interval"),
+        ("VALUE 0 - 100", "none"),
+        ("USES S_L", "uses"),
+        ("CLASS PUMPS", "class"),
+        ("HAS SIZE", "has"),
+        ("TABLE SM FILE sm.csv", "table"),
+        ("COLUMN SIZE KEY", "column"),
+        ("NET MAIN", "net"),
+        ("OBJECT PUMP CLASS PUMPS", "object"),
+        ("LINE 0010 SEAL PC : 2", "bill"),
+        ("LINE 0010 SEAL PC :2", "none"),
+        ("OPERATION 0010 ASSY MIN :", "operation"),
+        ("CONSTRAINT C_SM", "block"),
+        ("ROOT PUMP", "root"),
+        ("ACTION X", "action"),
+        ("ACTION", "none"),
+        ("END", "none"),
+    ] {
+        match classify(rt.alloc(), text)?.as_slice() {
+            [line] => assert!(rt; form(line) == want, "{text}"),
+            _ => assert!(rt; false, "{text}"),
+        }
+    }
+    Ok(())
+}
+
+#[test]
+fn a_block_keeps_its_lines(rt: HostRuntime) -> Result<(), Fail> {
+    let text = "* of the model\r\n\nSELECTION S_L\n* of the block\n  SIZE = 'L'\nend\nROOT PUMP";
+    let lines = classify(rt.alloc(), text)?;
+    let mut forms = Vec::new(rt.alloc());
+    for line in lines.as_slice() {
+        forms.push(form(line))?;
+    }
+    let want = [
+        "skipped", "skipped", "block", "inner", "inner", "end", "root",
+    ];
+    assert!(rt; forms.as_slice() == want.as_slice());
+    match lines.as_slice() {
+        [.., Line::Inner(text), _, _] => assert!(rt; text.is(b"SIZE = 'L'".as_slice())),
+        _ => assert!(rt; false),
+    }
+    Ok(())
+}
