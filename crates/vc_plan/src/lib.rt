@@ -1,4 +1,20 @@
 //! Plans, and what is said of them.
 #![tactic(auto)]
 
+pub mod atoms;
+pub mod conditions;
 pub mod first;
+pub mod plans;
+pub mod procedures;
+pub mod rules;
+pub mod terms;
+
+pub use atoms::{Atom, Clash, Culprit, Mark, Origin, Outcome, Step};
+pub use conditions::{Condition, Kleene, Piece, Relation};
+pub use plans::{
+    Characteristic, Guard, Line, Named, Object, Operation, Plan, Requirement, Selection, Slot,
+    Table, TableColumn, TextSet, Var,
+};
+pub use procedures::{Action, FilledColumn, KeyTerm, Procedure, Statement, Trigger};
+pub use rules::{Binding, Kind, Operand, Restriction, Rule};
+pub use terms::{Function, Operator, Term};
