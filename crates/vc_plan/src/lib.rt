@@ -8,6 +8,7 @@ pub mod plans;
 pub mod procedures;
 pub mod rules;
 pub mod terms;
+pub mod views;
 
 pub use atoms::{Atom, Clash, Culprit, Mark, Origin, Outcome, Step};
 pub use conditions::{Condition, Kleene, Piece, Relation};
@@ -18,3 +19,4 @@ pub use plans::{
 pub use procedures::{Action, FilledColumn, KeyTerm, Procedure, Statement, Trigger};
 pub use rules::{Binding, Kind, Operand, Restriction, Rule};
 pub use terms::{Function, Operator, Term};
+pub use views::{Reading, View};

@@ -1,0 +1,3 @@
+-- Worked rows of plans, by computing.
+pub mod Models
+pub mod Pumps
