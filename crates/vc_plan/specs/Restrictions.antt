@@ -1,5 +1,5 @@
 -- What a restriction of one variable, a comparison and an equation give.
-use Rattle.std.specs.Prelude.{ℕ, min, Bool, true, false, not, ◌&&◌, ◌==◌, if◌then◌else◌, List, [], ◌∷◌, map, slice_get, Option, None, Some, is_none}
+use Rattle.std.specs.Prelude.{ℕ, min, Bool, false, not, ◌&&◌, ◌==◌, if◌then◌else◌, List, [], ◌∷◌, map, slice_get, Option, None, Some, is_none}
 use Rattle.std.specs.List.{filter, list_any}
 use Rattle.vc_base.specs.Rounds.{Given, clash, atoms}
 use Rattle.vc_value.specs.declared.value.Value.{Value}

@@ -1,5 +1,5 @@
 -- What a table call of a constraint gives.
-use Rattle.std.specs.Prelude.{ℕ, Bool, true, false, not, ◌&&◌, ◌==◌, if◌then◌else◌, List, [], ◌∷◌, map, slice_get, Option, None, Some}
+use Rattle.std.specs.Prelude.{ℕ, Bool, false, not, ◌&&◌, ◌==◌, if◌then◌else◌, List, [], ◌∷◌, map, slice_get, Option, None, Some}
 use Rattle.std.specs.List.{filter, list_any, list_all}
 use Rattle.vc_base.specs.Rounds.{Given, atoms}
 use Rattle.vc_value.specs.declared.value.Value.{Value}

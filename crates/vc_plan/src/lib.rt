@@ -4,6 +4,7 @@
 pub mod atoms;
 pub mod conditions;
 pub mod first;
+pub mod laws;
 pub mod plans;
 pub mod procedures;
 pub mod rules;

@@ -1,20 +1,19 @@
 -- What comparisons and equations give, at variables with the grains 1, 2 .. 3 and 4.
-use Rattle.std.proofs.Common.{◌≡◌, ℕ, pos, List, [], ◌∷◌, refl}
-use Rattle.std.specs.Prelude.{Option, None, Some, ◌≢◌, Box}
+use Rattle.std.proofs.Common.{◌≡◌, pos, List, [], ◌∷◌, refl}
+use Rattle.std.specs.Prelude.{Some, ◌≢◌, Box}
 use Rattle.std.specs.declared.alloc.Global.{Global}
-use Rattle.vc_base.specs.Rounds.{Given, clash, atoms, broken, settled}
-use Rattle.vc_value.specs.Grains.{interval}
+use Rattle.vc_base.specs.Rounds.{Given, clash, atoms, broken}
 use Rattle.vc_value.specs.declared.table_header.Domain.TheVariants.{Nums}
 use Rattle.vc_plan.specs.declared.atoms.Atom.{Atom}
 use Rattle.vc_plan.specs.declared.atoms.Atom.TheVariants.{Here, Out, Is}
 use Rattle.vc_plan.specs.declared.conditions.Relation.{Relation}
-use Rattle.vc_plan.specs.declared.conditions.Relation.TheVariants.{Unequal, Less, AtMost, AtLeast, Greater}
+use Rattle.vc_plan.specs.declared.conditions.Relation.TheVariants.{Unequal, Less, AtMost, Greater}
 use Rattle.vc_plan.specs.declared.plans.Plan.{Plan}
 use Rattle.vc_plan.specs.declared.rules.Kind.TheVariants.{Compare, Equate}
 use Rattle.vc_plan.specs.declared.terms.Operator.TheVariants.{Over, Times}
 use Rattle.vc_plan.specs.declared.terms.Term.{Term}
 use Rattle.vc_plan.specs.declared.terms.Term.TheVariants.{Literal, Read, Joined'}
-use Rattle.vc_plan.specs.Bounds.{place_bound, clash_bound, out_at, is_at}
+use Rattle.vc_plan.specs.Bounds.{place_bound, out_at, is_at}
 use Rattle.vc_plan.specs.Gives.{by_rule, gives}
 use Rattle.vc_plan.specs.Seen.{seen_of}
 use Rattle.vc_plan.specs.Settle.{settlement_of}

@@ -1,10 +1,10 @@
 -- MACH: a drive that is there where DRIVEN is Y.
-use Rattle.std.proofs.Common.{◌≡◌, ℕ, List, [], ◌∷◌, true, false, refl}
-use Rattle.std.specs.Prelude.{Option, None, Some, ◌≢◌}
-use Rattle.vc_base.specs.Rounds.{broken, settled}
+use Rattle.std.proofs.Common.{◌≡◌, [], ◌∷◌, true, false, refl}
+use Rattle.std.specs.Prelude.{Some, ◌≢◌}
+use Rattle.vc_base.specs.Rounds.{settled}
 use Rattle.vc_value.specs.declared.table_header.Domain.TheVariants.{Texts}
 use Rattle.vc_value.specs.declared.value.Value.TheVariants.{Text}
-use Rattle.vc_plan.specs.declared.atoms.Atom.TheVariants.{Here, Out, Is}
+use Rattle.vc_plan.specs.declared.atoms.Atom.TheVariants.{Here, Is}
 use Rattle.vc_plan.specs.declared.conditions.Condition.TheVariants.{Always, Compared}
 use Rattle.vc_plan.specs.declared.conditions.Relation.TheVariants.{Equal}
 use Rattle.vc_plan.specs.declared.plans.Plan.{Plan}

@@ -5,14 +5,12 @@ use Rattle.std.specs.List.{list_all}
 use Rattle.vc_base.specs.Rounds.{Settlement, broken, settled}
 use Rattle.vc_base.specs.Sets.{has}
 use Rattle.vc_value.specs.Grains.{interval}
-use Rattle.vc_value.specs.declared.decimal.Dec.{Dec}
 use Rattle.vc_value.specs.declared.grains.Grain.{Grain}
 use Rattle.vc_value.specs.declared.table_header.Domain.{Domain}
 use Rattle.vc_value.specs.declared.table_header.Domain.TheVariants.{Texts, Nums}
 use Rattle.vc_value.specs.declared.value.Value.{Value}
 use Rattle.vc_value.specs.declared.value.Value.TheVariants.{Text, Num}
 use Rattle.vc_plan.specs.declared.atoms.Atom.{Atom}
-use Rattle.vc_plan.specs.declared.conditions.Condition.{Condition}
 use Rattle.vc_plan.specs.declared.conditions.Condition.TheVariants.{Always}
 use Rattle.vc_plan.specs.declared.plans.Plan.{Plan}
 use Rattle.vc_plan.specs.declared.plans.Slot.{Slot}

@@ -1,6 +1,6 @@
 -- Numbers in millionths.
 use Rattle.std.proofs.Common.{◌≡◌, ℕ, ℤ, pos, neg_ℤ, true, refl}
-use Rattle.std.specs.Prelude.{Option, None, Some, ◌≢◌}
+use Rattle.std.specs.Prelude.{None, Some, ◌≢◌}
 use Rattle.std.specs.Ordering.{int_eq}
 use Rattle.vc_plan.specs.declared.terms.Function.TheVariants.{Negative, Abs, Sign, Trunc, Floor, Ceil, Frac}
 use Rattle.vc_plan.specs.Numbers.{rounded, divided, product, quotient, applied}

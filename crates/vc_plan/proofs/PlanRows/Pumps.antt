@@ -1,10 +1,10 @@
 -- PUMP, whose motor follows from its size by a table.
-use Rattle.std.proofs.Common.{◌≡◌, ℕ, List, [], ◌∷◌, true, refl}
-use Rattle.std.specs.Prelude.{Option, None, Some, ◌≢◌}
-use Rattle.vc_base.specs.Rounds.{broken, settled}
+use Rattle.std.proofs.Common.{◌≡◌, [], ◌∷◌, true, refl}
+use Rattle.std.specs.Prelude.{None, Some, ◌≢◌}
+use Rattle.vc_base.specs.Rounds.{broken}
 use Rattle.vc_value.specs.declared.value.Value.TheVariants.{Text}
 use Rattle.vc_plan.specs.declared.atoms.Atom.TheVariants.{Here, Out, Is}
-use Rattle.vc_plan.specs.Bounds.{cell_bound, places, place_bound, clash_bound, greatest, out_at, is_at}
+use Rattle.vc_plan.specs.Bounds.{cell_bound, place_bound, out_at, is_at}
 use Rattle.vc_plan.specs.Domains.{atom_count}
 use Rattle.vc_plan.specs.Settle.{settlement_of}
 use Rattle.vc_plan.proofs.PlanRows.Models.{pump, users, settles_at}

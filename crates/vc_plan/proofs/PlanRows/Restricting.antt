@@ -1,14 +1,14 @@
 -- What restrictions against literals give, and Never and Last, at variables with the grains 1, 2 .. 3 and 4.
-use Rattle.std.proofs.Common.{◌≡◌, ℕ, pos, List, [], ◌∷◌, refl}
-use Rattle.std.specs.Prelude.{Option, None, Some, ◌≢◌}
-use Rattle.vc_base.specs.Rounds.{Given, clash, atoms, broken, settled}
+use Rattle.std.proofs.Common.{◌≡◌, pos, List, [], ◌∷◌, refl}
+use Rattle.std.specs.Prelude.{Some, ◌≢◌}
+use Rattle.vc_base.specs.Rounds.{Given, clash, atoms, broken}
 use Rattle.vc_plan.specs.declared.atoms.Atom.{Atom}
 use Rattle.vc_plan.specs.declared.atoms.Atom.TheVariants.{Here, Out, Is}
 use Rattle.vc_plan.specs.declared.atoms.Mark.TheVariants.{Held, Outside}
 use Rattle.vc_plan.specs.declared.conditions.Piece.TheVariants.{Stretch}
 use Rattle.vc_plan.specs.declared.conditions.Relation.TheVariants.{Equal, Unequal, Less, AtMost, AtLeast}
 use Rattle.vc_plan.specs.declared.plans.Plan.{Plan}
-use Rattle.vc_plan.specs.declared.rules.Kind.TheVariants.{Among, Never, Last}
+use Rattle.vc_plan.specs.declared.rules.Kind.TheVariants.{Among, Never}
 use Rattle.vc_plan.specs.declared.rules.Restriction.{Restriction}
 use Rattle.vc_plan.specs.declared.rules.Restriction.TheVariants.{Against, OneOf}
 use Rattle.vc_plan.specs.Gives.{by_rule, by_entry, gives}

@@ -1,6 +1,6 @@
 -- RING: A is 1 where X is 1, and A and B are equal by a table. Neither holds the other up.
-use Rattle.std.proofs.Common.{◌≡◌, ℕ, List, [], ◌∷◌, true, refl}
-use Rattle.std.specs.Prelude.{Option, None, Some, ◌≢◌}
+use Rattle.std.proofs.Common.{◌≡◌, [], ◌∷◌, true, refl}
+use Rattle.std.specs.Prelude.{None, Some, ◌≢◌}
 use Rattle.vc_base.specs.Rounds.{broken, settled}
 use Rattle.vc_value.specs.declared.table_header.Domain.TheVariants.{Texts}
 use Rattle.vc_value.specs.declared.value.Value.TheVariants.{Text}
@@ -11,7 +11,6 @@ use Rattle.vc_plan.specs.declared.plans.Plan.{Plan}
 use Rattle.vc_plan.specs.declared.rules.Kind.TheVariants.{Among, ByTable}
 use Rattle.vc_plan.specs.declared.rules.Restriction.TheVariants.{Against}
 use Rattle.vc_plan.specs.declared.terms.Term.TheVariants.{Literal, Read}
-use Rattle.vc_plan.specs.Domains.{atom_count}
 use Rattle.vc_plan.specs.Settle.{settlement_of}
 use Rattle.vc_plan.proofs.PlanRows.Models.{empty, root, open_var, fixed_var, rule, last, column, table_of, users, settles_at}
 

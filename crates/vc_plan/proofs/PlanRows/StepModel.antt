@@ -1,8 +1,8 @@
 -- STEP: FLOW is at most twice STEPS, and two more restrictions cut FLOW at 5 and at 10.
-use Rattle.std.proofs.Common.{◌≡◌, ℕ, pos, List, [], ◌∷◌, true, refl}
-use Rattle.std.specs.Prelude.{Option, None, Some, ◌≢◌, Box}
+use Rattle.std.proofs.Common.{◌≡◌, pos, List, [], ◌∷◌, true, refl}
+use Rattle.std.specs.Prelude.{Some, ◌≢◌, Box}
 use Rattle.std.specs.declared.alloc.Global.{Global}
-use Rattle.vc_base.specs.Rounds.{broken, settled}
+use Rattle.vc_base.specs.Rounds.{broken}
 use Rattle.vc_value.specs.Grains.{interval, cut_at}
 use Rattle.vc_value.specs.declared.grains.Grain.{Grain}
 use Rattle.vc_value.specs.declared.table_header.Domain.TheVariants.{Nums}

@@ -1,9 +1,7 @@
 -- What table calls give.
 use Rattle.std.proofs.Common.{◌≡◌, ℕ, pos, List, [], ◌∷◌, refl}
-use Rattle.std.specs.Prelude.{Option, None, Some, ◌≢◌}
+use Rattle.std.specs.Prelude.{◌≢◌}
 use Rattle.vc_base.specs.Rounds.{Given, clash, atoms}
-use Rattle.vc_value.specs.declared.value.Value.{Value}
-use Rattle.vc_value.specs.declared.value.Value.TheVariants.{Num}
 use Rattle.vc_plan.specs.declared.atoms.Atom.{Atom}
 use Rattle.vc_plan.specs.declared.atoms.Atom.TheVariants.{Here, Out, Is}
 use Rattle.vc_plan.specs.declared.plans.Plan.{Plan}
