@@ -1,3 +1,4 @@
 pub mod FirstLaws
 pub mod PlanLaws
 pub mod PlanRows
+pub mod StageRows

@@ -8,6 +8,7 @@ pub mod laws;
 pub mod plans;
 pub mod procedures;
 pub mod rules;
+pub mod shown;
 pub mod terms;
 pub mod views;
 
@@ -19,5 +20,6 @@ pub use plans::{
 };
 pub use procedures::{Action, FilledColumn, KeyTerm, Procedure, Statement, Trigger};
 pub use rules::{Binding, Kind, Operand, Restriction, Rule};
+pub use shown::{BillLine, OperationLine, Status};
 pub use terms::{Function, Operator, Term};
 pub use views::{Reading, View};
