@@ -10,3 +10,4 @@ pub mod Sets
 pub mod StepModel
 pub mod Tables
 pub mod Truths
+pub mod Validity

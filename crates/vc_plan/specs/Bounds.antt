@@ -1,16 +1,13 @@
 -- How many premises a conclusion needs at most, and how many cells all of them fill.
 use Rattle.std.specs.Prelude.{ℕ, ◌+◌, max, Bool, false, not, ◌&&◌, ◌||◌, ◌==◌, if◌then◌else◌, List, [], ◌∷◌, ◌++◌, length, drop, map, flat_map, slice_get, Option, None, Some}
 use Rattle.std.specs.List.{filter, list_any, sum_by}
-use Rattle.vc_plan.specs.declared.conditions.Condition.{Condition}
-use Rattle.vc_plan.specs.declared.conditions.Condition.TheVariants.{Always, Compared, IsIn, Specified, Holds, Filled, Not', And', Or'}
 use Rattle.vc_plan.specs.declared.plans.Plan.{Plan}
 use Rattle.vc_plan.specs.declared.rules.Binding.{Binding}
 use Rattle.vc_plan.specs.declared.rules.Kind.{Kind}
 use Rattle.vc_plan.specs.declared.rules.Kind.TheVariants.{Among, Compare, Equate, ByTable, Never, Last, Line}
 use Rattle.vc_plan.specs.declared.rules.Rule.{Rule}
-use Rattle.vc_plan.specs.declared.terms.Term.{Term}
-use Rattle.vc_plan.specs.declared.terms.Term.TheVariants.{Literal, Read, PartSum, PartCount, Applied', Joined'}
 use Rattle.vc_plan.specs.Domains.{numbers_below, count_of, is_restrictable, is_grain_with}
+use Rattle.vc_plan.specs.Reads.{vars_of_term, vars_of_condition}
 use Rattle.vc_plan.specs.Restrictions.{is_inferred, allows, lone_inferred}
 use Rattle.vc_plan.specs.TableRows.{rows_of, is_column_of, columns_of, has_grain}
 
@@ -24,35 +21,6 @@ pub data Place : Type 0 where
 abbrev pub distinct : List ℕ → List ℕ
 distinct [] = []
 distinct (x ∷ xs) = let rest = distinct xs in if list_any (λ y. y == x) xs then rest else x ∷ rest
-
--- the variables that a term and a condition read
-abbrev pub vars_in : Term → List ℕ
-vars_in (Literal a) = []
-vars_in (Read v) = v ∷ []
-vars_in (PartSum slot characteristic) = []
-vars_in (PartCount slot) = []
-vars_in (Applied' function p a) = vars_in a
-vars_in (Joined' operator p a q b) = vars_in a ++ vars_in b
-
-abbrev pub vars_read : Condition → List ℕ
-vars_read Always = []
-vars_read (Compared r a b) = vars_in a ++ vars_in b
-vars_read (IsIn v pieces) = v ∷ []
-vars_read (Specified v) = v ∷ []
-vars_read (Holds set text) = []
-vars_read (Filled set) = []
-vars_read (Not' p c) = vars_read c
-vars_read (And' p c q d) = vars_read c ++ vars_read d
-vars_read (Or' p c q d) = vars_read c ++ vars_read d
-
--- those of a plan's term and condition by their numbers
-abbrev pub vars_of_term : Option Term → List ℕ
-vars_of_term None = []
-vars_of_term (Some term) = vars_in term
-
-abbrev pub vars_of_condition : Option Condition → List ℕ
-vars_of_condition None = []
-vars_of_condition (Some c) = vars_read c
 
 -- how many different variables the rule's condition reads
 abbrev pub condition_size : Plan → Rule → ℕ

@@ -3,6 +3,7 @@
 
 pub mod atoms;
 pub mod conditions;
+pub mod counts;
 pub mod first;
 pub mod laws;
 pub mod plans;
@@ -14,6 +15,7 @@ pub mod views;
 
 pub use atoms::{Atom, Clash, Culprit, Mark, Origin, Outcome, Step};
 pub use conditions::{Condition, Kleene, Piece, Relation};
+pub use counts::{atom_count, count_of};
 pub use plans::{
     Characteristic, Guard, Line, Named, Object, Operation, Plan, Requirement, Selection, Slot,
     Table, TableColumn, TextSet, Var,
