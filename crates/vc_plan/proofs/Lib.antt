@@ -2,3 +2,4 @@ pub mod FirstLaws
 pub mod PlanLaws
 pub mod PlanRows
 pub mod StageRows
+pub mod StageProofs

@@ -2,4 +2,5 @@
 pub mod Gears
 pub mod Machines
 pub mod Paints
+pub mod PumpBills
 pub mod StageModels

@@ -1,5 +1,5 @@
 -- The bill of materials and the routing of an evaluation that is settled.
-use Rattle.std.specs.Prelude.{ℕ, zero, suc, ◌+◌, ℤ, Bool, true, false, ◌&&◌, ◌||◌, ◌==◌, List, [], ◌∷◌, length, map, slice_get, Option, None, Some}
+use Rattle.std.specs.Prelude.{ℕ, zero, suc, ◌+◌, ℤ, Bool, true, false, ◌&&◌, ◌==◌, List, [], ◌∷◌, length, slice_get, Option, None, Some}
 use Rattle.std.specs.List.{filter, find, flat_map, list_any}
 use Rattle.vc_value.specs.declared.decimal.Dec.{Dec}
 use Rattle.vc_plan.specs.declared.plans.Line.{Line}
@@ -11,9 +11,10 @@ use Rattle.vc_plan.specs.declared.shown.BillLine.{BillLine}
 use Rattle.vc_plan.specs.declared.shown.OperationLine.{OperationLine}
 use Rattle.vc_plan.specs.Domains.{numbers_below}
 use Rattle.vc_plan.specs.Kleene.{is_true}
-use Rattle.vc_plan.specs.Parts.{amount_at, is_number, quantity_of}
+use Rattle.vc_plan.specs.Parts.{amount_at, quantity_of}
 use Rattle.vc_plan.specs.Readings.{Reading}
 use Rattle.vc_plan.specs.Seen.{Seen}
+use Rattle.vc_plan.specs.Slots.{stands_for}
 use Rattle.vc_plan.specs.Truth.{truth_at}
 
 -- an amount as a stored number
@@ -21,13 +22,13 @@ abbrev pub stored : Option ℤ → Option Dec
 stored None = None
 stored (Some z) = Some (record { millionths = z })
 
--- the slot that stands for the line of this number, where it is configurable
-abbrev pub stands_for : ℕ → ℕ → Option Slot → Bool
-stands_for owner n None = false
-stands_for owner n (Some slot) = is_number owner slot.parent && (slot.line == n)
+-- the slot that stands for the line of this number, where that is configurable
+abbrev pub is_for_line : ℕ → Option Slot → Bool
+is_for_line n None = false
+is_for_line n (Some slot) = stands_for n slot
 
-abbrev pub component_of : Plan → ℕ → ℕ → Option ℕ
-component_of plan owner n = find (λ j. stands_for owner n (slice_get plan.slots j)) (numbers_below (length plan.slots))
+abbrev pub component_of : Plan → ℕ → Option ℕ
+component_of plan n = find (λ j. is_for_line n (slice_get plan.slots j)) (numbers_below (length plan.slots))
 
 -- selection conditions: none are met, or one of them is True
 abbrev pub is_selected : Plan → Reading → List Selection → Bool
@@ -41,7 +42,7 @@ takes_line plan seen reading line (Some j) = seen.here j
 
 abbrev pub is_line_of : Plan → Seen → Reading → ℕ → ℕ → Option Line → Bool
 is_line_of plan seen reading i n None = false
-is_line_of plan seen reading i n (Some line) = (line.slot == i) && takes_line plan seen reading line (component_of plan i n)
+is_line_of plan seen reading i n (Some line) = (line.slot == i) && takes_line plan seen reading line (component_of plan n)
 
 -- the lines of an instance that are taken, in item order
 abbrev pub lines_of : Plan → Seen → Reading → ℕ → List ℕ
@@ -59,7 +60,7 @@ below bill (Some j) = bill j
 abbrev pub bill_from : Plan → Seen → Reading → ℕ → ℕ → ℕ → List BillLine
 bill_from plan seen reading zero level i = []
 bill_from plan seen reading (suc levels) level i =
-    flat_map (λ n. bill_line plan reading level i n ∷ below (bill_from plan seen reading levels (level + 1)) (component_of plan i n))
+    flat_map (λ n. bill_line plan reading level i n ∷ below (bill_from plan seen reading levels (level + 1)) (component_of plan n))
     (lines_of plan seen reading i)
 
 -- the whole bill: there are no more levels than slots

@@ -10,6 +10,7 @@ use Rattle.vc_plan.specs.declared.terms.Operator.TheVariants.{Plus, Times}
 use Rattle.vc_plan.specs.Domains.{numbers_below, texts_of}
 use Rattle.vc_plan.specs.Entries.{Entries, value_read}
 use Rattle.vc_plan.specs.Numbers.{joined}
+use Rattle.vc_plan.specs.Orders.{is_number}
 use Rattle.vc_plan.specs.Readings.{Reading}
 use Rattle.vc_plan.specs.Seen.{Seen, parent_in}
 use Rattle.vc_plan.specs.Truth.{number_of_value, value_at}
@@ -41,10 +42,6 @@ abbrev pub quantity_of : Plan → Reading → ℕ → Option ℤ
 quantity_of plan reading n = quantity_in plan reading (slice_get plan.lines n)
 
 -- whether the slot's parent is this one
-abbrev pub is_number : ℕ → Option ℕ → Bool
-is_number i None = false
-is_number i (Some j) = i == j
-
 abbrev pub is_part : Plan → ℕ → ℕ → Bool
 is_part plan i j = is_number i (parent_in (slice_get plan.slots j))
 

@@ -1,7 +1,6 @@
 -- What is hidden, what is required, and the status of an evaluation that is settled.
 use Rattle.std.specs.Prelude.{ℕ, Bool, true, false, not, ◌&&◌, ◌||◌, ◌==◌, if◌then◌else◌, List, [], ◌∷◌, length, slice_get, Option, None, Some, is_none, is_some}
 use Rattle.std.specs.List.{find, list_any}
-use Rattle.vc_value.specs.declared.value.Value.{Value}
 use Rattle.vc_plan.specs.declared.atoms.Culprit.{Culprit}
 use Rattle.vc_plan.specs.declared.atoms.Culprit.TheVariants.{Hidden, HiddenSet}
 use Rattle.vc_plan.specs.declared.conditions.Piece.{Piece}
@@ -11,7 +10,6 @@ use Rattle.vc_plan.specs.declared.plans.Guard.{Guard}
 use Rattle.vc_plan.specs.declared.plans.Named.{Named}
 use Rattle.vc_plan.specs.declared.plans.Named.TheVariants.{Var, Set}
 use Rattle.vc_plan.specs.declared.plans.Plan.{Plan}
-use Rattle.vc_plan.specs.declared.plans.Requirement.{Requirement}
 use Rattle.vc_plan.specs.declared.plans.TextSet.{TextSet}
 use Rattle.vc_plan.specs.declared.plans.Var.{Var as Variable}
 use Rattle.vc_plan.specs.declared.shown.Status.{Status}

@@ -16,7 +16,7 @@ reading_of plan users seen = full_reading plan seen (holds users)
 
 -- the bill of an evaluation; a broken one has none
 abbrev pub bill_after : Plan → Users → Evaluated → List BillLine
-bill_after plan users (broken_at k sources) = []
+bill_after plan users (broken_at k entries) = []
 bill_after plan users (reached sets entries) =
     let seen = seen_of (last_set plan sets) in bill_of plan seen (reading_of plan users seen)
 
@@ -25,7 +25,7 @@ bill plan users = bill_after plan users (evaluation_of plan users)
 
 -- the routing of an evaluation; a broken one has none
 abbrev pub routing_after : Plan → Users → Evaluated → List OperationLine
-routing_after plan users (broken_at k sources) = []
+routing_after plan users (broken_at k entries) = []
 routing_after plan users (reached sets entries) =
     let seen = seen_of (last_set plan sets) in routing_of plan seen (reading_of plan users seen)
 
@@ -34,7 +34,7 @@ routing plan users = routing_after plan users (evaluation_of plan users)
 
 -- the status of an evaluation that is settled; whom a broken one blames isn't said here
 abbrev pub status_after : Plan → Users → Evaluated → Option Status
-status_after plan users (broken_at k sources) = None
+status_after plan users (broken_at k entries) = None
 status_after plan users (reached sets entries) =
     let seen = seen_of (last_set plan sets) in Some (settled_status plan seen (reading_of plan users seen))
 

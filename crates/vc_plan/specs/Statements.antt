@@ -14,7 +14,7 @@ use Rattle.vc_plan.specs.Domains.{decimals_of, grains_of}
 use Rattle.vc_plan.specs.Entries.{Entries, Written, is_soft, value_of_mark, with_entry, written_at}
 use Rattle.vc_plan.specs.Kleene.{is_true}
 use Rattle.vc_plan.specs.Parts.{procedure_reading}
-use Rattle.vc_plan.specs.Pieces.{lies_in_some, same_value}
+use Rattle.vc_plan.specs.Pieces.{lies_in_some}
 use Rattle.vc_plan.specs.Readings.{Reading}
 use Rattle.vc_plan.specs.Restrictions.{rounded_value}
 use Rattle.vc_plan.specs.Seen.{Seen, is_value}

@@ -1,10 +1,8 @@
 -- The stages in which procedures run, and what those of a stage write.
 use Rattle.std.specs.Prelude.{ℕ, zero, suc, ◌+◌, max, Bool, true, false, not, ◌&&◌, ◌||◌, ◌==◌, if◌then◌else◌, List, [], ◌∷◌, length, reverse, slice_get, Option, None, Some}
 use Rattle.std.specs.List.{filter, flat_map, list_any}
-use Rattle.vc_value.specs.declared.value.Value.{Value}
 use Rattle.vc_plan.specs.declared.atoms.Atom.{Atom}
 use Rattle.vc_plan.specs.declared.conditions.Condition.{Condition}
-use Rattle.vc_plan.specs.declared.conditions.Condition.TheVariants.{Always, Compared, IsIn, Specified, Holds, Filled, Not', And', Or'}
 use Rattle.vc_plan.specs.declared.plans.Plan.{Plan}
 use Rattle.vc_plan.specs.declared.plans.Slot.{Slot}
 use Rattle.vc_plan.specs.declared.procedures.Action.{Action}
@@ -14,41 +12,23 @@ use Rattle.vc_plan.specs.declared.procedures.Statement.{Statement}
 use Rattle.vc_plan.specs.declared.procedures.Trigger.{Trigger}
 use Rattle.vc_plan.specs.declared.procedures.Trigger.TheVariants.{Anyway, ValueIn, TextIn}
 use Rattle.vc_plan.specs.declared.terms.Term.{Term}
-use Rattle.vc_plan.specs.declared.terms.Term.TheVariants.{Literal, Read, PartSum, PartCount, Applied', Joined'}
 use Rattle.vc_plan.specs.Domains.{numbers_below}
 use Rattle.vc_plan.specs.Entries.{Entries, value_read}
+use Rattle.vc_plan.specs.Monotone.{condition_sums, has_part_sum}
 use Rattle.vc_plan.specs.Pieces.{lies_in}
 use Rattle.vc_plan.specs.Seen.{Seen, seen_of}
+use Rattle.vc_plan.specs.Slots.{depth_in}
 use Rattle.vc_plan.specs.Statements.{all_stated}
 use Rattle.vc_plan.specs.TableRows.{cell_passes}
 
--- whether a term, or a condition, has a sum over parts
-abbrev pub sums : Term → Bool
-sums (Literal a) = false
-sums (Read v) = false
-sums (PartSum slot characteristic) = true
-sums (PartCount slot) = true
-sums (Applied' function p a) = sums a
-sums (Joined' operator p a q b) = sums a || sums b
-
-abbrev pub has_sums : Condition → Bool
-has_sums Always = false
-has_sums (Compared r a b) = sums a || sums b
-has_sums (IsIn v pieces) = false
-has_sums (Specified v) = false
-has_sums (Holds set text) = false
-has_sums (Filled set) = false
-has_sums (Not' p c) = has_sums c
-has_sums (And' p c q d) = has_sums c || has_sums d
-has_sums (Or' p c q d) = has_sums c || has_sums d
-
+-- whether a term, or a condition, has a sum over parts, if it is there
 abbrev pub term_sums : Option Term → Bool
 term_sums None = false
-term_sums (Some term) = sums term
+term_sums (Some term) = has_part_sum term
 
-abbrev pub condition_sums : Option Condition → Bool
-condition_sums None = false
-condition_sums (Some condition) = has_sums condition
+abbrev pub asked_sums : Option Condition → Bool
+asked_sums None = false
+asked_sums (Some condition) = condition_sums condition
 
 abbrev pub action_sums : Plan → Action → Bool
 action_sums plan (Assign v term) = term_sums (slice_get plan.terms term)
@@ -57,7 +37,7 @@ action_sums plan (DeleteDefault v term) = term_sums (slice_get plan.terms term)
 action_sums plan (LookUp table keys filled) = list_any (λ key. term_sums (slice_get plan.terms key.term)) keys
 
 abbrev pub statement_sums : Plan → Statement → Bool
-statement_sums plan statement = action_sums plan statement.action || condition_sums (slice_get plan.conditions statement.condition)
+statement_sums plan statement = action_sums plan statement.action || asked_sums (slice_get plan.conditions statement.condition)
 
 -- a summing procedure has a sum over parts in one of its statements
 abbrev pub is_summing : Plan → Procedure → Bool
@@ -83,10 +63,6 @@ all_run plan seen holds (p ∷ procedures) entries =
     all_run plan seen holds procedures (run_procedure plan seen holds p (slice_get plan.procedures p) entries)
 
 -- the depth of a slot, and the greatest
-abbrev pub depth_in : Option Slot → ℕ
-depth_in None = 0
-depth_in (Some slot) = slot.depth
-
 abbrev pub depth_of : Plan → ℕ → ℕ
 depth_of plan i = depth_in (slice_get plan.slots i)
 

@@ -10,6 +10,7 @@ pub mod plans;
 pub mod procedures;
 pub mod rules;
 pub mod shown;
+pub mod stage_laws;
 pub mod terms;
 pub mod views;
 

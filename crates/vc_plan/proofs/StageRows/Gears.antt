@@ -1,6 +1,6 @@
 -- GEAR: a total over three parts, and bills of more levels.
-use Rattle.std.proofs.Common.{◌≡◌, ℕ, ◌*◌, pos, true, false, List, map, [], ◌∷◌, refl}
-use Rattle.std.specs.Prelude.{Option, None, Some, ◌≢◌}
+use Rattle.std.proofs.Common.{◌≡◌, ℕ, ◌*◌, pos, true, false, map, [], ◌∷◌, refl}
+use Rattle.std.specs.Prelude.{None, Some, ◌≢◌}
 use Rattle.vc_value.specs.declared.table_header.Domain.TheVariants.{Nums}
 use Rattle.vc_value.specs.declared.value.Value.{Value}
 use Rattle.vc_plan.specs.declared.atoms.Atom.TheVariants.{Here, Is}
@@ -11,7 +11,6 @@ use Rattle.vc_plan.specs.declared.procedures.Action.TheVariants.{Assign}
 use Rattle.vc_plan.specs.declared.rules.Kind.TheVariants.{Line}
 use Rattle.vc_plan.specs.declared.shown.BillLine.{BillLine}
 use Rattle.vc_plan.specs.declared.terms.Term.TheVariants.{Literal, PartSum, PartCount}
-use Rattle.vc_plan.specs.Evaluate.{Users}
 use Rattle.vc_plan.specs.Shown.{bill}
 use Rattle.vc_plan.proofs.PlanRows.Models.{empty, root, own_rule, last, number, whole, from_to}
 use Rattle.vc_plan.proofs.StageRows.StageModels.{always, chosen, ends_at, line, says}

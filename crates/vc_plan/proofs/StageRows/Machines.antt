@@ -1,6 +1,6 @@
 -- MACH: a drive that is there where DRIVEN is Y, and late instances.
 use Rattle.std.proofs.Common.{◌≡◌, pos, true, false, [], ◌∷◌, refl}
-use Rattle.std.specs.Prelude.{None, Some, ◌≢◌}
+use Rattle.std.specs.Prelude.{Some, ◌≢◌}
 use Rattle.vc_value.specs.declared.table_header.Domain.TheVariants.{Texts}
 use Rattle.vc_value.specs.declared.value.Value.TheVariants.{Text}
 use Rattle.vc_plan.specs.declared.atoms.Atom.TheVariants.{Here, Is}

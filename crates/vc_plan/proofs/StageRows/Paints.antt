@@ -6,8 +6,8 @@ use Rattle.vc_value.specs.declared.value.Value.{Value}
 use Rattle.vc_value.specs.declared.value.Value.TheVariants.{Text}
 use Rattle.vc_plan.specs.declared.atoms.Atom.TheVariants.{Here, Is}
 use Rattle.vc_plan.specs.declared.atoms.Culprit.TheVariants.{Hidden, HiddenSet}
-use Rattle.vc_plan.specs.declared.atoms.Mark.TheVariants.{Held, Outside}
-use Rattle.vc_plan.specs.declared.conditions.Condition.TheVariants.{Always, Compared, Holds, Filled}
+use Rattle.vc_plan.specs.declared.atoms.Mark.TheVariants.{Held}
+use Rattle.vc_plan.specs.declared.conditions.Condition.TheVariants.{Always, Compared, Filled}
 use Rattle.vc_plan.specs.declared.conditions.Piece.TheVariants.{OneText}
 use Rattle.vc_plan.specs.declared.conditions.Relation.TheVariants.{Equal}
 use Rattle.vc_plan.specs.declared.plans.Named.TheVariants.{Var, Set}
@@ -19,7 +19,7 @@ use Rattle.vc_plan.specs.declared.shown.Status.TheVariants.{Complete, Contradict
 use Rattle.vc_plan.specs.declared.terms.Term.TheVariants.{Literal, Read}
 use Rattle.vc_plan.specs.Evaluate.{Users}
 use Rattle.vc_plan.specs.Shown.{bill, status}
-use Rattle.vc_plan.proofs.PlanRows.Models.{empty, root, fixed_var, last, number, whole}
+use Rattle.vc_plan.proofs.PlanRows.Models.{empty, root, fixed_var, last, whole}
 use Rattle.vc_plan.proofs.StageRows.StageModels.{always, breaks_at, chosen, ends_at, entry_for, line, says}
 
 -- the texts are RED 0, BLUE 1, GREEN 2, H 3, N 4, LUX 5, STD 6, and A, B, C; dependency 0 is PRE_LUX
