@@ -23,3 +23,6 @@ pub use procedures::{Action, FilledColumn, KeyTerm, Procedure, Statement, Trigge
 pub use rules::{Binding, Kind, Operand, Restriction, Rule};
 pub use terms::{Function, Operator, Term};
 pub use views::{Reading, View};
+
+#[cfg(test)]
+mod tests;
