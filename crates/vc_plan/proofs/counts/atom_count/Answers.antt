@@ -1,5 +1,5 @@
 -- The count so far is that of the slots and of the variables before; it is at most that of all.
-use Rattle.std.proofs.Common.{◌≡◌, ◌+◌, ◌<◌, ◌≤◌, ◌∙◌, length, arith}
+use Rattle.std.proofs.Common.{◌≡◌, ◌+◌, ◌≤◌, ◌∙◌, arith}
 use Rattle.vc_plan.specs.Domains.{atom_count}
 use Rattle.vc_plan.proofs.PlanLaws.Counts.{atoms_next, atoms_within, atoms_all, atoms_none}
 use Rattle.vc_plan.proofs.counts.atom_count.Goals as goal
