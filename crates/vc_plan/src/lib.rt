@@ -26,3 +26,6 @@ pub use rules::{Binding, Kind, Operand, Restriction, Rule};
 pub use shown::{BillLine, OperationLine, Status};
 pub use terms::{Function, Operator, Term};
 pub use views::{Reading, View};
+
+#[cfg(test)]
+mod tests;
