@@ -1,5 +1,5 @@
 -- Plans that a model has: what every call may take for granted.
-use Rattle.std.specs.Prelude.{◌≡◌, Bool, true, false, not, ◌&&◌, ◌||◌, ◌==◌, nat_lt, nat_le, length, slice_get, Option, None, Some}
+use Rattle.std.specs.Prelude.{◌≡◌, ℕ, Bool, true, false, not, ◌&&◌, ◌||◌, ◌==◌, nat_lt, nat_le, length, slice_get, Option, None, Some}
 use Rattle.std.specs.List.{list_all, list_any}
 use Rattle.vc_value.specs.Words.{same_bytes}
 use Rattle.vc_plan.specs.declared.conditions.Condition.{Condition}
@@ -13,6 +13,7 @@ use Rattle.vc_plan.specs.RuleRanges.{rule_there, table_there}
 use Rattle.vc_plan.specs.ProcedureRanges.{procedure_there}
 use Rattle.vc_plan.specs.BillRanges.{line_there, operation_there, guard_there, requirement_there}
 use Rattle.vc_plan.specs.Orders.{are_apart, are_in_order}
+use Rattle.vc_plan.specs.Showing.{slot_of_named}
 use Rattle.vc_plan.specs.Slots.{is_root, is_below, follows_in_preorder, is_item_before, has_its_slots}
 use Rattle.vc_plan.specs.Alike.{are_alike, are_of_one_domain, is_proper}
 use Rattle.vc_plan.specs.RuleShapes.{stays_at_its_slots, has_one_last, has_its_lines, are_one_rule, are_one_line, columns_once}
@@ -31,6 +32,12 @@ condition_passes test (Some c) = test c
 abbrev pub term_passes : (Term → Bool) → Option Term → Bool
 term_passes test None = false
 term_passes test (Some term) = test term
+
+-- of two slots that are there, the first isn't behind the second
+abbrev pub comes_before : Option ℕ → Option ℕ → Bool
+comes_before None j = false
+comes_before (Some i) None = false
+comes_before (Some i) (Some j) = nat_le i j
 
 -- all that a plan keeps
 pub record IsValid (plan : Plan) : Type 0 where
@@ -91,6 +98,9 @@ pub record IsValid (plan : Plan) : Type 0 where
   -- lines by slot and item, operations by slot and number
   pub lines_in_order : are_in_order (λ a b. nat_lt a.slot b.slot || ((a.slot == b.slot) && nat_lt a.item b.item)) plan.lines ≡ true
   pub operations_in_order : are_in_order (λ a b. nat_lt a.slot b.slot || ((a.slot == b.slot) && nat_lt a.number b.number)) plan.operations ≡ true
+  -- procedures and preconditions by slot
+  pub procedures_by_slot : are_in_order (λ a b. nat_le a.slot b.slot) plan.procedures ≡ true
+  pub guards_by_slot : are_in_order (λ a b. comes_before (slot_of_named plan a.at) (slot_of_named plan b.at)) plan.guards ≡ true
   -- names and texts, spelled and each once
   pub name : is_upper_name plan.name ≡ true
   pub names : list_all (λ characteristic. is_upper_name characteristic.name) plan.characteristics ≡ true
