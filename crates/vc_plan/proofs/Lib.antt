@@ -1,1 +1,5 @@
 pub mod FirstLaws
+pub mod PlanLaws
+pub mod PlanRows
+pub mod StageRows
+pub mod StageProofs

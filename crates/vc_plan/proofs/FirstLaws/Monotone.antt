@@ -1,5 +1,5 @@
 -- The laws of giving and of settling.
-use Rattle.std.proofs.Common.{◌≡◌, Bool, true, sym, ◌∙◌, ap, subst, inl, inr, List}
+use Rattle.std.proofs.Common.{◌≡◌, true, sym, ◌∙◌, subst, inl, inr, List}
 use Rattle.vc_base.specs.Rounds.{settled}
 use Rattle.vc_base.specs.Sets.{has, Within}
 use Rattle.vc_base.proofs.SetLaws.{told}

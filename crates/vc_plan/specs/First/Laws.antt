@@ -1,5 +1,5 @@
 -- Laws over the definitions of settling.
-use Rattle.std.specs.Prelude.{◌≡◌, ℕ, ◌⊎◌, Bool, true, false, List, Option}
+use Rattle.std.specs.Prelude.{◌≡◌, ℕ, ◌⊎◌, true, false, List, Option}
 use Rattle.vc_base.specs.Rounds.{settled, atoms_of, some_clash, all_given}
 use Rattle.vc_base.specs.Sets.{has, Within}
 use Rattle.vc_plan.specs.declared.first.plans.Plan.{Plan}

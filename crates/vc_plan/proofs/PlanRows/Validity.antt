@@ -1,0 +1,207 @@
+-- PUMP with its names, bill and operation is valid.
+use Rattle.std.proofs.Common.{◌≡◌, ℕ, List, [], ◌∷◌, map, Bool, true, false, refl}
+use Rattle.std.specs.Prelude.{None, Some, ◌≢◌, codes, Box}
+use Rattle.std.specs.declared.alloc.Global.{Global}
+use Rattle.vc_value.specs.declared.value.Value.TheVariants.{Text}
+use Rattle.vc_plan.specs.declared.conditions.Condition.TheVariants.{Always, Compared, Specified, Not', And'}
+use Rattle.vc_plan.specs.declared.conditions.Relation.TheVariants.{Equal, AtMost}
+use Rattle.vc_plan.specs.declared.plans.Plan.{Plan}
+use Rattle.vc_plan.specs.declared.terms.Operator.TheVariants.{Plus, Times, Over}
+use Rattle.vc_plan.specs.declared.terms.Term.{Term}
+use Rattle.vc_plan.specs.declared.terms.Term.TheVariants.{Literal, Read, Joined'}
+use Rattle.vc_plan.specs.Cuts.{is_cut}
+use Rattle.vc_plan.specs.Monotone.{is_for_nets}
+use Rattle.vc_plan.specs.RuleShapes.{has_one_last}
+use Rattle.vc_plan.specs.Sizes.{term_size, is_small}
+use Rattle.vc_plan.specs.Slots.{follows_in_preorder}
+use Rattle.vc_plan.specs.Typing.{condition_typed}
+use Rattle.vc_plan.specs.Valid.{IsValid}
+use Rattle.vc_plan.proofs.PlanRows.Models.{empty, root, pump, last, whole}
+
+-- 15 + FLOW / 2
+abbrev whole_pump : Box (Unit {0}) Global → Plan
+whole_pump p = record pump {
+  name = codes "PUMP";
+  texts = codes "S" ∷ codes "M" ∷ codes "L" ∷ codes "E1" ∷ codes "E2" ∷ codes "E3" ∷ [];
+  dependencies = codes "C_SM" ∷ codes "S_L" ∷ [];
+  characteristics =
+      record { name = codes "SIZE"; unit = None; required = true }
+      ∷ record { name = codes "MOTOR"; unit = None; required = true }
+      ∷ record { name = codes "FLOW"; unit = Some (codes "m3/h"); required = true }
+      ∷ [];
+  objects = record { material = codes "PUMP" } ∷ [];
+  tables = record {
+    name = codes "SM";
+    columns = record { characteristic = 0; key = false } ∷ record { characteristic = 1; key = false } ∷ [];
+    rows = (Text 0 ∷ Text 3 ∷ []) ∷ (Text 1 ∷ Text 3 ∷ []) ∷ (Text 1 ∷ Text 4 ∷ []) ∷ (Text 2 ∷ Text 5 ∷ []) ∷ [];
+  } ∷ [];
+  conditions = Always ∷ Compared Equal (Read 0) (Literal (Text 2)) ∷ [];
+  terms =
+      Literal (whole 1)
+      ∷ Literal (whole 2)
+      ∷ Joined' Plus p (Literal (whole 15)) p (Joined' Over p (Read 2) p (Literal (whole 2)))
+      ∷ [];
+  lines =
+      record { slot = 0; item = 10; material = codes "HOUSING"; unit = codes "PC"; quantity = 0; selections = [] }
+      ∷ record {
+        slot = 0;
+        item = 20;
+        material = codes "SEAL";
+        unit = codes "PC";
+        quantity = 1;
+        selections = record { dependency = 1; condition = 1 } ∷ [];
+      }
+      ∷ [];
+  operations = record { slot = 0; number = 10; name = codes "ASSY"; unit = codes "MIN"; time = 2; selections = [] } ∷ [];
+}
+
+valid : (p : Box (Unit {0}) Global) → IsValid (whole_pump p)
+valid p = record {
+  slots_there = refl;
+  vars_there = refl;
+  sets_there = refl;
+  domains_there = refl;
+  tables_there = refl;
+  conditions_there = refl;
+  terms_there = refl;
+  rules_there = refl;
+  procedures_there = refl;
+  lines_there = refl;
+  operations_there = refl;
+  guards_there = refl;
+  requirements_there = refl;
+  root = refl;
+  below = refl;
+  deeper = refl;
+  one_root = refl;
+  items = refl;
+  line_slots = refl;
+  vars_by_slot = refl;
+  sets_by_slot = refl;
+  vars_once = refl;
+  sets_once = refl;
+  not_both = refl;
+  alike = refl;
+  one_domain = refl;
+  some_grain = refl;
+  proper = refl;
+  cut = refl;
+  sets_of_texts = refl;
+  own_slots = refl;
+  rules_once = refl;
+  lines_once = refl;
+  lasts = refl;
+  slot_lines = refl;
+  columns = refl;
+  conditions_typed = refl;
+  rules_typed = refl;
+  statements_typed = refl;
+  nets = refl;
+  no_sum_asked = refl;
+  no_sum_meant = refl;
+  terms_small = refl;
+  conditions_small = refl;
+  own_writes = refl;
+  look_ups = refl;
+  keys = refl;
+  lines_in_order = refl;
+  operations_in_order = refl;
+  procedures_by_slot = refl;
+  guards_by_slot = refl;
+  name = refl;
+  names = refl;
+  dependency_names = refl;
+  table_names = refl;
+  materials = refl;
+  texts = refl;
+  names_once = refl;
+  dependencies_once = refl;
+  tables_once = refl;
+  materials_once = refl;
+  texts_once = refl;
+  levels = refl;
+  slot_limit = refl;
+  rule_limit = refl;
+  atom_limit = refl;
+  cell_limit = refl;
+  row_limit = refl;
+  column_limit = refl;
+}
+
+-- a piece of machinery with its drive, whose slot stands for a line with the drive's material
+abbrev slots : ℕ → ℕ → ℕ → Plan
+slots first second third = record empty {
+  slots =
+      root
+      ∷ record { parent = Some first; depth = 1; object = 1; line = 0 }
+      ∷ record { parent = Some second; depth = 1; object = 1; line = 1 }
+      ∷ record { parent = Some third; depth = 1; object = 1; line = 2 }
+      ∷ [];
+}
+
+abbrev in_preorder : Plan → List Bool
+in_preorder plan = map (follows_in_preorder plan) (0 ∷ 1 ∷ 2 ∷ 3 ∷ [])
+
+-- 0, 1 below it, 2 below that, 3 below 0 again
+preorder : in_preorder (slots 0 1 0) ≡ true ∷ true ∷ true ∷ true ∷ []
+preorder = refl
+
+-- 3 may not go back below 1, once 2 stands below 0
+not_back : in_preorder (slots 0 0 1) ≡ true ∷ true ∷ true ∷ false ∷ []
+not_back = refl
+
+not_back_either : in_preorder (slots 0 0 1) ≢ true ∷ true ∷ true ∷ true ∷ []
+not_back_either e = cc
+
+-- two Lasts of a variable, and none
+two_lasts : has_one_last (record pump { rules = last 0 ∷ last 0 ∷ [] }) 0 ≡ false
+two_lasts = refl
+
+no_last : has_one_last (record pump { rules = last 1 ∷ [] }) 0 ≡ false
+no_last = refl
+
+-- a flow that is compared with 5 and not cut there
+uncut : is_cut (record pump { conditions = Compared AtMost (Read 2) (Literal (whole 5)) ∷ [] }) 2 ≡ false
+uncut = refl
+
+-- and with twice 5, which is no literal as a whole side
+no_literal : (p : Box (Unit {0}) Global)
+    → is_cut (record pump { conditions = Compared AtMost (Read 2) (Joined' Times p (Literal (whole 2)) p (Literal (whole 5))) ∷ [] }) 2 ≢ false
+no_literal p e = cc
+
+-- a size against a number, and sizes in an order
+mixed : condition_typed pump (Compared Equal (Read 0) (Literal (whole 5))) ≡ false
+mixed = refl
+
+text_order : condition_typed pump (Compared AtMost (Read 0) (Literal (Text 1))) ≢ true
+text_order e = cc
+
+-- SPECIFIED under NOT in a net, and beside one
+under_not : (p : Box (Unit {0}) Global) → is_for_nets (Not' p (And' p (Specified 0) p Always)) ≡ false
+under_not p = refl
+
+beside_not : (p : Box (Unit {0}) Global) → is_for_nets (And' p (Not' p (Compared Equal (Read 0) (Literal (Text 1)))) p (Specified 0)) ≢ false
+beside_not p e = cc
+
+-- (FLOW times FLOW) times so many: 10 ^ 8 at most, 10 ^ 10, and on
+abbrev squared : Box (Unit {0}) Global → Term
+squared p = Joined' Times p (Read 2) p (Read 2)
+
+abbrev fourth : Box (Unit {0}) Global → Term
+fourth p = Joined' Times p (squared p) p (squared p)
+
+abbrev eighth : Box (Unit {0}) Global → Term
+eighth p = Joined' Times p (fourth p) p (fourth p)
+
+abbrev sixteenth : Box (Unit {0}) Global → Term
+sixteenth p = Joined' Times p (eighth p) p (eighth p)
+
+size : (p : Box (Unit {0}) Global) → term_size pump (squared p) ≡ 10_000_000_001
+size p = refl
+
+-- 100 to the 8th is 10 ^ 16, or 10 ^ 22 millionths; its square is computed from 10 ^ 44
+eighth_small : (p : Box (Unit {0}) Global) → is_small pump (eighth p) ≡ true
+eighth_small p = refl
+
+sixteenth_large : (p : Box (Unit {0}) Global) → is_small pump (sixteenth p) ≢ true
+sixteenth_large p e = cc

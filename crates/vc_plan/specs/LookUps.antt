@@ -1,0 +1,65 @@
+-- What statements write and look up, and the keys of tables.
+use Rattle.std.specs.Prelude.{ℕ, Bool, true, false, not, ◌&&◌, ◌||◌, ◌==◌, nat_lt, List, [], ◌∷◌, length, map, slice_get, Option, None, Some}
+use Rattle.std.specs.List.{filter, list_all}
+use Rattle.vc_value.specs.declared.value.Value.{Value}
+use Rattle.vc_plan.specs.declared.plans.Plan.{Plan}
+use Rattle.vc_plan.specs.declared.plans.Table.{Table}
+use Rattle.vc_plan.specs.declared.plans.TableColumn.{TableColumn}
+use Rattle.vc_plan.specs.declared.procedures.Action.{Action}
+use Rattle.vc_plan.specs.declared.procedures.Action.TheVariants.{Assign, SetDefault, DeleteDefault, LookUp}
+use Rattle.vc_plan.specs.declared.procedures.FilledColumn.{FilledColumn}
+use Rattle.vc_plan.specs.declared.procedures.KeyTerm.{KeyTerm}
+use Rattle.vc_plan.specs.declared.procedures.Procedure.{Procedure}
+use Rattle.vc_plan.specs.Domains.{numbers_below}
+use Rattle.vc_plan.specs.Pieces.{same_value}
+use Rattle.vc_plan.specs.Orders.{are_apart}
+use Rattle.vc_plan.specs.RuleShapes.{is_at}
+
+-- the variables that an action writes
+abbrev pub action_writes : Action → List ℕ
+action_writes (Assign v term) = v ∷ []
+action_writes (SetDefault v term) = v ∷ []
+action_writes (DeleteDefault v term) = v ∷ []
+action_writes (LookUp table keys filled) = map (λ column. column.var) filled
+
+abbrev pub writes_own : Plan → Procedure → Bool
+writes_own plan procedure = list_all (λ statement. list_all (is_at plan (procedure.slot ∷ [])) (action_writes statement.action)) procedure.statements
+
+-- whether the table's column of this number is a key
+abbrev pub is_key_column : Option TableColumn → Bool
+is_key_column None = false
+is_key_column (Some column) = column.key
+
+abbrev pub is_key : Table → ℕ → Bool
+is_key table c = is_key_column (slice_get table.columns c)
+
+abbrev pub keys_of : Table → List ℕ
+keys_of table = filter (is_key table) (numbers_below (length table.columns))
+
+-- whether two rows agree in these columns
+abbrev pub same_cell : Option Value → Option Value → Bool
+same_cell None b = false
+same_cell (Some a) None = false
+same_cell (Some a) (Some b) = same_value a b
+
+abbrev pub rows_agree : List ℕ → List Value → List Value → Bool
+rows_agree columns row other = list_all (λ c. same_cell (slice_get row c) (slice_get other c)) columns
+
+-- no two rows of a table with keys have the same key cells
+abbrev pub keys_apart : Table → Bool
+keys_apart table = (length (keys_of table) == 0) || are_apart (rows_agree (keys_of table)) table.rows
+
+-- a look-up gives a term to each key column, of which there is one, and fills other columns, each once
+abbrev pub looks_up : List KeyTerm → List FilledColumn → Option Table → Bool
+looks_up keys filled None = false
+looks_up keys filled (Some table) =
+    ((nat_lt 0 (length keys) && are_apart (λ a b. a.column == b.column) keys)
+    && ((length keys == length (keys_of table)) && list_all (λ key. is_key table key.column) keys))
+    && ((nat_lt 0 (length filled) && are_apart (λ a b. a.column == b.column) filled)
+    && list_all (λ column. not (is_key table column.column)) filled)
+
+abbrev pub action_proper : Plan → Action → Bool
+action_proper plan (Assign v term) = true
+action_proper plan (SetDefault v term) = true
+action_proper plan (DeleteDefault v term) = true
+action_proper plan (LookUp table keys filled) = looks_up keys filled (slice_get plan.tables table)

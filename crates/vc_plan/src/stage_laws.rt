@@ -1,0 +1,24 @@
+//! Laws of stages and bills, each the contract of a function that does nothing.
+
+ghost use Rattle.vc_plan.specs.StageLaws.{UsersDecide, StagesWriteTheirOwn, SumsWriteTheirOwn, ItemsAscend, ComponentsAreTakenWhereHere};
+
+/// What the user chose decides the evaluation.
+pub fn users_decide()
+    ensures { UsersDecide }
+{}
+
+/// The procedures of a stage write to variables of its instances alone, if each writes at its own slot.
+pub fn stages_write_their_own()
+    ensures depths { StagesWriteTheirOwn }
+    ensures sums { SumsWriteTheirOwn }
+{}
+
+/// The lines of an instance stand in its bill in item order.
+pub fn items_ascend()
+    ensures { ItemsAscend }
+{}
+
+/// A configurable line is taken exactly where its slot is here.
+pub fn components_are_taken_where_here()
+    ensures { ComponentsAreTakenWhereHere }
+{}
