@@ -14,6 +14,8 @@ use Rattle.vc_plan.specs.declared.conditions.Relation.TheVariants.{Equal, Unequa
 use Rattle.vc_plan.specs.declared.plans.Plan.{Plan}
 use Rattle.vc_plan.specs.declared.procedures.Action.{Action}
 use Rattle.vc_plan.specs.declared.procedures.Action.TheVariants.{Assign, SetDefault, DeleteDefault, LookUp}
+use Rattle.vc_plan.specs.declared.procedures.FilledColumn.{FilledColumn}
+use Rattle.vc_plan.specs.declared.procedures.KeyTerm.{KeyTerm}
 use Rattle.vc_plan.specs.declared.procedures.Statement.{Statement}
 use Rattle.vc_plan.specs.declared.rules.Binding.{Binding}
 use Rattle.vc_plan.specs.declared.rules.Kind.{Kind}
@@ -131,11 +133,20 @@ kind_typed plan Never = true
 kind_typed plan (Last v) = true
 kind_typed plan (Line i) = true
 
+-- whether a key's term, and the variable that a column fills, may meet each cell of the column
+abbrev pub key_typed : Plan → ℕ → KeyTerm → Bool
+key_typed plan table key =
+    list_all (λ row. cell_passes (λ a. meet_if plan Equal (slice_get plan.terms key.term) (Some (Literal a))) (slice_get row key.column)) (rows_of plan table)
+
+abbrev pub filled_typed : Plan → ℕ → FilledColumn → Bool
+filled_typed plan table filled =
+    list_all (λ row. cell_passes (λ a. meet plan Equal (Read filled.var) (Literal a)) (slice_get row filled.column)) (rows_of plan table)
+
 abbrev pub action_typed : Plan → Action → Bool
 action_typed plan (Assign v term) = meet_if plan Equal (Some (Read v)) (slice_get plan.terms term)
 action_typed plan (SetDefault v term) = meet_if plan Equal (Some (Read v)) (slice_get plan.terms term)
 action_typed plan (DeleteDefault v term) = meet_if plan Equal (Some (Read v)) (slice_get plan.terms term)
-action_typed plan (LookUp table keys filled) = true
+action_typed plan (LookUp table keys filled) = list_all (key_typed plan table) keys && list_all (filled_typed plan table) filled
 
 abbrev pub statement_typed : Plan → Statement → Bool
 statement_typed plan statement = action_typed plan statement.action

@@ -6,6 +6,8 @@ use Rattle.vc_value.specs.declared.value.Value.TheVariants.{Text}
 use Rattle.vc_plan.specs.declared.conditions.Condition.TheVariants.{Always, Compared, Specified, Not', And'}
 use Rattle.vc_plan.specs.declared.conditions.Relation.TheVariants.{Equal, AtMost}
 use Rattle.vc_plan.specs.declared.plans.Plan.{Plan}
+use Rattle.vc_plan.specs.declared.procedures.Action.{Action}
+use Rattle.vc_plan.specs.declared.procedures.Action.TheVariants.{LookUp}
 use Rattle.vc_plan.specs.declared.terms.Operator.TheVariants.{Plus, Times, Over}
 use Rattle.vc_plan.specs.declared.terms.Term.{Term}
 use Rattle.vc_plan.specs.declared.terms.Term.TheVariants.{Literal, Read, Joined'}
@@ -14,7 +16,7 @@ use Rattle.vc_plan.specs.Monotone.{is_for_nets}
 use Rattle.vc_plan.specs.RuleShapes.{has_one_last}
 use Rattle.vc_plan.specs.Sizes.{term_size, is_small}
 use Rattle.vc_plan.specs.Slots.{follows_in_preorder}
-use Rattle.vc_plan.specs.Typing.{condition_typed}
+use Rattle.vc_plan.specs.Typing.{condition_typed, action_typed}
 use Rattle.vc_plan.specs.Valid.{IsValid}
 use Rattle.vc_plan.proofs.PlanRows.Models.{empty, root, pump, last, whole}
 
@@ -205,3 +207,20 @@ eighth_small p = refl
 
 sixteenth_large : (p : Box (Unit {0}) Global) → is_small pump (sixteenth p) ≢ true
 sixteenth_large p e = cc
+
+-- a look-up in the table of sizes and motors, by a text and by a number
+abbrev looking : Plan
+looking = record pump { terms = Literal (Text 0) ∷ Literal (whole 5) ∷ [] }
+
+abbrev look_up : ℕ → ℕ → Action
+look_up term v = LookUp 0 (record { column = 0; term = term } ∷ []) (record { column = 1; var = v } ∷ [])
+
+by_text : action_typed looking (look_up 0 1) ≡ true
+by_text = refl
+
+by_number : action_typed looking (look_up 1 1) ≢ true
+by_number e = cc
+
+-- and a motor for the flow
+into_number : action_typed looking (look_up 0 2) ≢ true
+into_number e = cc
