@@ -1,5 +1,5 @@
 -- The canonical text of a dependency that some text spells, spells it again.
-use Rattle.std.proofs.Common.{◌≡◌, ℕ, true, List, [], ◌++◌, map, Ok, sym, ap, subst}
+use Rattle.std.proofs.Common.{◌∙◌, ◌≡◌, ℕ, true, List, [], ◌++◌, map, Ok, sym, ap, subst}
 use Rattle.std.specs.List.{list_all}
 use Rattle.std.proofs.lemmas.List.{append-nil}
 use Rattle.vc_tokens.specs.declared.token.Token.{Token}
@@ -18,6 +18,7 @@ use Rattle.vc_syntax.specs.ConstraintGrammar.{IsConstraint}
 use Rattle.vc_syntax.specs.DependencyGrammar as grammar
 use Rattle.vc_syntax.specs.DependencyGrammar.{IsDependency}
 use Rattle.vc_syntax.specs.Spelled.{Spells}
+use Rattle.vc_syntax.proofs.SpelledLaws.{one_tree}
 use Rattle.vc_syntax.specs.Trees as trees
 use Rattle.vc_syntax.specs.Trees.{Term, Condition, Constraint, Dependency}
 use Rattle.vc_print.specs.StatementLexemes.{statement_lexemes}
@@ -83,3 +84,9 @@ spelled_again kind text tree x =
       },
       s.same,
     )
+
+-- and nothing else
+pub spelled_alone : (kind : Kind) (text : List ℕ) (tree again : Dependency) → Spells kind text tree → Spells kind (canonical_text tree) again → bare again ≡ bare tree
+spelled_alone kind text tree again x y =
+    let p : (other : Dependency) × Spells kind (canonical_text tree) other × (bare other ≡ bare tree) = spelled_again kind text tree x in
+    ap bare (one_tree kind (canonical_text tree) again p.0 y p.1) ∙ p.2

@@ -44,9 +44,11 @@ pub fn print_dependency(alloc: Global, dependency: &Dependency) -> Result<Word, 
     text_of(alloc, lexemes.as_slice())
 }
 
-/// The canonical text of a dependency that some text spells, spells the same dependency again, but
-/// for the places of its leaves; limits included, and of the same kind.
+/// The canonical text of a dependency that some text spells, spells that dependency again as the
+/// same kind, within the limits, and no other: but for the places of its leaves in the text.
 pub fn canonical_text_is_read_again()
-    ensures { (kind : Kind) (text : List ℕ) (tree : trees.Dependency) → Spells kind text tree
+    ensures spelled { (kind : Kind) (text : List ℕ) (tree : trees.Dependency) → Spells kind text tree
         → (again : trees.Dependency) × Spells kind (prints.canonical_text tree) again × (bare again ≡ bare tree) }
+    ensures alone { (kind : Kind) (text : List ℕ) (tree again : trees.Dependency) → Spells kind text tree
+        → Spells kind (prints.canonical_text tree) again → bare again ≡ bare tree }
 {}

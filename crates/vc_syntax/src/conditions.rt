@@ -2,7 +2,7 @@
 
 ghost use Rattle.std.specs.Prelude.{Some};
 ghost use Rattle.vc_syntax.specs.ConditionReading as reads;
-ghost use Rattle.vc_syntax.specs.Reading.{Gives, made, closed, listed};
+ghost use Rattle.vc_syntax.specs.Reading.{Gives, made, closed, listed, or_else};
 ghost use Rattle.vc_syntax.specs.TermReading as terms;
 ghost use Rattle.vc_syntax.specs.Trees as trees;
 ghost use Rattle.vc_syntax.specs.Trees.{relation_of, condition_of};
@@ -291,6 +291,40 @@ fn negation(
     negation_below(alloc, tokens, left - 1)
 }
 
+// What stands behind NOT.
+#[cycle(conditions)]
+fn behind_not(
+    alloc: Global,
+    tokens: &[Token],
+    left: u32,
+) -> Result<(Box<Condition>, &[Token]), ReadFault>
+    ensures { Gives (λ x. (condition_of x.0.value, x.1.now)) result (made trees.Not (reads.negation left tokens.now)) }
+{
+    let (condition, rest) = negation(alloc, tokens, left)?;
+    let condition = negated(alloc, condition)?;
+    Ok((condition, rest))
+}
+
+// A relation that begins with a parenthesis, or the condition that the parenthesis opens.
+#[cycle(conditions)]
+fn related_or_grouped<'a>(
+    alloc: Global,
+    tokens: &'a [Token],
+    inside: &'a [Token],
+    left: u32,
+) -> Result<(Box<Condition>, &'a [Token]), ReadFault>
+    ensures { Gives (λ x. (condition_of x.0.value, x.1.now)) result (or_else (made trees.Related (reads.relation left tokens.now)) (closed (reads.condition left inside.now))) }
+{
+    match related(alloc, tokens, left) {
+        Ok((condition, rest)) => Ok((condition, rest)),
+        Err(ReadFault::Ungrammatical) => {
+            let (condition, rest) = condition(alloc, inside, left)?;
+            closed(condition, rest)
+        }
+        Err(ReadFault::OutOfMemory) => Err(ReadFault::OutOfMemory),
+    }
+}
+
 #[cycle(conditions)]
 fn negation_below(
     alloc: Global,
@@ -306,11 +340,7 @@ fn negation_below(
                 ..
             },
             rest @ ..,
-        ] => {
-            let (condition, rest) = negation(alloc, rest, left)?;
-            let condition = negated(alloc, condition)?;
-            Ok((condition, rest))
-        }
+        ] => behind_not(alloc, rest, left),
         [
             Token {
                 lexeme: Lexeme::Reserved(Reserved::Specified),
@@ -331,16 +361,7 @@ fn negation_below(
                 ..
             },
             rest @ ..,
-        ] => {
-            match related(alloc, tokens, left) {
-                Ok((condition, rest)) => Ok((condition, rest)),
-                Err(ReadFault::Ungrammatical) => {
-                    let (condition, rest) = condition(alloc, rest, left)?;
-                    closed(condition, rest)
-                }
-                Err(ReadFault::OutOfMemory) => Err(ReadFault::OutOfMemory),
-            }
-        }
+        ] => related_or_grouped(alloc, tokens, rest, left),
         _ => plain_condition(alloc, tokens, left),
     }
 }

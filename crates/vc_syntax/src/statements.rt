@@ -83,6 +83,22 @@ fn defaulted(
     Ok((name, value, rest))
 }
 
+// What stands behind `$SET_DEFAULT`.
+fn set_default(alloc: Global, tokens: &[Token], left: u32) -> Result<(Action, &[Token]), ReadFault>
+    ensures { Gives (λ x. (action_of x.0, x.1.now)) result (reads.defaulted trees.SetDefault left tokens.now) }
+{
+    let (name, value, rest) = defaulted(alloc, tokens, left)?;
+    Ok((Action::SetDefault(name, value), rest))
+}
+
+// What stands behind `$DEL_DEFAULT`.
+fn del_default(alloc: Global, tokens: &[Token], left: u32) -> Result<(Action, &[Token]), ReadFault>
+    ensures { Gives (λ x. (action_of x.0, x.1.now)) result (reads.defaulted trees.DelDefault left tokens.now) }
+{
+    let (name, value, rest) = defaulted(alloc, tokens, left)?;
+    Ok((Action::DelDefault(name, value), rest))
+}
+
 fn action(alloc: Global, tokens: &[Token], left: u32) -> Result<(Action, &[Token]), ReadFault>
     ensures { Gives (λ x. (action_of x.0, x.1.now)) result (reads.action left tokens.now) }
 {
@@ -100,20 +116,14 @@ fn action(alloc: Global, tokens: &[Token], left: u32) -> Result<(Action, &[Token
                 ..
             },
             rest @ ..,
-        ] => {
-            let (name, value, rest) = defaulted(alloc, rest, left)?;
-            Ok((Action::SetDefault(name, value), rest))
-        }
+        ] => set_default(alloc, rest, left),
         [
             Token {
                 lexeme: Lexeme::Dollar(Dollar::DelDefault),
                 ..
             },
             rest @ ..,
-        ] => {
-            let (name, value, rest) = defaulted(alloc, rest, left)?;
-            Ok((Action::DelDefault(name, value), rest))
-        }
+        ] => del_default(alloc, rest, left),
         [
             Token {
                 lexeme: Lexeme::Reserved(Reserved::Table),

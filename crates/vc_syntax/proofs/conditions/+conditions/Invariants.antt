@@ -6,16 +6,22 @@ use Rattle.vc_tokens.specs.declared.token.Reserved.TheVariants as words
 use Rattle.vc_syntax.proofs.conditions.+conditions.Given as goal
 
 abbrev pub decreases-negation : goal.decreases-negation
-decreases-negation l = 4 * l.left
+decreases-negation l = 5 * l.left
 
 abbrev pub decreases-conjunction : goal.decreases-conjunction
-decreases-conjunction l = 4 * l.left + 1
+decreases-conjunction l = 5 * l.left + 1
 
 abbrev pub decreases-condition : goal.decreases-condition
-decreases-condition l = 4 * l.left + 2
+decreases-condition l = 5 * l.left + 2
+
+abbrev pub decreases-behind_not : goal.decreases-behind_not
+decreases-behind_not l = 5 * l.left + 1
+
+abbrev pub decreases-related_or_grouped : goal.decreases-related_or_grouped
+decreases-related_or_grouped l = 5 * l.left + 3
 
 abbrev pub decreases-negation_below : goal.decreases-negation_below
-decreases-negation_below l = 4 * l.left + 3
+decreases-negation_below l = 5 * l.left + 4
 
 abbrev pub invariant-conjunction-loop-after : goal.invariant-conjunction-loop-after
 invariant-conjunction-loop-after l =
