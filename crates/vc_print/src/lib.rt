@@ -11,4 +11,6 @@ pub mod terms;
 pub use dependencies::{canonical_text_is_read_again, print_dependency};
 
 #[cfg(test)]
+mod model_tests;
+#[cfg(test)]
 mod tests;
