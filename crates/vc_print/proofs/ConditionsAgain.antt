@@ -4,20 +4,20 @@ use Rattle.vc_tokens.specs.declared.token.Token.{Token}
 use Rattle.vc_tokens.specs.declared.token.Lexeme.TheVariants as lexemes
 use Rattle.vc_tokens.specs.declared.token.Sign.TheVariants as signs
 use Rattle.vc_tokens.specs.declared.token.Reserved.TheVariants as words
-use Rattle.vc_syntax.specs.declared.tree.NameLeaf.{NameLeaf}
-use Rattle.vc_syntax.specs.declared.tree.NumberLeaf.{NumberLeaf}
-use Rattle.vc_syntax.specs.declared.tree.Operand.{Operand}
-use Rattle.vc_syntax.specs.declared.tree.SignedNumber.{SignedNumber}
-use Rattle.vc_syntax.specs.declared.tree.Item.{Item}
-use Rattle.vc_syntax.specs.declared.tree.Item.TheVariants as items
-use Rattle.vc_syntax.specs.declared.tree.Relator.{Relator}
-use Rattle.vc_syntax.specs.declared.tree.Relator.TheVariants as relators
-use Rattle.vc_syntax.specs.ConditionReading.{relator_in, with_sign}
-use Rattle.vc_syntax.specs.TermGrammar.{IsOperand, IsSum}
-use Rattle.vc_syntax.specs.ConditionGrammar as grammar
-use Rattle.vc_syntax.specs.ConditionGrammar.{IsListed, IsSignedNumber, IsItem, IsRelation, IsNegation, IsConjunction, IsCondition}
-use Rattle.vc_syntax.specs.Trees as trees
-use Rattle.vc_syntax.specs.Trees.{Term, Relation, Condition}
+use Rattle.vc_terms.specs.declared.tree.NameLeaf.{NameLeaf}
+use Rattle.vc_terms.specs.declared.tree.NumberLeaf.{NumberLeaf}
+use Rattle.vc_terms.specs.declared.tree.Operand.{Operand}
+use Rattle.vc_terms.specs.declared.tree.SignedNumber.{SignedNumber}
+use Rattle.vc_terms.specs.declared.tree.Item.{Item}
+use Rattle.vc_terms.specs.declared.tree.Item.TheVariants as items
+use Rattle.vc_terms.specs.declared.tree.Relator.{Relator}
+use Rattle.vc_terms.specs.declared.tree.Relator.TheVariants as relators
+use Rattle.vc_terms.specs.ConditionReading.{relator_in, with_sign}
+use Rattle.vc_terms.specs.TermGrammar.{IsOperand, IsSum}
+use Rattle.vc_terms.specs.ConditionGrammar as grammar
+use Rattle.vc_terms.specs.ConditionGrammar.{IsListed, IsSignedNumber, IsItem, IsRelation, IsNegation, IsConjunction, IsCondition}
+use Rattle.vc_terms.specs.Trees as trees
+use Rattle.vc_terms.specs.Trees.{Term, Relation, Condition}
 use Rattle.vc_print.specs.TermLexemes.{wrapped, wrapped_if, operand_lexemes, term_lexemes}
 use Rattle.vc_print.specs.ConditionLexemes.{separated, number_behind, signed_lexemes, item_lexemes, relator_sign, relation_lexemes, is_or, is_joined, condition_lexemes}
 use Rattle.vc_print.specs.Places.{bare_operand, bare_term, bare_signed, bare_item, bare_relation, bare_condition}

@@ -10,15 +10,15 @@ use Rattle.vc_tokens.specs.declared.limits.Prefix.TheVariants.{Negation, Negativ
 use Rattle.vc_tokens.specs.Limits.{is_open, is_close, is_prefix}
 use Rattle.vc_tokens.specs.Texts.{is_dot, is_period}
 use Rattle.vc_tokens.specs.Written.{is_lexeme}
-use Rattle.vc_syntax.specs.declared.tree.SignedNumber.{SignedNumber}
-use Rattle.vc_syntax.specs.declared.tree.Item.{Item}
-use Rattle.vc_syntax.specs.declared.tree.Relator.{Relator}
-use Rattle.vc_syntax.specs.declared.tree.Relator.TheVariants as relators
-use Rattle.vc_syntax.specs.ConditionReading.{relator_in}
-use Rattle.vc_syntax.specs.ConditionGrammar as grammar
-use Rattle.vc_syntax.specs.ConditionGrammar.{IsListed, IsSignedNumber, IsItem, IsRelation, IsNegation, IsConjunction, IsCondition}
-use Rattle.vc_syntax.specs.Trees as trees
-use Rattle.vc_syntax.specs.Trees.{Relation, Condition}
+use Rattle.vc_terms.specs.declared.tree.SignedNumber.{SignedNumber}
+use Rattle.vc_terms.specs.declared.tree.Item.{Item}
+use Rattle.vc_terms.specs.declared.tree.Relator.{Relator}
+use Rattle.vc_terms.specs.declared.tree.Relator.TheVariants as relators
+use Rattle.vc_terms.specs.ConditionReading.{relator_in}
+use Rattle.vc_terms.specs.ConditionGrammar as grammar
+use Rattle.vc_terms.specs.ConditionGrammar.{IsListed, IsSignedNumber, IsItem, IsRelation, IsNegation, IsConjunction, IsCondition}
+use Rattle.vc_terms.specs.Trees as trees
+use Rattle.vc_terms.specs.Trees.{Relation, Condition}
 use Rattle.vc_print.specs.TermLexemes.{wrapped_if, operand_lexemes, term_lexemes}
 use Rattle.vc_print.specs.ConditionLexemes.{signed_lexemes, item_lexemes, relator_sign, relation_lexemes, is_or, is_joined, condition_lexemes}
 use Rattle.vc_print.proofs.Simpler as simpler

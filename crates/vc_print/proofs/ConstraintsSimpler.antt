@@ -11,17 +11,17 @@ use Rattle.vc_tokens.specs.declared.token.Sign.{Sign}
 use Rattle.vc_tokens.specs.declared.token.Sign.TheVariants as signs
 use Rattle.vc_tokens.specs.declared.token.Reserved.{Reserved}
 use Rattle.vc_tokens.specs.declared.token.Reserved.TheVariants as words
-use Rattle.vc_syntax.specs.declared.tree.Operand.{Operand}
-use Rattle.vc_syntax.specs.declared.tree.ObjectKind.{ObjectKind}
-use Rattle.vc_syntax.specs.declared.tree.Alias.{Alias}
-use Rattle.vc_syntax.specs.declared.tree.Object.{Object}
+use Rattle.vc_terms.specs.declared.tree.Operand.{Operand}
+use Rattle.vc_terms.specs.declared.tree.ObjectKind.{ObjectKind}
+use Rattle.vc_terms.specs.declared.tree.Alias.{Alias}
+use Rattle.vc_terms.specs.declared.tree.Object.{Object}
 use Rattle.vc_syntax.specs.ConstraintReading.{is_class_type}
-use Rattle.vc_syntax.specs.TermGrammar.{IsOperand}
-use Rattle.vc_syntax.specs.ConditionGrammar.{IsListed, IsCondition}
+use Rattle.vc_terms.specs.TermGrammar.{IsOperand}
+use Rattle.vc_terms.specs.ConditionGrammar.{IsListed, IsCondition}
 use Rattle.vc_syntax.specs.StatementGrammar.{IsRestriction}
 use Rattle.vc_syntax.specs.ConstraintGrammar as grammar
 use Rattle.vc_syntax.specs.ConstraintGrammar.{IsClassType, IsObjectKind, IsAlias, IsWhere, IsObject, IsSection, IsObjectSection, IsConditionSection, IsRestrictionSection, IsInferenceSection, IsConstraint}
-use Rattle.vc_syntax.specs.Trees.{Condition, Restriction, Constraint}
+use Rattle.vc_terms.specs.Trees.{Condition, Restriction, Constraint}
 use Rattle.vc_print.specs.TermLexemes.{operand_lexemes}
 use Rattle.vc_print.specs.ConditionLexemes.{separated, condition_lexemes}
 use Rattle.vc_print.specs.StatementLexemes.{restriction_lexemes}

@@ -6,8 +6,8 @@ use Rattle.vc_tokens.specs.declared.token.Lexeme.{Lexeme}
 use Rattle.vc_tokens.specs.declared.token.Lexeme.TheVariants as lexemes
 use Rattle.vc_tokens.specs.declared.token.Sign.{Sign}
 use Rattle.vc_tokens.specs.Texts.{is_dot, is_period}
-use Rattle.vc_syntax.specs.ConditionGrammar as grammar
-use Rattle.vc_syntax.specs.ConditionGrammar.{IsListed}
+use Rattle.vc_terms.specs.ConditionGrammar as grammar
+use Rattle.vc_terms.specs.ConditionGrammar.{IsListed}
 use Rattle.vc_print.specs.ConditionLexemes.{each_behind, separated}
 use Rattle.vc_print.proofs.Simpler.{Simpler}
 use Rattle.vc_print.proofs.Marks.{operated_is}

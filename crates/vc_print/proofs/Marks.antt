@@ -9,11 +9,11 @@ use Rattle.vc_tokens.specs.declared.limits.Prefix.TheVariants.{Negation, Negativ
 use Rattle.vc_tokens.specs.Limits.{is_open, is_close, is_prefix}
 use Rattle.vc_tokens.specs.Texts.{is_dot, is_period}
 use Rattle.vc_tokens.specs.Written.{is_lexeme, is_star}
-use Rattle.vc_syntax.specs.declared.tree.NameLeaf.{NameLeaf}
-use Rattle.vc_syntax.specs.declared.tree.TextLeaf.{TextLeaf}
-use Rattle.vc_syntax.specs.declared.tree.NumberLeaf.{NumberLeaf}
-use Rattle.vc_syntax.specs.Leaves.{name_in, variable_in, text_in, number_in}
-use Rattle.vc_syntax.specs.TermGrammar.{IsSign, IsName, IsVariable, IsText, IsNumber}
+use Rattle.vc_terms.specs.declared.tree.NameLeaf.{NameLeaf}
+use Rattle.vc_terms.specs.declared.tree.TextLeaf.{TextLeaf}
+use Rattle.vc_terms.specs.declared.tree.NumberLeaf.{NumberLeaf}
+use Rattle.vc_terms.specs.Leaves.{name_in, variable_in, text_in, number_in}
+use Rattle.vc_terms.specs.TermGrammar.{IsSign, IsName, IsVariable, IsText, IsNumber}
 use Rattle.vc_print.specs.TermLexemes.{wrapped, wrapped_if}
 use Rattle.vc_print.proofs.Simpler as simpler
 use Rattle.vc_print.proofs.Simpler.{Same, Alike, Ends, EndsIf, Simpler}

@@ -8,7 +8,7 @@ use Rattle.vc_tokens.specs.declared.token.Reserved.{Reserved}
 use Rattle.vc_tokens.specs.declared.token.Reserved.TheVariants as words
 use Rattle.vc_tokens.specs.Limits.{is_open, is_close, one_if}
 use Rattle.vc_tokens.specs.Written.{is_lexeme}
-use Rattle.vc_syntax.specs.TermGrammar.{IsSign, IsWord}
+use Rattle.vc_terms.specs.TermGrammar.{IsSign, IsWord}
 use Rattle.vc_print.proofs.Simpler as simpler
 use Rattle.vc_print.proofs.Simpler.{Same, Alike, Simpler, Sections}
 

@@ -8,7 +8,7 @@ use Rattle.vc_tokens.specs.declared.token.Reserved.TheVariants as words
 use Rattle.vc_tokens.specs.declared.limits.Prefix.{Prefix}
 use Rattle.vc_tokens.specs.declared.limits.Prefix.TheVariants.{Negation, Negative}
 use Rattle.vc_tokens.specs.Limits.{is_open, is_prefix, row_up_to}
-use Rattle.vc_syntax.specs.TermGrammar.{IsSign, IsWord}
+use Rattle.vc_terms.specs.TermGrammar.{IsSign, IsWord}
 use Rattle.vc_print.proofs.Simpler as simpler
 use Rattle.vc_print.proofs.Simpler.{Same, Alike, Ends, EndsIf, Simpler, Sections}
 use Rattle.vc_print.proofs.Nesting.{AllGood, all_good_front, all_good_back, lexeme, itself}

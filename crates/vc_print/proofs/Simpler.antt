@@ -10,7 +10,7 @@ use Rattle.vc_tokens.specs.declared.limits.Prefix.{Prefix}
 use Rattle.vc_tokens.specs.Limits.{is_open, is_close, is_prefix}
 use Rattle.vc_tokens.specs.Texts.{is_dot, is_period}
 use Rattle.vc_tokens.specs.Written.{is_lexeme, is_star}
-use Rattle.vc_syntax.specs.TermGrammar.{IsSign, IsWord}
+use Rattle.vc_terms.specs.TermGrammar.{IsSign, IsWord}
 
 -- a lexeme counts as another does, and may stand where any may
 pub record Same (l m : Lexeme) : Type 0 where

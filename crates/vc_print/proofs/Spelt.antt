@@ -5,13 +5,13 @@ use Rattle.vc_tokens.specs.declared.token.Token.{Token}
 use Rattle.vc_tokens.specs.declared.token.Lexeme.{Lexeme}
 use Rattle.vc_tokens.specs.declared.token.Lexeme.TheVariants as lexemes
 use Rattle.vc_tokens.specs.declared.token.Sign.{Sign}
-use Rattle.vc_syntax.specs.declared.tree.NameLeaf.{NameLeaf}
-use Rattle.vc_syntax.specs.declared.tree.TextLeaf.{TextLeaf}
-use Rattle.vc_syntax.specs.declared.tree.NumberLeaf.{NumberLeaf}
-use Rattle.vc_syntax.specs.Leaves.{name_in, variable_in, text_in, number_in}
-use Rattle.vc_syntax.specs.TermGrammar.{IsName, IsVariable, IsText, IsNumber}
-use Rattle.vc_syntax.specs.ConditionGrammar as grammar
-use Rattle.vc_syntax.specs.ConditionGrammar.{IsListed}
+use Rattle.vc_terms.specs.declared.tree.NameLeaf.{NameLeaf}
+use Rattle.vc_terms.specs.declared.tree.TextLeaf.{TextLeaf}
+use Rattle.vc_terms.specs.declared.tree.NumberLeaf.{NumberLeaf}
+use Rattle.vc_terms.specs.Leaves.{name_in, variable_in, text_in, number_in}
+use Rattle.vc_terms.specs.TermGrammar.{IsName, IsVariable, IsText, IsNumber}
+use Rattle.vc_terms.specs.ConditionGrammar as grammar
+use Rattle.vc_terms.specs.ConditionGrammar.{IsListed}
 use Rattle.vc_print.specs.ConditionLexemes.{separated}
 use Rattle.vc_print.proofs.ListsSimpler.{listed_one, separated_snoc}
 

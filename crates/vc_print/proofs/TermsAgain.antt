@@ -4,20 +4,20 @@ use Rattle.vc_tokens.specs.declared.token.Token.{Token}
 use Rattle.vc_tokens.specs.declared.token.Lexeme.TheVariants as lexemes
 use Rattle.vc_tokens.specs.declared.token.Sign.TheVariants as signs
 use Rattle.vc_tokens.specs.declared.token.Dollar.TheVariants as dollars
-use Rattle.vc_syntax.specs.declared.tree.NameLeaf.{NameLeaf}
-use Rattle.vc_syntax.specs.declared.tree.Owner.{Owner}
-use Rattle.vc_syntax.specs.declared.tree.Owner.TheVariants as owners
-use Rattle.vc_syntax.specs.declared.tree.Operand.{Operand}
-use Rattle.vc_syntax.specs.declared.tree.Operand.TheVariants as operands
-use Rattle.vc_syntax.specs.declared.tree.Operator.{Operator}
-use Rattle.vc_syntax.specs.declared.tree.Operator.TheVariants as operators
-use Rattle.vc_syntax.specs.declared.tree.Function.{Function}
-use Rattle.vc_syntax.specs.declared.tree.Function.TheVariants as functions
-use Rattle.vc_syntax.specs.TermReading.{owner_of, function_of, product_operator_in, sum_operator_in}
-use Rattle.vc_syntax.specs.TermGrammar as grammar
-use Rattle.vc_syntax.specs.TermGrammar.{IsOperand, IsSelfAndName, IsFactor, IsProduct, IsSum}
-use Rattle.vc_syntax.specs.Trees as trees
-use Rattle.vc_syntax.specs.Trees.{Term}
+use Rattle.vc_terms.specs.declared.tree.NameLeaf.{NameLeaf}
+use Rattle.vc_terms.specs.declared.tree.Owner.{Owner}
+use Rattle.vc_terms.specs.declared.tree.Owner.TheVariants as owners
+use Rattle.vc_terms.specs.declared.tree.Operand.{Operand}
+use Rattle.vc_terms.specs.declared.tree.Operand.TheVariants as operands
+use Rattle.vc_terms.specs.declared.tree.Operator.{Operator}
+use Rattle.vc_terms.specs.declared.tree.Operator.TheVariants as operators
+use Rattle.vc_terms.specs.declared.tree.Function.{Function}
+use Rattle.vc_terms.specs.declared.tree.Function.TheVariants as functions
+use Rattle.vc_terms.specs.TermReading.{owner_of, function_of, product_operator_in, sum_operator_in}
+use Rattle.vc_terms.specs.TermGrammar as grammar
+use Rattle.vc_terms.specs.TermGrammar.{IsOperand, IsSelfAndName, IsFactor, IsProduct, IsSum}
+use Rattle.vc_terms.specs.Trees as trees
+use Rattle.vc_terms.specs.Trees.{Term}
 use Rattle.vc_print.specs.TermLexemes.{wrapped, wrapped_if, owner_word, function_word, operator_sign, operand_lexemes, is_sum, is_combined, self_and_name, term_lexemes}
 use Rattle.vc_print.specs.Places.{bare_name, bare_operand, bare_term}
 use Rattle.vc_print.proofs.Spelt.{Spelt, Again, front, single, between, ended, name_at, text_at, number_at, name_again, variable_again, text_again, number_again}

@@ -10,19 +10,19 @@ use Rattle.vc_tokens.specs.declared.token.Dollar.TheVariants as dollars
 use Rattle.vc_tokens.specs.declared.token.Reserved.{Reserved}
 use Rattle.vc_tokens.specs.declared.token.Reserved.TheVariants as words
 use Rattle.vc_tokens.specs.Texts.{is_dot, is_period}
-use Rattle.vc_syntax.specs.declared.tree.NameLeaf.{NameLeaf}
-use Rattle.vc_syntax.specs.declared.tree.Owner.{Owner}
-use Rattle.vc_syntax.specs.declared.tree.Owner.TheVariants as owners
-use Rattle.vc_syntax.specs.declared.tree.Operand.{Operand}
-use Rattle.vc_syntax.specs.declared.tree.Operator.{Operator}
-use Rattle.vc_syntax.specs.declared.tree.Operator.TheVariants as operators
-use Rattle.vc_syntax.specs.declared.tree.Function.{Function}
-use Rattle.vc_syntax.specs.declared.tree.Function.TheVariants as functions
-use Rattle.vc_syntax.specs.TermReading.{owner_of, function_of, product_operator_in, sum_operator_in}
-use Rattle.vc_syntax.specs.TermGrammar as grammar
-use Rattle.vc_syntax.specs.TermGrammar.{IsSign, IsOwner, IsFunction, IsOperand, IsSelfAndName, IsOnlySelf, IsFactor, IsProduct, IsSum}
-use Rattle.vc_syntax.specs.Trees as trees
-use Rattle.vc_syntax.specs.Trees.{Term}
+use Rattle.vc_terms.specs.declared.tree.NameLeaf.{NameLeaf}
+use Rattle.vc_terms.specs.declared.tree.Owner.{Owner}
+use Rattle.vc_terms.specs.declared.tree.Owner.TheVariants as owners
+use Rattle.vc_terms.specs.declared.tree.Operand.{Operand}
+use Rattle.vc_terms.specs.declared.tree.Operator.{Operator}
+use Rattle.vc_terms.specs.declared.tree.Operator.TheVariants as operators
+use Rattle.vc_terms.specs.declared.tree.Function.{Function}
+use Rattle.vc_terms.specs.declared.tree.Function.TheVariants as functions
+use Rattle.vc_terms.specs.TermReading.{owner_of, function_of, product_operator_in, sum_operator_in}
+use Rattle.vc_terms.specs.TermGrammar as grammar
+use Rattle.vc_terms.specs.TermGrammar.{IsSign, IsOwner, IsFunction, IsOperand, IsSelfAndName, IsOnlySelf, IsFactor, IsProduct, IsSum}
+use Rattle.vc_terms.specs.Trees as trees
+use Rattle.vc_terms.specs.Trees.{Term}
 use Rattle.vc_print.specs.TermLexemes.{wrapped, wrapped_if, owner_word, function_word, operator_sign, operand_lexemes, is_additive, is_sum, is_combined, left_needs, right_needs, self_and_name, term_lexemes}
 use Rattle.vc_print.proofs.Simpler as simpler
 use Rattle.vc_print.proofs.Simpler.{Simpler}

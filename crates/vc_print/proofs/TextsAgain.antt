@@ -11,16 +11,16 @@ use Rattle.vc_tokens.specs.Texts.{text_of}
 use Rattle.vc_tokens.specs.Written.{is_lexeme}
 use Rattle.vc_tokens.proofs.TextsAgain.{texts_again}
 use Rattle.vc_tokens.proofs.LexemesGood.{tokens_good}
-use Rattle.vc_syntax.specs.TermGrammar.{IsSum}
-use Rattle.vc_syntax.specs.ConditionGrammar.{IsListed, IsCondition}
+use Rattle.vc_terms.specs.TermGrammar.{IsSum}
+use Rattle.vc_terms.specs.ConditionGrammar.{IsListed, IsCondition}
 use Rattle.vc_syntax.specs.StatementGrammar.{IsStatement}
 use Rattle.vc_syntax.specs.ConstraintGrammar.{IsConstraint}
 use Rattle.vc_syntax.specs.DependencyGrammar as grammar
 use Rattle.vc_syntax.specs.DependencyGrammar.{IsDependency}
 use Rattle.vc_syntax.specs.Spelled.{Spells}
 use Rattle.vc_syntax.proofs.SpelledLaws.{one_tree}
-use Rattle.vc_syntax.specs.Trees as trees
-use Rattle.vc_syntax.specs.Trees.{Term, Condition, Constraint, Dependency}
+use Rattle.vc_terms.specs.Trees as trees
+use Rattle.vc_terms.specs.Trees.{Term, Condition, Constraint, Dependency}
 use Rattle.vc_print.specs.StatementLexemes.{statement_lexemes}
 use Rattle.vc_print.specs.DependencyLexemes.{dependency_lexemes, canonical_text}
 use Rattle.vc_print.specs.Places.{bare_term, bare_condition, bare_statement, bare_constraint, bare}

@@ -7,12 +7,12 @@ use Rattle.vc_tokens.specs.declared.token.Sign.TheVariants as signs
 use Rattle.vc_tokens.specs.declared.token.Reserved.{Reserved}
 use Rattle.vc_tokens.specs.declared.token.Reserved.TheVariants as words
 use Rattle.vc_tokens.specs.Lexemes.{lexeme_of_word}
-use Rattle.vc_syntax.specs.declared.tree.Operand.{Operand}
-use Rattle.vc_syntax.specs.declared.tree.ObjectKind.{ObjectKind}
-use Rattle.vc_syntax.specs.declared.tree.ObjectKind.TheVariants.{Class, Material}
-use Rattle.vc_syntax.specs.declared.tree.Alias.{Alias}
-use Rattle.vc_syntax.specs.declared.tree.Object.{Object}
-use Rattle.vc_syntax.specs.Trees.{Condition, Constraint}
+use Rattle.vc_terms.specs.declared.tree.Operand.{Operand}
+use Rattle.vc_terms.specs.declared.tree.ObjectKind.{ObjectKind}
+use Rattle.vc_terms.specs.declared.tree.ObjectKind.TheVariants.{Class, Material}
+use Rattle.vc_terms.specs.declared.tree.Alias.{Alias}
+use Rattle.vc_terms.specs.declared.tree.Object.{Object}
+use Rattle.vc_terms.specs.Trees.{Condition, Constraint}
 use Rattle.vc_print.specs.TermLexemes.{wrapped, operand_lexemes}
 use Rattle.vc_print.specs.ConditionLexemes.{separated, condition_lexemes}
 use Rattle.vc_print.specs.StatementLexemes.{restriction_lexemes}

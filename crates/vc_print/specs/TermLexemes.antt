@@ -8,16 +8,16 @@ use Rattle.vc_tokens.specs.declared.token.Dollar.{Dollar}
 use Rattle.vc_tokens.specs.declared.token.Dollar.TheVariants as dollars
 use Rattle.vc_tokens.specs.declared.token.Reserved.{Reserved}
 use Rattle.vc_tokens.specs.declared.token.Reserved.TheVariants as words
-use Rattle.vc_syntax.specs.declared.tree.NameLeaf.{NameLeaf}
-use Rattle.vc_syntax.specs.declared.tree.Owner.{Owner}
-use Rattle.vc_syntax.specs.declared.tree.Owner.TheVariants as owners
-use Rattle.vc_syntax.specs.declared.tree.Operand.{Operand}
-use Rattle.vc_syntax.specs.declared.tree.Operand.TheVariants as operands
-use Rattle.vc_syntax.specs.declared.tree.Operator.{Operator}
-use Rattle.vc_syntax.specs.declared.tree.Operator.TheVariants as operators
-use Rattle.vc_syntax.specs.declared.tree.Function.{Function}
-use Rattle.vc_syntax.specs.declared.tree.Function.TheVariants as functions
-use Rattle.vc_syntax.specs.Trees.{Term, Number, Text, Operand as Operand', Negated, Combined, Applied, SumOfParts, CountOfParts}
+use Rattle.vc_terms.specs.declared.tree.NameLeaf.{NameLeaf}
+use Rattle.vc_terms.specs.declared.tree.Owner.{Owner}
+use Rattle.vc_terms.specs.declared.tree.Owner.TheVariants as owners
+use Rattle.vc_terms.specs.declared.tree.Operand.{Operand}
+use Rattle.vc_terms.specs.declared.tree.Operand.TheVariants as operands
+use Rattle.vc_terms.specs.declared.tree.Operator.{Operator}
+use Rattle.vc_terms.specs.declared.tree.Operator.TheVariants as operators
+use Rattle.vc_terms.specs.declared.tree.Function.{Function}
+use Rattle.vc_terms.specs.declared.tree.Function.TheVariants as functions
+use Rattle.vc_terms.specs.Trees.{Term, Number, Text, Operand as Operand', Negated, Combined, Applied, SumOfParts, CountOfParts}
 
 -- something between parentheses
 abbrev pub wrapped : List Lexeme → List Lexeme

@@ -5,7 +5,7 @@ ghost use Rattle.vc_tokens.specs.declared.token.Lexeme.TheVariants as lexemes;
 ghost use Rattle.vc_tokens.specs.declared.token.Sign.TheVariants as signs;
 ghost use Rattle.vc_tokens.specs.declared.token.Reserved.TheVariants as words;
 ghost use Rattle.vc_tokens.specs.Lexemes.{lexeme_of_word};
-ghost use Rattle.vc_syntax.specs.Trees.{condition_of, restriction_of, constraint_of};
+ghost use Rattle.vc_terms.specs.Trees.{condition_of, restriction_of, constraint_of};
 ghost use Rattle.vc_print.specs.TermLexemes.{wrapped, operand_lexemes};
 ghost use Rattle.vc_print.specs.ConditionLexemes.{each_behind, separated};
 ghost use Rattle.vc_print.specs.StatementLexemes.{restriction_lexemes};
@@ -18,7 +18,7 @@ use crate::leaves::{
 use crate::statements::put_restrictions;
 use crate::terms::put_operand;
 use std::alloc::{AllocError, Global};
-use vc_syntax::tree::{
+use vc_terms::tree::{
     Alias, Condition, Constraint, NameLeaf, Object, ObjectKind, Operand, Restriction, TextLeaf,
 };
 use vc_tokens::token::{Lexeme, Reserved, Sign};

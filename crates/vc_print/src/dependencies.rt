@@ -3,8 +3,8 @@
 ghost use Rattle.std.specs.Prelude.{◌≡◌, ◌++◌, ℕ, List, IfOk, OnOk};
 ghost use Rattle.vc_tokens.specs.declared.fault.Kind.{Kind};
 ghost use Rattle.vc_syntax.specs.Spelled.{Spells};
-ghost use Rattle.vc_syntax.specs.Trees as trees;
-ghost use Rattle.vc_syntax.specs.Trees.{dependency_of};
+ghost use Rattle.vc_terms.specs.Trees as trees;
+ghost use Rattle.vc_terms.specs.Trees.{dependency_of};
 ghost use Rattle.vc_print.specs.DependencyLexemes as prints;
 ghost use Rattle.vc_print.specs.Places.{bare};
 
@@ -13,7 +13,7 @@ use crate::constraints::put_constraint;
 use crate::statements::put_statements;
 use crate::terms::put_term;
 use std::alloc::{AllocError, Global};
-use vc_syntax::tree::Dependency;
+use vc_terms::tree::Dependency;
 use vc_tokens::printing::text_of;
 use vc_tokens::token::Lexeme;
 use vc_value::{Listed, Word};

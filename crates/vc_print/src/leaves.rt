@@ -5,7 +5,7 @@ ghost use Rattle.vc_tokens.specs.Lexemes.{lexeme_of_word};
 ghost use Rattle.vc_tokens.specs.declared.token.Lexeme.TheVariants as lexemes;
 
 use std::alloc::{AllocError, Global};
-use vc_syntax::tree::{NameLeaf, TextLeaf};
+use vc_terms::tree::{NameLeaf, TextLeaf};
 use vc_tokens::lexing::lexeme_of_word;
 use vc_tokens::token::{Dollar, Lexeme, Reserved, Sign};
 use vc_value::{Dec, Listed, Word};

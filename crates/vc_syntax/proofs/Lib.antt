@@ -1,13 +1,6 @@
-pub mod Chains
-pub mod ConditionCompleteness
-pub mod ConditionSoundness
 pub mod ConstraintCompleteness
 pub mod ConstraintSoundness
 pub mod DependencyLaws
-pub mod Lists
 pub mod SpelledLaws
 pub mod StatementCompleteness
 pub mod StatementSoundness
-pub mod TermCompleteness
-pub mod TermSoundness
-pub mod TokenLaws

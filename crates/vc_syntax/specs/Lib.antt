@@ -1,15 +1,8 @@
-pub mod ConditionGrammar
-pub mod ConditionReading
 pub mod ConstraintGrammar
 pub mod ConstraintReading
 pub mod DependencyGrammar
 pub mod DependencyReading
 pub mod DependencyTexts
-pub mod Leaves
-pub mod Reading
 pub mod Spelled
 pub mod StatementGrammar
 pub mod StatementReading
-pub mod TermGrammar
-pub mod TermReading
-pub mod Trees

@@ -1,13 +1,9 @@
-//! The dependency language: the trees that texts are read as.
+//! The dependency language: each text read as the tree that its grammar gives it.
 #![tactic(auto)]
 
-pub mod conditions;
 pub mod constraints;
 pub mod dependencies;
-pub mod reading;
 pub mod statements;
-pub mod terms;
-pub mod tree;
 
 pub use vc_tokens::{Dollar, Kind, Lexeme, Reserved, Sign, SyntaxFault, SyntaxKind, Token};
 

@@ -1,6 +1,7 @@
 //! Texts and what they are read as.
 
 use crate::dependencies::read_dependency;
+use std::alloc::{AllocError, Global};
 use std::test::Fail;
 use vc_tokens::fault::{Kind, SyntaxFault, SyntaxKind};
 
@@ -31,30 +32,44 @@ const SPELLED: [(Kind, &str); 9] = [
     (Kind::Term, "3"),
 ];
 
-const FAULTS: [(Kind, &str, SyntaxKind, u32); 8] = [
-    (Kind::Selection, "SIZE = 'L", SyntaxKind::OpenText, 7),
-    (Kind::Selection, "A $FOO", SyntaxKind::UnknownWord, 2),
+// Each text as often as the number tells, with its fault and where.
+const FAULTS: [(Kind, &str, usize, SyntaxKind, u32); 12] = [
+    (Kind::Selection, "A = # B", 1, SyntaxKind::BadByte, 4),
+    (Kind::Selection, "SIZE = 'L", 1, SyntaxKind::OpenText, 7),
+    (Kind::Selection, "A $FOO", 1, SyntaxKind::UnknownWord, 2),
     (
         Kind::Selection,
         "X = 1234567890",
+        1,
         SyntaxKind::NumberTooWide,
         4,
     ),
-    (Kind::Selection, "A = # B", SyntaxKind::BadByte, 4),
+    (Kind::Procedure, "A = ''", 1, SyntaxKind::TextTooLong, 4),
+    (
+        Kind::Constraint,
+        "A = ?a234567890123456789012345678901",
+        1,
+        SyntaxKind::NameTooLong,
+        4,
+    ),
+    (Kind::Term, "+", 4_001, SyntaxKind::TooLong, 0),
+    (Kind::Selection, "(", 33, SyntaxKind::TooDeep, 0),
     (
         Kind::Selection,
         "SIZE = 'L' AND",
+        1,
         SyntaxKind::NotADependency,
         0,
     ),
-    (Kind::Selection, "", SyntaxKind::NotADependency, 0),
-    (Kind::Selection, "(A) IN (1)", SyntaxKind::NotADependency, 0),
+    (Kind::Selection, "", 1, SyntaxKind::NotADependency, 0),
     (
         Kind::Selection,
-        "(((((((((((((((((((((((((((((((((",
-        SyntaxKind::TooDeep,
+        "(A) IN (1)",
+        1,
+        SyntaxKind::NotADependency,
         0,
     ),
+    (Kind::Term, "+", 4_000, SyntaxKind::NotADependency, 0),
 ];
 
 #[test]
@@ -65,13 +80,29 @@ fn texts_are_read(rt: HostRuntime) -> Result<(), Fail> {
     Ok(())
 }
 
+fn repeated(alloc: Global, text: &str, times: usize) -> Result<Vec<u8>, AllocError> {
+    let mut all = Vec::new(alloc);
+    for _ in 0..times {
+        all.extend_from_slice(text.as_bytes())?;
+    }
+    Ok(all)
+}
+
+fn fault_of(alloc: Global, text: &[u8], kind: Kind) -> Option<(SyntaxKind, u32)> {
+    if text.len() >= 5_000 {
+        return None;
+    }
+    match read_dependency(alloc, text, kind) {
+        Err(SyntaxFault::Bad { kind, at }) => Some((kind, at)),
+        _ => None,
+    }
+}
+
 #[test]
 fn faults_are_told(rt: HostRuntime) -> Result<(), Fail> {
-    for (kind, text, fault, at) in FAULTS.iter() {
-        let told = match read_dependency(rt.alloc(), text.as_bytes(), *kind) {
-            Err(SyntaxFault::Bad { kind, at }) => Some((kind, at)),
-            _ => None,
-        };
+    for (kind, text, times, fault, at) in FAULTS.iter() {
+        let text = repeated(rt.alloc(), text, *times)?;
+        let told = fault_of(rt.alloc(), text.as_slice(), *kind);
         assert!(rt; told == Some((*fault, *at)));
     }
     Ok(())

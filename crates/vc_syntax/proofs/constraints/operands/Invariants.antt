@@ -1,6 +1,6 @@
 use Rattle.std.proofs.Common.{◌≡◌, length}
-use Rattle.vc_syntax.specs.TermReading as terms
-use Rattle.vc_syntax.specs.Reading.{append, single, sign, chained, listed}
+use Rattle.vc_terms.specs.TermReading as terms
+use Rattle.vc_terms.specs.Reading.{append, single, sign, chained, listed}
 use Rattle.vc_tokens.specs.declared.token.Sign.TheVariants as signs
 use Rattle.vc_syntax.proofs.constraints.operands.Given as goal
 

@@ -3,7 +3,7 @@ use Rattle.std.proofs.Common.{Result, Ok, Err, subst}
 use Rattle.vc_tokens.specs.declared.fault.SyntaxFault.{SyntaxFault}
 use Rattle.vc_tokens.specs.declared.fault.SyntaxFault.TheVariants.{Bad}
 use Rattle.vc_syntax.specs.DependencyTexts.{Answers}
-use Rattle.vc_syntax.specs.Trees.{Dependency, dependency_of}
+use Rattle.vc_terms.specs.Trees.{Dependency, dependency_of}
 use Rattle.vc_syntax.proofs.SpelledLaws.{answers_spell, answers_tell, spelled_is_found, fault_is_found}
 use Rattle.vc_syntax.proofs.dependencies.read_dependency.Goals as goal
 

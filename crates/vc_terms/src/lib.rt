@@ -1,0 +1,9 @@
+//! The trees of dependencies, and how terms and conditions are read from tokens.
+#![tactic(auto)]
+
+pub mod conditions;
+pub mod reading;
+pub mod terms;
+#[cfg(test)]
+mod tests;
+pub mod tree;
