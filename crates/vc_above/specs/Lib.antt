@@ -1,0 +1,7 @@
+pub mod Above
+pub mod Entries
+pub mod Names
+pub mod Naming
+pub mod Recursions
+pub mod Stands
+pub mod Tells

@@ -1,0 +1,11 @@
+pub mod First
+pub mod Kinds
+pub mod Limits
+pub mod Looks
+pub mod Misplaced
+pub mod Misspelled
+pub mod Trees
+pub mod Twice
+pub mod Unknown
+pub mod Values
+pub mod Words

@@ -1,0 +1,14 @@
+//! The parts of a model as plain data, and what the files of its tables must have.
+#![tactic(auto)]
+
+pub mod headers;
+pub mod parts;
+
+pub use headers::{header, table_count, table_file};
+pub use parts::{
+    BillItem, Characteristic, Class, Component, Model, NamedDependency, Net, NumberValue, Object,
+    Operation, Table, TableColumn, TextValue, Values,
+};
+
+#[cfg(test)]
+mod tests;
