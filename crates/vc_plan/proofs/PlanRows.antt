@@ -1,5 +1,6 @@
 -- Worked rows of plans, by computing. Beside what is so stands what would be so by a likely slip, and isn't.
 pub mod Comparisons
+pub mod Facts
 pub mod Lines
 pub mod Models
 pub mod Numbers
@@ -11,3 +12,4 @@ pub mod StepModel
 pub mod Tables
 pub mod Truths
 pub mod Validity
+pub mod WholeModels
