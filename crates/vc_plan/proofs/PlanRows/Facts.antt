@@ -151,6 +151,10 @@ facts plan =
 abbrev pub broken : Plan → List (List ℕ)
 broken plan = failing (facts plan)
 
+-- it breaks this one alone
+abbrev pub Breaks : List ℕ → Plan → Type 0
+Breaks name plan = broken plan ≡ name ∷ []
+
 -- all of a list hold
 abbrev pub Hold : List Fact → Type 0
 Hold [] = Unit {0}
