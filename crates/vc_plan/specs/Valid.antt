@@ -11,7 +11,7 @@ use Rattle.vc_plan.specs.declared.procedures.Statement.{Statement}
 use Rattle.vc_plan.specs.declared.terms.Term.{Term}
 use Rattle.vc_plan.specs.Alike.{are_of_one_domain, sets_of_one_domain, is_proper, have_one_bill, have_one_routing, lines_at, operations_at}
 use Rattle.vc_plan.specs.Bounds.{cell_bound}
-use Rattle.vc_plan.specs.Classes.{has_its_vars, has_its_sets, are_procedures_in_order, are_guards_in_order}
+use Rattle.vc_plan.specs.Classes.{has_sets, has_its_vars, has_its_sets, are_procedures_in_order, are_guards_in_order}
 use Rattle.vc_plan.specs.Cuts.{is_cut}
 use Rattle.vc_plan.specs.Domains.{numbers_below, grains_in, texts_in, count_of, atom_count}
 use Rattle.vc_plan.specs.Lists.{has_its_list, has_its_texts, are_listed}
@@ -115,7 +115,11 @@ pub record IsValid (plan : Plan) : Type 0 where
   pub whole : list_all (has_its_list plan) plan.vars ≡ true
   pub cut : each_var plan (is_cut plan) ≡ true
   pub set_texts : list_all (has_its_texts plan) plan.sets ≡ true
+  -- tables: columns of different characteristics, which have no sets, and cells of their lists; keys once, where there are any
+  pub table_columns : list_all (λ table. are_apart (λ a b. a.characteristic == b.characteristic) table.columns) plan.tables ≡ true
+  pub single_columns : list_all (λ table. list_all (λ c. not (has_sets plan c.characteristic)) table.columns) plan.tables ≡ true
   pub cells : list_all (λ table. list_all (are_listed plan table.columns) table.rows) plan.tables ≡ true
+  pub keys : list_all keys_apart plan.tables ≡ true
   -- rules: at their slots, none twice, one Last a variable, a Line for each slot but the root
   pub own_slots : list_all (stays_at_its_slots plan) plan.rules ≡ true
   pub numbered : list_all is_numbered plan.rules ≡ true
@@ -140,10 +144,9 @@ pub record IsValid (plan : Plan) : Type 0 where
   pub sums_meant : list_all (sums_numbers plan) plan.terms ≡ true
   pub terms_small : list_all (is_small plan) plan.terms ≡ true
   pub conditions_small : list_all (condition_small plan) plan.conditions ≡ true
-  -- procedures write at their own slot, and look up by all keys; tables with keys have them once
+  -- procedures write at their own slot, and look up by all keys
   pub own_writes : list_all (writes_own plan) plan.procedures ≡ true
   pub look_ups : each_statement plan (λ statement. action_proper plan statement.action) ≡ true
-  pub keys : list_all keys_apart plan.tables ≡ true
   -- what stands at a value stands at one of its list
   pub triggers : list_all (λ procedure. trigger_listed plan procedure.slot procedure.trigger) plan.procedures ≡ true
   pub guards : list_all (guard_listed plan) plan.guards ≡ true

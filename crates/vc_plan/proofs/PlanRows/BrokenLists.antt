@@ -8,10 +8,10 @@ use Rattle.vc_value.specs.declared.table_header.Domain.TheVariants.{Texts, Nums}
 use Rattle.vc_value.specs.declared.value.Value.TheVariants.{Text}
 use Rattle.vc_plan.specs.declared.plans.Plan.{Plan}
 use Rattle.vc_plan.proofs.PlanRows.Facts.{Breaks, broken}
-use Rattle.vc_plan.proofs.PlanRows.Models.{from_to}
+use Rattle.vc_plan.proofs.PlanRows.Models.{from_to, last}
 use Rattle.vc_plan.proofs.PlanRows.SmallModels.{bare, box, length_at, options_at, screw, cutting, keyed, keyed_table}
 use Rattle.vc_plan.proofs.PlanRows.StepModel.{flow_grains}
-use Rattle.vc_plan.proofs.PlanRows.WholeModels.{listed, piece_line, whole_ring, whole_step}
+use Rattle.vc_plan.proofs.PlanRows.WholeModels.{listed, piece_line, plain, whole_ring, whole_step}
 
 -- the lengths of two lids with a domain each, and one of them open to the net
 abbrev three_domains : List Domain
@@ -112,6 +112,16 @@ cut_once p = refl
 -- options of which one isn't listed with the characteristic, and numbers for options
 fewer_texts : Breaks (codes "set_texts") (record box { domains = Nums 0 (from_to 1 9 ∷ []) ∷ Texts (0 ∷ []) ∷ [] })
 fewer_texts = refl
+
+-- a table with two columns of one characteristic, and one with a column of options
+a_column_twice : Breaks (codes "table_columns") (record whole_ring {
+  rules = last 0 ∷ last 1 ∷ last 2 ∷ [];
+  tables = record { name = codes "AB"; columns = plain 1 ∷ plain 2 ∷ plain 1 ∷ []; rows = [] } ∷ [];
+})
+a_column_twice = refl
+
+options_in_table : Breaks (codes "single_columns") (record box { tables = record { name = codes "T"; columns = plain 1 ∷ []; rows = [] } ∷ [] })
+options_in_table = refl
 
 -- a cell that is no value of its column's list
 unlisted_cell : Breaks (codes "cells") (record keyed { tables = keyed_table ((Text 0 ∷ Text 1 ∷ []) ∷ []) ∷ [] })

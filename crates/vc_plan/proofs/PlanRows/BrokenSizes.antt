@@ -1,16 +1,16 @@
 -- Plans that pass one limit, and those that stand at it.
-use Rattle.std.proofs.Common.{◌≡◌, ℕ, ◌<◌, [], ◌∷◌, replicate, refl, arith}
+use Rattle.std.proofs.Common.{◌≡◌, ℕ, ◌<◌, [], ◌∷◌, map, replicate, refl, arith}
 use Rattle.std.proofs.lemmas.Bool.{leb-true}
 use Rattle.std.specs.Prelude.{codes}
 use Rattle.vc_value.specs.declared.table_header.Domain.TheVariants.{Texts}
 use Rattle.vc_plan.specs.declared.plans.Plan.{Plan}
 use Rattle.vc_plan.specs.declared.plans.Table.{Table}
 use Rattle.vc_plan.specs.Bounds.{cell_bound}
-use Rattle.vc_plan.specs.Domains.{atom_count}
+use Rattle.vc_plan.specs.Domains.{numbers_below, atom_count}
 use Rattle.vc_plan.specs.Valid.{IsValid}
 use Rattle.vc_plan.proofs.PlanRows.Facts.{Breaks, broken}
 use Rattle.vc_plan.proofs.PlanRows.Models.{fixed_var, last}
-use Rattle.vc_plan.proofs.PlanRows.SmallModels.{bare, chain, wheel, cutting}
+use Rattle.vc_plan.proofs.PlanRows.SmallModels.{bare, chain, material, wheel, cutting}
 use Rattle.vc_plan.proofs.PlanRows.WholeModels.{listed, object, plain, piece_line}
 
 -- four levels of slots, and five; forty slots, and forty-one
@@ -23,8 +23,8 @@ forty_one_slots = refl
 -- a table of 21 columns, and of 20
 abbrev columned : ℕ → Plan
 columned n = record bare {
-  characteristics = listed (codes "W") (Texts []) ∷ [];
-  tables = record { name = codes "T"; columns = replicate n (plain 0); rows = [] } ∷ [];
+  characteristics = map (λ c. listed (material c) (Texts [])) (numbers_below n);
+  tables = record { name = codes "T"; columns = map plain (numbers_below n); rows = [] } ∷ [];
 }
 
 twenty_columns : broken (columned 20) ≡ []

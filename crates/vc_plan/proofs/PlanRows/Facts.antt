@@ -9,7 +9,7 @@ use Rattle.vc_value.specs.Words.{same_bytes}
 use Rattle.vc_plan.specs.declared.plans.Plan.{Plan}
 use Rattle.vc_plan.specs.Alike.{are_of_one_domain, sets_of_one_domain, is_proper, have_one_bill, have_one_routing, lines_at, operations_at}
 use Rattle.vc_plan.specs.Bounds.{cell_bound}
-use Rattle.vc_plan.specs.Classes.{has_its_vars, has_its_sets, are_procedures_in_order, are_guards_in_order}
+use Rattle.vc_plan.specs.Classes.{has_sets, has_its_vars, has_its_sets, are_procedures_in_order, are_guards_in_order}
 use Rattle.vc_plan.specs.Cuts.{is_cut}
 use Rattle.vc_plan.specs.Domains.{numbers_below, grains_in, texts_in, count_of, atom_count}
 use Rattle.vc_plan.specs.Lists.{has_its_list, has_its_texts, are_listed}
@@ -63,7 +63,8 @@ facts plan =
     ∷ fact (codes "below") (list_all (λ slot. is_below plan slot slot.parent) (drop 1 plan.slots))
     ∷ fact (codes "preorder") (each_slot plan (follows_in_preorder plan))
     ∷ fact (codes "items") (are_in_order is_item_before plan.slots)
-    ∷ fact (codes "line_slots") (list_all (λ l. has_its_slots plan l (slice_get plan.lines l)) (numbers_below (length plan.lines)))
+    ∷ fact (codes "line_slots")
+    (list_all (λ l. has_its_slots plan l (slice_get plan.lines l)) (numbers_below (length plan.lines)))
     ∷ fact (codes "line_selections") (list_all (leaves_selections plan) plan.lines)
     ∷ fact (codes "classes") (list_all (λ object. are_apart (λ c d. c == d) object.characteristics) plan.objects)
     ∷ fact (codes "class_vars") (each_slot plan (has_its_vars plan))
@@ -80,7 +81,12 @@ facts plan =
     ∷ fact (codes "whole") (list_all (has_its_list plan) plan.vars)
     ∷ fact (codes "cut") (each_var plan (is_cut plan))
     ∷ fact (codes "set_texts") (list_all (has_its_texts plan) plan.sets)
+    ∷ fact (codes "table_columns")
+    (list_all (λ table. are_apart (λ a b. a.characteristic == b.characteristic) table.columns) plan.tables)
+    ∷ fact (codes "single_columns")
+    (list_all (λ table. list_all (λ c. not (has_sets plan c.characteristic)) table.columns) plan.tables)
     ∷ fact (codes "cells") (list_all (λ table. list_all (are_listed plan table.columns) table.rows) plan.tables)
+    ∷ fact (codes "keys") (list_all keys_apart plan.tables)
     ∷ fact (codes "own_slots") (list_all (stays_at_its_slots plan) plan.rules)
     ∷ fact (codes "numbered") (list_all is_numbered plan.rules)
     ∷ fact (codes "rules_once") (are_apart are_one_rule plan.rules)
@@ -105,7 +111,6 @@ facts plan =
     ∷ fact (codes "conditions_small") (list_all (condition_small plan) plan.conditions)
     ∷ fact (codes "own_writes") (list_all (writes_own plan) plan.procedures)
     ∷ fact (codes "look_ups") (each_statement plan (λ statement. action_proper plan statement.action))
-    ∷ fact (codes "keys") (list_all keys_apart plan.tables)
     ∷ fact (codes "triggers") (list_all (λ procedure. trigger_listed plan procedure.slot procedure.trigger) plan.procedures)
     ∷ fact (codes "guards") (list_all (guard_listed plan) plan.guards)
     ∷ fact (codes "lines_in_order") (are_in_order is_line_before plan.lines)
@@ -120,7 +125,8 @@ facts plan =
     ∷ fact (codes "table_names") (list_all (λ table. is_upper_name table.name) plan.tables)
     ∷ fact (codes "materials") (list_all (λ object. is_material object.material) plan.objects)
     ∷ fact (codes "line_words") (list_all (λ line. is_material line.material && is_material line.unit) plan.lines)
-    ∷ fact (codes "operation_words") (list_all (λ operation. is_upper_name operation.name && is_material operation.unit) plan.operations)
+    ∷ fact (codes "operation_words")
+    (list_all (λ operation. is_upper_name operation.name && is_material operation.unit) plan.operations)
     ∷ fact (codes "line_items") (list_all (λ line. is_four_digits line.item) plan.lines)
     ∷ fact (codes "operation_numbers") (list_all (λ operation. is_four_digits operation.number) plan.operations)
     ∷ fact (codes "texts") (list_all is_text plan.texts)
