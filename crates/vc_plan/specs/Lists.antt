@@ -59,7 +59,7 @@ is_cut_from (Some list) None = false
 is_cut_from (Some (Texts texts)) (Some (Texts others)) = same_numbers texts others
 is_cut_from (Some (Texts texts)) (Some (Nums decimals grains)) = false
 is_cut_from (Some (Nums decimals entries)) (Some (Texts others)) = false
-is_cut_from (Some (Nums decimals entries)) (Some (Nums others grains)) = (decimals == others) && are_cut_up decimals entries grains
+is_cut_from (Some (Nums decimals entries)) (Some (Nums digits grains)) = (decimals == digits) && are_cut_up decimals entries grains
 
 -- whether a variable's domain is, and whether a set's texts are its characteristic's
 abbrev pub has_its_list : Plan → Var → Bool

@@ -28,7 +28,8 @@ pub record ChooseAlike (users others : Users) : Type 0 where
 
 -- what the user chose decides the evaluation, all of it
 abbrev pub UsersDecide : Type 0
-UsersDecide = (plan : Plan) (users others : Users) → ChooseAlike users others → evaluation_of plan users ≡ evaluation_of plan others
+UsersDecide = (plan : Plan) (users others : Users) → ChooseAlike users others
+    → evaluation_of plan users ≡ evaluation_of plan others
 
 -- where each procedure writes at its own slot, those of a stage leave all variables of other slots alone
 abbrev pub StagesWriteTheirOwn : Type 0
@@ -53,7 +54,8 @@ ComponentsAreTakenWhereHere = (plan : Plan) (seen : Seen) (reading : Reading) (n
 
 -- in a valid plan each slot comes after its parent
 abbrev pub ParentsComeFirst : Type 0
-ParentsComeFirst = (plan : Plan) → IsValid plan → (i p : ℕ) (slot : Slot) → slice_get plan.slots i ≡ Some slot → slot.parent ≡ Some p → p < i
+ParentsComeFirst = (plan : Plan) → IsValid plan → (i p : ℕ) (slot : Slot) → slice_get plan.slots i ≡ Some slot
+    → slot.parent ≡ Some p → p < i
 
 -- the own bill of a bill line's component, one level deeper; none where the line isn't configurable
 abbrev pub component_bill : Plan → Seen → Reading → BillLine → List BillLine
@@ -67,19 +69,23 @@ IsNoDeeper level (row ∷ rows) = row.level ≤ level
 -- in the bill of a valid plan each line is followed at once by its component's own bill, and that by no deeper line: a
 -- component's whole bill stands before its owner's next line
 abbrev pub ComponentsFollow : Type 0
-ComponentsFollow = (plan : Plan) → IsValid plan → (seen : Seen) (reading : Reading) (before after : List BillLine) (row : BillLine)
+ComponentsFollow = (plan : Plan) → IsValid plan
+    → (seen : Seen) (reading : Reading) (before after : List BillLine) (row : BillLine)
     → bill_of plan seen reading ≡ before ++ row ∷ after
     → (rest : List BillLine) × (after ≡ component_bill plan seen reading row ++ rest) × IsNoDeeper row.level rest
 
 -- an instance's bill has at its level the lines that are taken, in item order, and else deeper ones
 pub record HasOwnLines (plan : Plan) (seen : Seen) (reading : Reading) (level i : ℕ) : Type 0 where
-  pub own : filter (λ row. row.level == level) (own_bill plan seen reading level i) ≡ map (bill_line plan reading level i) (lines_of plan seen reading i)
+  pub own : filter (λ row. row.level == level) (own_bill plan seen reading level i)
+      ≡ map (bill_line plan reading level i) (lines_of plan seen reading i)
   pub deeper : list_all (λ row. nat_le level row.level) (own_bill plan seen reading level i) ≡ true
 
 abbrev pub OwnLinesInOrder : Type 0
-OwnLinesInOrder = (plan : Plan) → 0 < length plan.slots → (seen : Seen) (reading : Reading) (level i : ℕ) → HasOwnLines plan seen reading level i
+OwnLinesInOrder = (plan : Plan) → 0 < length plan.slots → (seen : Seen) (reading : Reading) (level i : ℕ)
+    → HasOwnLines plan seen reading level i
 
 -- to the bill of a slot of a valid plan more levels than there are slots add nothing
 abbrev pub LevelsSuffice : Type 0
 LevelsSuffice = (plan : Plan) → IsValid plan → (seen : Seen) (reading : Reading) (levels level i : ℕ)
-    → length plan.slots ≤ levels → i < length plan.slots → bill_from plan seen reading levels level i ≡ own_bill plan seen reading level i
+    → length plan.slots ≤ levels → i < length plan.slots
+    → bill_from plan seen reading levels level i ≡ own_bill plan seen reading level i

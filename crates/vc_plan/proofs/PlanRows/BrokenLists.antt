@@ -20,17 +20,23 @@ three_domains = Nums 0 (from_to 1 9 ∷ []) ∷ Texts (0 ∷ 1 ∷ []) ∷ Nums 
 two_domains : Breaks (codes "one_domain") (record box { domains = three_domains; vars = length_at 1 0 ∷ length_at 2 2 ∷ [] })
 two_domains = refl
 
-open_once : Breaks (codes "one_domain") (record box { vars = length_at 1 0 ∷ record (length_at 2 0) { restrictable = true } ∷ [] })
+open_once : Breaks (codes "one_domain")
+    (record box { vars = length_at 1 0 ∷ record (length_at 2 0) { restrictable = true } ∷ [] })
 open_once = refl
 
 two_text_lists : Breaks (codes "one_text_list")
-    (record box { domains = Nums 0 (from_to 1 9 ∷ []) ∷ Texts (0 ∷ 1 ∷ []) ∷ Texts (0 ∷ 1 ∷ []) ∷ []; sets = options_at 1 1 ∷ options_at 2 2 ∷ [] })
+    (record box {
+      domains = Nums 0 (from_to 1 9 ∷ []) ∷ Texts (0 ∷ 1 ∷ []) ∷ Texts (0 ∷ 1 ∷ []) ∷ [];
+      sets = options_at 1 1 ∷ options_at 2 2 ∷ [];
+    })
 two_text_lists = refl
 
 -- a second lid with a nail in place of the screw, and with no line
 nail : Breaks (codes "one_bill")
     (record box {
-      lines = piece_line 10 (codes "LID") 0 [] ∷ piece_line 20 (codes "LID") 0 [] ∷ screw 1 ∷ record (screw 2) { material = codes "NAIL" } ∷ [];
+      lines =
+          piece_line 10 (codes "LID") 0 [] ∷ piece_line 20 (codes "LID") 0 [] ∷ screw 1
+          ∷ record (screw 2) { material = codes "NAIL" } ∷ [];
     })
 nail = refl
 
@@ -70,7 +76,8 @@ lengths list domain = record box {
   domains = domain ∷ Texts (0 ∷ 1 ∷ []) ∷ [];
 }
 
-cut_lengths : broken (lengths (Nums 0 (from_to 1 9 ∷ from_to 10 20 ∷ [])) (Nums 0 (from_to 1 4 ∷ from_to 5 5 ∷ from_to 6 9 ∷ from_to 10 20 ∷ []))) ≡ []
+cut_lengths : broken
+    (lengths (Nums 0 (from_to 1 9 ∷ from_to 10 20 ∷ [])) (Nums 0 (from_to 1 4 ∷ from_to 5 5 ∷ from_to 6 9 ∷ from_to 10 20 ∷ []))) ≡ []
 cut_lengths = refl
 
 no_length : Breaks (codes "some_grain") (lengths (Nums 0 []) (Nums 0 []))
@@ -101,7 +108,9 @@ other_decimals = refl
 
 -- FLOW, which is compared with 5 and with 10, uncut; and cut at 5 alone
 uncut : (p : Box (Unit {0}) Global) → Breaks (codes "cut")
-    (record (whole_step p) { domains = Nums 0 (from_to 0 0 ∷ from_to 1 1 ∷ from_to 2 2 ∷ from_to 3 50 ∷ []) ∷ Nums 1 (from_to 0 100 ∷ []) ∷ [] })
+    (record (whole_step p) {
+      domains = Nums 0 (from_to 0 0 ∷ from_to 1 1 ∷ from_to 2 2 ∷ from_to 3 50 ∷ []) ∷ Nums 1 (from_to 0 100 ∷ []) ∷ [];
+    })
 uncut p = refl
 
 -- STEPS, which a restriction compares with 1 and with 2, cut at 1 alone
@@ -120,7 +129,8 @@ a_column_twice : Breaks (codes "table_columns") (record whole_ring {
 })
 a_column_twice = refl
 
-options_in_table : Breaks (codes "single_columns") (record box { tables = record { name = codes "T"; columns = plain 1 ∷ []; rows = [] } ∷ [] })
+options_in_table : Breaks (codes "single_columns")
+    (record box { tables = record { name = codes "T"; columns = plain 1 ∷ []; rows = [] } ∷ [] })
 options_in_table = refl
 
 -- a cell that is no value of its column's list

@@ -62,7 +62,8 @@ key_missing : Breaks (codes "look_ups")
 key_missing = refl
 
 -- two rows of one key, and two without keys
-same_key : Breaks (codes "keys") (record keyed { tables = keyed_table ((Text 1 ∷ Text 1 ∷ []) ∷ (Text 1 ∷ Text 2 ∷ []) ∷ []) ∷ [] })
+same_key : Breaks (codes "keys")
+    (record keyed { tables = keyed_table ((Text 1 ∷ Text 1 ∷ []) ∷ (Text 1 ∷ Text 2 ∷ []) ∷ []) ∷ [] })
 same_key = refl
 
 without_keys : broken (record whole_ring {
@@ -103,25 +104,33 @@ at_drive's_value = refl
 abbrev guard : Named → Piece → Guard
 guard at piece = record { at = at; value = Some piece; dependency = 0; condition = 0 }
 
-at_entry : (p : Box (Unit {0}) Global) → broken (record (whole_step p) { guards = guard (Var 1) (Stretch (from_to 0 100)) ∷ [] }) ≡ []
+at_entry : (p : Box (Unit {0}) Global)
+    → broken (record (whole_step p) { guards = guard (Var 1) (Stretch (from_to 0 100)) ∷ [] }) ≡ []
 at_entry p = refl
 
-at_half : (p : Box (Unit {0}) Global) → Breaks (codes "guards") (record (whole_step p) { guards = guard (Var 1) (Stretch (from_to 0 50)) ∷ [] })
+at_half : (p : Box (Unit {0}) Global) → Breaks (codes "guards")
+    (record (whole_step p) { guards = guard (Var 1) (Stretch (from_to 0 50)) ∷ [] })
 at_half p = refl
 
-at_grain : (p : Box (Unit {0}) Global) → Breaks (codes "guards") (record (whole_step p) { guards = guard (Var 1) (Stretch (from_to 5 5)) ∷ [] })
+at_grain : (p : Box (Unit {0}) Global) → Breaks (codes "guards")
+    (record (whole_step p) { guards = guard (Var 1) (Stretch (from_to 5 5)) ∷ [] })
 at_grain p = refl
 
 at_color : Breaks (codes "guards") (record whole_paint { guards = guard (Var 2) (OneText 0) ∷ [] })
 at_color = refl
 
 -- lines and operations out of order, or of one number
+abbrev gear_items : ℕ → ℕ → ℕ → Plan
+gear_items a b c = record whole_gear {
+  lines = piece_line a (codes "P1") 0 [] ∷ piece_line b (codes "P2") 1 [] ∷ piece_line c (codes "P3") 0 [] ∷ [];
+}
+
 later_item_first : Breaks (codes "lines_in_order")
-    (record whole_gear { lines = piece_line 20 (codes "P1") 0 [] ∷ piece_line 10 (codes "P2") 1 [] ∷ piece_line 30 (codes "P3") 0 [] ∷ [] })
+    (gear_items 20 10 30)
 later_item_first = refl
 
 same_item : Breaks (codes "lines_in_order")
-    (record whole_gear { lines = piece_line 10 (codes "P1") 0 [] ∷ piece_line 10 (codes "P2") 1 [] ∷ piece_line 30 (codes "P3") 0 [] ∷ [] })
+    (gear_items 10 10 30)
 same_item = refl
 
 second_lid_first : Breaks (codes "operations_in_order") (record box { operations = cutting 2 10 ∷ cutting 1 10 ∷ [] })
@@ -143,14 +152,17 @@ abbrev anyway : Procedure
 anyway = profile 1 (says (SetDefault 0 0) 0 ∷ [])
 
 in_order : broken
-    (in_order_of (anyway ∷ at_value (ValueIn 1 (OneText 3)) ∷ at_value (ValueIn 1 (OneText 4)) ∷ at_value (ValueIn 2 (OneText 5)) ∷ at_value (TextIn 0 7) ∷ []))
+    (in_order_of
+    (anyway ∷ at_value (ValueIn 1 (OneText 3)) ∷ at_value (ValueIn 1 (OneText 4)) ∷ at_value (ValueIn 2 (OneText 5))
+    ∷ at_value (TextIn 0 7) ∷ []))
     ≡ []
 in_order = refl
 
 value_first : Breaks (codes "procedures_in_order") (in_order_of (at_value (ValueIn 1 (OneText 3)) ∷ anyway ∷ []))
 value_first = refl
 
-later_value_first : Breaks (codes "procedures_in_order") (in_order_of (at_value (ValueIn 1 (OneText 4)) ∷ at_value (ValueIn 1 (OneText 3)) ∷ []))
+later_value_first : Breaks (codes "procedures_in_order")
+    (in_order_of (at_value (ValueIn 1 (OneText 4)) ∷ at_value (ValueIn 1 (OneText 3)) ∷ []))
 later_value_first = refl
 
 later_characteristic_first : Breaks (codes "procedures_in_order")
@@ -168,7 +180,9 @@ abbrev guarded : List Guard → Plan
 guarded guards = record whole_paint { guards = guards }
 
 guards_in_order : broken
-    (guarded (own_guard (Var 0) ∷ own_guard (Var 2) ∷ guard (Var 2) (OneText 5) ∷ guard (Var 2) (OneText 6) ∷ guard (Set 0) (OneText 7) ∷ [])) ≡ []
+    (guarded
+    (own_guard (Var 0) ∷ own_guard (Var 2) ∷ guard (Var 2) (OneText 5) ∷ guard (Var 2) (OneText 6) ∷ guard (Set 0) (OneText 7) ∷ []))
+    ≡ []
 guards_in_order = refl
 
 value's_first : Breaks (codes "guards_in_order") (guarded (guard (Var 2) (OneText 5) ∷ own_guard (Var 2) ∷ []))

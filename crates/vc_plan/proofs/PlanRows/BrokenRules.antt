@@ -40,14 +40,17 @@ inferred_twice : Breaks (codes "own_slots") (with_rules (record a_is_1 { inferre
 inferred_twice = refl
 
 -- one that belongs to no constraint, with all that follows of that
-no_constraint : broken (with_rules (record a_is_1 { dependency = None; number = 0 } ∷ [])) ≡ codes "own_slots" ∷ codes "asked_by_right" ∷ []
+no_constraint : broken (with_rules (record a_is_1 { dependency = None; number = 0 } ∷ []))
+    ≡ codes "own_slots" ∷ codes "asked_by_right" ∷ []
 no_constraint = refl
 
 -- a Last with a slot, and one that infers its variable
-last_with_slot : Breaks (codes "own_slots") (record whole_ring { rules = last 0 ∷ last 1 ∷ record (last 2) { slots = 0 ∷ [] } ∷ [] })
+last_with_slot : Breaks (codes "own_slots")
+    (record whole_ring { rules = last 0 ∷ last 1 ∷ record (last 2) { slots = 0 ∷ [] } ∷ [] })
 last_with_slot = refl
 
-inferring_last : Breaks (codes "own_slots") (record whole_ring { rules = last 0 ∷ last 1 ∷ record (last 2) { inferred = 2 ∷ [] } ∷ [] })
+inferring_last : Breaks (codes "own_slots")
+    (record whole_ring { rules = last 0 ∷ last 1 ∷ record (last 2) { inferred = 2 ∷ [] } ∷ [] })
 inferring_last = refl
 
 -- the lid at slot 1 is as long as that at slot 2, which isn't among the rule's slots; and the first is inferred at the second's
@@ -137,7 +140,8 @@ two_lasts : Breaks (codes "lasts") (record whole_ring { rules = last 0 ∷ last 
 two_lasts = refl
 
 -- a Last that asks something, one that is of a constraint, and a Line that asks without a selection condition
-asking_last : Breaks (codes "asked_by_right") (record whole_ring { rules = last 0 ∷ last 1 ∷ record (last 2) { condition = 1 } ∷ [] })
+asking_last : Breaks (codes "asked_by_right")
+    (record whole_ring { rules = last 0 ∷ last 1 ∷ record (last 2) { condition = 1 } ∷ [] })
 asking_last = refl
 
 last_of_constraint : Breaks (codes "asked_by_right") (record whole_ring { rules = last 0 ∷ last 1 ∷ of 0 1 (last 2) ∷ [] })

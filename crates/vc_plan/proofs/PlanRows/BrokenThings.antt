@@ -47,7 +47,7 @@ var_nowhere : Breaks (codes "vars_there")
 var_nowhere = refl
 
 set_nowhere : Breaks (codes "sets_there")
-    (record whole_paint { sets = record { slot = 0; characteristic = 3; domain = 3 } ∷ record { slot = 1; characteristic = 3; domain = 3 } ∷ [] })
+    (record whole_paint { sets = record (options_at 0 3) { characteristic = 3 } ∷ record (options_at 1 3) { characteristic = 3 } ∷ [] })
 set_nowhere = refl
 
 -- a domain that no variable has, of a text that isn't there
@@ -75,13 +75,15 @@ restricted_to_nothing : Breaks (codes "rules_there")
     (record whole_ring { rules = rule 0 (1 ∷ []) (Among 1 (Against Equal (Text 3))) ∷ last 0 ∷ last 1 ∷ last 2 ∷ [] })
 restricted_to_nothing = refl
 
-procedure_without_name : Breaks (codes "procedures_there") (record whole_paint { procedures = profile 4 (says (Assign 0 0) 0 ∷ []) ∷ [] })
+procedure_without_name : Breaks (codes "procedures_there")
+    (record whole_paint { procedures = profile 4 (says (Assign 0 0) 0 ∷ []) ∷ [] })
 procedure_without_name = refl
 
 line_nowhere : Breaks (codes "lines_there") (record whole_paint { lines = stripe ∷ record stripe { slot = 1 } ∷ [] })
 line_nowhere = refl
 
-operation_nowhere : Breaks (codes "operations_there") (record box { operations = cutting 1 10 ∷ cutting 2 10 ∷ cutting 3 10 ∷ [] })
+operation_nowhere : Breaks (codes "operations_there")
+    (record box { operations = cutting 1 10 ∷ cutting 2 10 ∷ cutting 3 10 ∷ [] })
 operation_nowhere = refl
 
 guard_without_name : Breaks (codes "guards_there")
@@ -119,17 +121,21 @@ second_root = refl
 level_by_level : Breaks (codes "preorder") (deep (root ∷ part_of 0 1 1 0 ∷ part_of 0 1 2 1 ∷ part_of 1 2 3 2 ∷ []))
 level_by_level = refl
 
-later_line_first : Breaks (codes "items") (record whole_gear { slots = root ∷ part_of 0 1 2 1 ∷ part_of 0 1 1 0 ∷ part_of 0 1 3 2 ∷ [] })
+later_line_first : Breaks (codes "items")
+    (record whole_gear { slots = root ∷ part_of 0 1 2 1 ∷ part_of 0 1 1 0 ∷ part_of 0 1 3 2 ∷ [] })
 later_line_first = refl
 
 -- a component without its slot, with two, and with that of another object
 no_slot : Breaks (codes "line_slots")
     (record box {
-      lines = piece_line 10 (codes "LID") 0 [] ∷ piece_line 20 (codes "LID") 0 [] ∷ piece_line 30 (codes "LID") 0 [] ∷ screw 1 ∷ screw 2 ∷ [];
+      lines =
+          piece_line 10 (codes "LID") 0 [] ∷ piece_line 20 (codes "LID") 0 [] ∷ piece_line 30 (codes "LID") 0 []
+          ∷ screw 1 ∷ screw 2 ∷ [];
     })
 no_slot = refl
 
-another_object : Breaks (codes "line_slots") (record whole_gear { slots = root ∷ part_of 0 1 1 0 ∷ part_of 0 1 1 1 ∷ part_of 0 1 3 2 ∷ [] })
+another_object : Breaks (codes "line_slots")
+    (record whole_gear { slots = root ∷ part_of 0 1 1 0 ∷ part_of 0 1 1 1 ∷ part_of 0 1 3 2 ∷ [] })
 another_object = refl
 
 slot_for_a_seal : Breaks (codes "line_slots")
@@ -173,7 +179,8 @@ missing_set : Breaks (codes "class_sets") (record box { sets = options_at 1 1 �
 missing_set = refl
 
 -- a characteristic with a variable and a set breaks two facts: the class has it once
-both : broken (record whole_paint { sets = record { slot = 0; characteristic = 3; domain = 3 } ∷ record { slot = 0; characteristic = 2; domain = 2 } ∷ [] })
+both : broken
+    (record whole_paint { sets = record (options_at 0 3) { characteristic = 3 } ∷ record (options_at 0 2) { characteristic = 2 } ∷ [] })
     ≡ codes "class_vars" ∷ codes "class_sets" ∷ []
 both = refl
 

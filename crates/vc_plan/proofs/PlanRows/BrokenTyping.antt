@@ -38,10 +38,12 @@ text_in_numbers : Breaks (codes "conditions_typed") (asking (IsIn 0 (OneText 1 �
 text_in_numbers = refl
 
 text_added : (p : Box (Unit {0}) Global)
-    → Breaks (codes "conditions_typed") (asking (Compared Equal (Joined' Plus p (Read 0) p (Literal (whole 1))) (Literal (whole 1))))
+    → Breaks (codes "conditions_typed")
+    (asking (Compared Equal (Joined' Plus p (Read 0) p (Literal (whole 1))) (Literal (whole 1))))
 text_added p = refl
 
-under_not : (p : Box (Unit {0}) Global) → Breaks (codes "conditions_typed") (asking (Not' p (Compared Equal (Read 0) (Literal (whole 1)))))
+under_not : (p : Box (Unit {0}) Global) → Breaks (codes "conditions_typed")
+    (asking (Not' p (Compared Equal (Read 0) (Literal (whole 1)))))
 under_not p = refl
 
 -- a text outside the list is no fault
@@ -75,17 +77,21 @@ equal_texts : broken (ruled (Equate 0 2)) ≡ []
 equal_texts = refl
 
 -- a column of texts that is given a number
-number_to_column : Breaks (codes "rules_typed") (ruled (ByTable 0 (record { column = 0; operand = Constant (whole 1) } ∷ column 1 2 ∷ [])))
+number_to_column : Breaks (codes "rules_typed")
+    (ruled (ByTable 0 (record { column = 0; operand = Constant (whole 1) } ∷ column 1 2 ∷ [])))
 number_to_column = refl
 
 -- a color for which a number is entered, by each statement
-number_as_color : Breaks (codes "statements_typed") (record whole_paint { procedures = profile 1 (says (Assign 0 2) 0 ∷ []) ∷ [] })
+number_as_color : Breaks (codes "statements_typed")
+    (record whole_paint { procedures = profile 1 (says (Assign 0 2) 0 ∷ []) ∷ [] })
 number_as_color = refl
 
-default_number : Breaks (codes "statements_typed") (record whole_paint { procedures = profile 1 (says (SetDefault 0 2) 0 ∷ []) ∷ [] })
+default_number : Breaks (codes "statements_typed")
+    (record whole_paint { procedures = profile 1 (says (SetDefault 0 2) 0 ∷ []) ∷ [] })
 default_number = refl
 
-number_deleted : Breaks (codes "statements_typed") (record whole_paint { procedures = profile 1 (says (DeleteDefault 0 2) 0 ∷ []) ∷ [] })
+number_deleted : Breaks (codes "statements_typed")
+    (record whole_paint { procedures = profile 1 (says (DeleteDefault 0 2) 0 ∷ []) ∷ [] })
 number_deleted = refl
 
 number_as_key : Breaks (codes "statements_typed") (looking (LookUp 0 (key 0 2 ∷ []) (fills 1 2 ∷ [])))
@@ -135,7 +141,10 @@ abbrev many_parts : Condition
 many_parts = Compared Greater (PartCount 0) (Literal (whole 3))
 
 counting_guard : Breaks (codes "no_sum_asked")
-    (record whole_gear { conditions = Always ∷ many_parts ∷ []; guards = record { at = Var 0; value = None; dependency = 0; condition = 1 } ∷ [] })
+    (record whole_gear {
+      conditions = Always ∷ many_parts ∷ [];
+      guards = record { at = Var 0; value = None; dependency = 0; condition = 1 } ∷ [];
+    })
 counting_guard = refl
 
 counting_requirement : Breaks (codes "no_sum_asked")
@@ -148,7 +157,7 @@ counting_requirement = refl
 counting_operation : Breaks (codes "no_sum_asked")
     (record whole_gear {
       conditions = Always ∷ many_parts ∷ [];
-      operations = record { slot = 0; number = 10; name = codes "CUT"; unit = codes "MIN"; time = 0; selections = record { dependency = 0; condition = 1 } ∷ [] } ∷ [];
+      operations = record (cutting 0 10) { selections = record { dependency = 0; condition = 1 } ∷ [] } ∷ [];
     })
 counting_operation = refl
 
@@ -167,7 +176,9 @@ counting_statement = refl
 
 -- a quantity that counts parts, and a time that does
 counted_quantity : Breaks (codes "no_sum_meant")
-    (record whole_gear { lines = piece_line 10 (codes "P1") 0 [] ∷ piece_line 20 (codes "P2") 3 [] ∷ piece_line 30 (codes "P3") 0 [] ∷ [] })
+    (record whole_gear {
+      lines = piece_line 10 (codes "P1") 0 [] ∷ piece_line 20 (codes "P2") 3 [] ∷ piece_line 30 (codes "P3") 0 [] ∷ [];
+    })
 counted_quantity = refl
 
 counted_time : Breaks (codes "no_sum_meant") (record whole_gear { operations = record (cutting 0 10) { time = 3 } ∷ [] })
@@ -198,7 +209,8 @@ square p = Joined' Times p large p large
 squared : (p : Box (Unit {0}) Global) → broken (record bare { terms = square p ∷ [] }) ≡ []
 squared p = refl
 
-cubed : (p : Box (Unit {0}) Global) → Breaks (codes "terms_small") (record bare { terms = Joined' Times p (square p) p large ∷ [] })
+cubed : (p : Box (Unit {0}) Global) → Breaks (codes "terms_small")
+    (record bare { terms = Joined' Times p (square p) p large ∷ [] })
 cubed p = refl
 
 cubed_inside : (p : Box (Unit {0}) Global)
@@ -217,5 +229,6 @@ divided_thrice : (p : Box (Unit {0}) Global)
 divided_thrice p = refl
 
 cube_asked : (p : Box (Unit {0}) Global)
-    → Breaks (codes "conditions_small") (record bare { conditions = Always ∷ Compared Less (Joined' Times p (square p) p large) large ∷ [] })
+    → Breaks (codes "conditions_small")
+    (record bare { conditions = Always ∷ Compared Less (Joined' Times p (square p) p large) large ∷ [] })
 cube_asked p = refl

@@ -10,7 +10,6 @@ use Rattle.vc_plan.specs.declared.plans.Plan.{Plan}
 use Rattle.vc_plan.specs.declared.plans.Table.{Table}
 use Rattle.vc_plan.specs.Valid.{IsValid}
 use Rattle.vc_plan.proofs.PlanRows.Facts.{Breaks, broken}
-use Rattle.vc_plan.proofs.PlanRows.Models.{from_to}
 use Rattle.vc_plan.proofs.PlanRows.SmallModels.{bare, box, cutting}
 use Rattle.vc_plan.proofs.PlanRows.WholeModels.{listed, object, piece_line, whole_paint, whole_ring}
 
@@ -53,18 +52,22 @@ no_version = refl
 characteristic_in_lower_case : Breaks (codes "names") (record bare { characteristics = listed (codes "w") (Texts []) ∷ [] })
 characteristic_in_lower_case = refl
 
+abbrev with_unit : List ℕ → Plan
+with_unit unit = record bare { characteristics = record (listed (codes "W") (Nums 0 [])) { unit = Some unit } ∷ [] }
+
 unit_in_lower_case : Breaks (codes "units")
-    (record bare { characteristics = record (listed (codes "W") (Nums 0 (from_to 1 2 ∷ []))) { unit = Some (codes "m3/h") } ∷ [] })
+    (with_unit (codes "m3/h"))
 unit_in_lower_case = refl
 
 empty_unit : Breaks (codes "units")
-    (record bare { characteristics = record (listed (codes "W") (Nums 0 (from_to 1 2 ∷ []))) { unit = Some [] } ∷ [] })
+    (with_unit [])
 empty_unit = refl
 
 dependency_with_space : Breaks (codes "dependency_names") (record bare { dependencies = codes "C SM" ∷ [] })
 dependency_with_space = refl
 
-table_in_lower_case : Breaks (codes "table_names") (record bare { tables = record { name = codes "sm"; columns = []; rows = [] } ∷ [] })
+table_in_lower_case : Breaks (codes "table_names")
+    (record bare { tables = record { name = codes "sm"; columns = []; rows = [] } ∷ [] })
 table_in_lower_case = refl
 
 -- materials: 18 letters, 19, none, a space, lower case

@@ -206,7 +206,8 @@ ascii_texts (first ∷ texts) h zero text is =
     let both = and_parts (list_all (λ b. nat_lt b 128) first) (list_all (list_all (λ b. nat_lt b 128)) texts) h in
     subst IsUtf8 (cc is) (IsUtf8-from_ascii first (ascii first both.0))
 ascii_texts (first ∷ texts) h (suc t) text is =
-    ascii_texts texts (and_parts (list_all (λ b. nat_lt b 128) first) (list_all (list_all (λ b. nat_lt b 128)) texts) h).1 t text is
+    let both = and_parts (list_all (λ b. nat_lt b 128) first) (list_all (list_all (λ b. nat_lt b 128)) texts) h in
+    ascii_texts texts both.1 t text is
 
 pub valid_from : (plan : Plan) → list_all (list_all (λ b. nat_lt b 128)) plan.texts ≡ true → broken plan ≡ [] → IsValid plan
 valid_from plan in_ascii none = from_both plan (none_fails (facts plan) none) (ascii_texts plan.texts in_ascii)

@@ -71,7 +71,9 @@ box_valid = valid_from box refl refl
 abbrev pub deep : List Slot → Plan
 deep slots = record whole_gear {
   slots = slots;
-  lines = piece_line 10 (codes "P1") 0 [] ∷ piece_line 20 (codes "P2") 1 [] ∷ record (piece_line 10 (codes "P3") 0 []) { slot = 1 } ∷ [];
+  lines =
+      piece_line 10 (codes "P1") 0 [] ∷ piece_line 20 (codes "P2") 1 []
+      ∷ record (piece_line 10 (codes "P3") 0 []) { slot = 1 } ∷ [];
 }
 
 abbrev pub part_of : ℕ → ℕ → ℕ → ℕ → Slot

@@ -35,7 +35,8 @@ flat_same test f g same (n ∷ ns) h =
 abbrev pub takes : Plan → Seen → Reading → ℕ → ℕ → Bool
 takes plan seen reading i n = is_line_of plan seen reading i n (slice_get plan.lines n)
 
-pub taken : (plan : Plan) (seen : Seen) (reading : Reading) (i : ℕ) → list_all (takes plan seen reading i) (lines_of plan seen reading i) ≡ true
+pub taken : (plan : Plan) (seen : Seen) (reading : Reading) (i : ℕ)
+    → list_all (takes plan seen reading i) (lines_of plan seen reading i) ≡ true
 taken plan seen reading i = passing (takes plan seen reading i) (numbers_below (length plan.lines))
 
 -- the component of a line that a slot takes comes after it
@@ -46,7 +47,8 @@ part_after plan valid seen reading i n j takes is = of_line (slice_get plan.line
     of_line : (o : Option Line) → slice_get plan.lines n ≡ o → is_line_of plan seen reading i n o ≡ true → IsComponent plan i j
     of_line None e h = absurd (cc)
     of_line (Some line) e h =
-        let own = eqb-true line.slot i (and_parts (line.slot == i) (takes_line plan seen reading line (component_of plan n)) h).0 in
+        let both = and_parts (line.slot == i) (takes_line plan seen reading line (component_of plan n)) h in
+        let own = eqb-true line.slot i both.0 in
         let part = component_after plan valid n j line e is in
         let later = part.after in
         record { after = omega (arith, own, later); there = part.there }
@@ -57,7 +59,8 @@ below_same f g (Some j) same = same j refl
 
 -- two numbers of levels, enough for the slots behind this one, give one bill
 pub one_bill : (plan : Plan) → IsValid plan → (seen : Seen) (reading : Reading) (m n level i : ℕ) → i < length plan.slots
-    → length plan.slots ≤ m + i → length plan.slots ≤ n + i → bill_from plan seen reading m level i ≡ bill_from plan seen reading n level i
+    → length plan.slots ≤ m + i → length plan.slots ≤ n + i
+    → bill_from plan seen reading m level i ≡ bill_from plan seen reading n level i
 one_bill plan valid seen reading zero n level i there enough more = absurd (omega arith)
 one_bill plan valid seen reading (suc m) zero level i there enough more = absurd (omega arith)
 one_bill plan valid seen reading (suc m) (suc n) level i there enough more =

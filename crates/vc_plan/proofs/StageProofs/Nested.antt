@@ -54,7 +54,8 @@ level_of : (level : ℕ) (before more : List BillLine) (row : BillLine) → AtLe
 level_of level [] more row h =
     leb-true level row.level (and_parts (nat_le level row.level) (list_all (λ r. nat_le level r.level) more) h).0
 level_of level (b ∷ before) more row h =
-    level_of level before more row (and_parts (nat_le level b.level) (list_all (λ r. nat_le level r.level) (before ++ row ∷ more)) h).1
+    level_of level before more row
+    (and_parts (nat_le level b.level) (list_all (λ r. nat_le level r.level) (before ++ row ∷ more)) h).1
 
 some_slot : (slots : List Slot) → is_root (slice_get slots 0) ≡ true → 0 < length slots
 some_slot [] e = absurd (cc)
@@ -73,7 +74,8 @@ module _ (plan : Plan) (seen : Seen) (reading : Reading) where
   nested_nil (b ∷ before) after row e = absurd (cc e)
 
   -- a row and its component's bill
-  nested_cons : (row : BillLine) → Nested (component_bill plan seen reading row) → Nested (row ∷ component_bill plan seen reading row)
+  nested_cons : (row : BillLine) → Nested (component_bill plan seen reading row)
+      → Nested (row ∷ component_bill plan seen reading row)
   nested_cons row nested [] after other e =
       let same : row ≡ other = cc in
       let rest : component_bill plan seen reading row ≡ after = cc in
@@ -84,7 +86,8 @@ module _ (plan : Plan) (seen : Seen) (reading : Reading) where
       nested before after other rest
 
   -- rows, and others that begin with no deeper one
-  nested_append : (level : ℕ) (xs ys : List BillLine) → Nested xs → Nested ys → AtLeast level xs → IsNoDeeper level ys → Nested (xs ++ ys)
+  nested_append : (level : ℕ) (xs ys : List BillLine) → Nested xs → Nested ys → AtLeast level xs → IsNoDeeper level ys
+      → Nested (xs ++ ys)
   nested_append level xs ys first second at_least no_deeper before after row e =
       elim (split xs ys before after row e) [
         | inl w ↦ in_first w (first before w.more row w.is)
@@ -107,14 +110,16 @@ module _ (plan : Plan) (seen : Seen) (reading : Reading) where
   first_level level i (n ∷ ns) = omega arith
 
   nested_lines : (level i : ℕ)
-      → ((n : ℕ) → takes plan seen reading i n ≡ true → Nested (below (own_bill plan seen reading (level + 1)) (component_of plan n)))
+      → ((n : ℕ) → takes plan seen reading i n ≡ true
+      → Nested (below (own_bill plan seen reading (level + 1)) (component_of plan n)))
       → (ns : List ℕ) → list_all (takes plan seen reading i) ns ≡ true → Nested (lines_with level i ns)
   nested_lines level i parts [] h = nested_nil
   nested_lines level i parts (n ∷ ns) h =
       let both = and_parts (takes plan seen reading i n) (list_all (takes plan seen reading i) ns) h in
       nested_append level (chunk plan reading (own_bill plan seen reading (level + 1)) level i n) (lines_with level i ns)
       (nested_cons (bill_line plan reading level i n) (parts n both.0)) (nested_lines level i parts ns both.1)
-      (chunk_deep plan reading (own_bill plan seen reading (level + 1)) level i (λ j. deep plan seen reading (length plan.slots) (level + 1) j) n)
+      (chunk_deep plan reading (own_bill plan seen reading (level + 1)) level i
+      (λ j. deep plan seen reading (length plan.slots) (level + 1) j) n)
       (first_level level i ns)
 
   nested_part : IsValid plan → (level i n : ℕ) → takes plan seen reading i n ≡ true
@@ -124,7 +129,8 @@ module _ (plan : Plan) (seen : Seen) (reading : Reading) where
   nested_part valid level i n takes later (Some j) is =
       let part = part_after plan valid seen reading i n j takes is in later j part.after part.there
 
-  nested_bill : IsValid plan → (m level i : ℕ) → i < length plan.slots → length plan.slots ≤ m + i → Nested (own_bill plan seen reading level i)
+  nested_bill : IsValid plan → (m level i : ℕ) → i < length plan.slots → length plan.slots ≤ m + i
+      → Nested (own_bill plan seen reading level i)
   nested_bill valid zero level i there enough = absurd (omega arith)
   nested_bill valid (suc m) level i there enough =
       let levels = length plan.slots in

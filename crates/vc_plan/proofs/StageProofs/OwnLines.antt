@@ -26,7 +26,8 @@ higher level rows h =
 abbrev pub chunk : Plan → Reading → (ℕ → List BillLine) → ℕ → ℕ → ℕ → List BillLine
 chunk plan reading bill level i n = bill_line plan reading level i n ∷ below bill (component_of plan n)
 
-pub chunk_deep : (plan : Plan) (reading : Reading) (bill : ℕ → List BillLine) (level i : ℕ) → ((j : ℕ) → AtLeast (level + 1) (bill j))
+pub chunk_deep : (plan : Plan) (reading : Reading) (bill : ℕ → List BillLine) (level i : ℕ)
+    → ((j : ℕ) → AtLeast (level + 1) (bill j))
     → (n : ℕ) → AtLeast level (chunk plan reading bill level i n)
 chunk_deep plan reading bill level i depth n =
     and_from (nat_le level level) (list_all (λ row. nat_le level row.level) (below bill (component_of plan n)))
@@ -43,10 +44,12 @@ flat_deep plan reading bill level i depth (n ∷ ns) =
     all_append (λ row. nat_le level row.level) (chunk plan reading bill level i n) (flat_map (chunk plan reading bill level i) ns)
     (chunk_deep plan reading bill level i depth n) (flat_deep plan reading bill level i depth ns)
 
-pub deep : (plan : Plan) (seen : Seen) (reading : Reading) (levels level i : ℕ) → AtLeast level (bill_from plan seen reading levels level i)
+pub deep : (plan : Plan) (seen : Seen) (reading : Reading) (levels level i : ℕ)
+    → AtLeast level (bill_from plan seen reading levels level i)
 deep plan seen reading zero level i = refl
 deep plan seen reading (suc levels) level i =
-    flat_deep plan reading (bill_from plan seen reading levels (level + 1)) level i (λ j. deep plan seen reading levels (level + 1) j)
+    flat_deep plan reading (bill_from plan seen reading levels (level + 1)) level i
+    (λ j. deep plan seen reading levels (level + 1) j)
     (lines_of plan seen reading i)
 
 -- among deeper rows there is none of the level
@@ -62,17 +65,20 @@ none_left level (row ∷ rows) h =
     step false is low none = none
 
 flat_own : (plan : Plan) (reading : Reading) (bill : ℕ → List BillLine) (level i : ℕ) → ((j : ℕ) → AtLeast (level + 1) (bill j))
-    → (ns : List ℕ) → filter (λ row. row.level == level) (flat_map (chunk plan reading bill level i) ns) ≡ map (bill_line plan reading level i) ns
+    → (ns : List ℕ)
+    → filter (λ row. row.level == level) (flat_map (chunk plan reading bill level i) ns) ≡ map (bill_line plan reading level i) ns
 flat_own plan reading bill level i depth [] = refl
 flat_own plan reading bill level i depth (n ∷ ns) =
     first (level == level) (eq-eqb level level refl) (bill_line plan reading level i n)
     (filter (λ row. row.level == level) (below bill (component_of plan n) ++ flat_map (chunk plan reading bill level i) ns))
     (map (bill_line plan reading level i) ns)
     (filter-append (λ row. row.level == level) (below bill (component_of plan n)) (flat_map (chunk plan reading bill level i) ns)
-    ∙ ap (λ rows. rows ++ filter (λ row. row.level == level) (flat_map (chunk plan reading bill level i) ns)) (part (component_of plan n))
+    ∙ ap (λ rows. rows ++ filter (λ row. row.level == level) (flat_map (chunk plan reading bill level i) ns))
+    (part (component_of plan n))
     ∙ flat_own plan reading bill level i depth ns)
   where
-    first : (b : Bool) → b ≡ true → (row : BillLine) (rows more : List BillLine) → rows ≡ more → cond b (row ∷ rows) rows ≡ row ∷ more
+    first : (b : Bool) → b ≡ true → (row : BillLine) (rows more : List BillLine) → rows ≡ more
+        → cond b (row ∷ rows) rows ≡ row ∷ more
     first true e row rows more same = ap (λ others. row ∷ others) same
     first false e row rows more same = absurd (cc)
 
@@ -81,10 +87,12 @@ flat_own plan reading bill level i depth (n ∷ ns) =
     part (Some j) = none_left level (bill j) (depth j)
 
 has_own : (plan : Plan) (seen : Seen) (reading : Reading) (levels level i : ℕ) → 0 < levels
-    → filter (λ row. row.level == level) (bill_from plan seen reading levels level i) ≡ map (bill_line plan reading level i) (lines_of plan seen reading i)
+    → filter (λ row. row.level == level) (bill_from plan seen reading levels level i)
+    ≡ map (bill_line plan reading level i) (lines_of plan seen reading i)
 has_own plan seen reading zero level i h = absurd (omega arith)
 has_own plan seen reading (suc levels) level i h =
-    flat_own plan reading (bill_from plan seen reading levels (level + 1)) level i (λ j. deep plan seen reading levels (level + 1) j)
+    flat_own plan reading (bill_from plan seen reading levels (level + 1)) level i
+    (λ j. deep plan seen reading levels (level + 1) j)
     (lines_of plan seen reading i)
 
 pub own_lines_in_order : OwnLinesInOrder

@@ -17,12 +17,14 @@ use Rattle.vc_plan.specs.Valid.{IsValid}
 use Rattle.vc_plan.proofs.StageProofs.Items.{within}
 
 -- what all of a list pass, the one at a place passes
-pub all_at : {X : Type 0} (p : X → Bool) (xs : List X) (i : ℕ) (x : X) → list_all p xs ≡ true → slice_get xs i ≡ Some x → p x ≡ true
+pub all_at : {X : Type 0} (p : X → Bool) (xs : List X) (i : ℕ) (x : X) → list_all p xs ≡ true → slice_get xs i ≡ Some x
+    → p x ≡ true
 all_at p [] i x h is = absurd (cc is)
 all_at p (y ∷ ys) zero x h is = let same : y ≡ x = cc in ap p (sym same) ∙ (and_parts (p y) (list_all p ys) h).0
 all_at p (y ∷ ys) (suc i) x h is = all_at p ys i x (and_parts (p y) (list_all p ys) h).1 is
 
-all_behind : {X : Type 0} (p : X → Bool) (xs : List X) (i : ℕ) (x : X) → list_all p (drop 1 xs) ≡ true → slice_get xs (suc i) ≡ Some x → p x ≡ true
+all_behind : {X : Type 0} (p : X → Bool) (xs : List X) (i : ℕ) (x : X) → list_all p (drop 1 xs) ≡ true
+    → slice_get xs (suc i) ≡ Some x → p x ≡ true
 all_behind p [] i x h is = absurd (cc is)
 all_behind p (y ∷ ys) i x h is = all_at p ys i x h is
 
@@ -50,7 +52,8 @@ UpTo b None = Unit {0}
 UpTo b (Some i) = i ≤ b
 
 -- so none of a slot's lineage is behind it
-low : (plan : Plan) (b : ℕ) → Parents plan (b + 1) → (n : ℕ) (o : Option ℕ) → UpTo b o → list_all (λ q. nat_le q b) (lineage plan n o) ≡ true
+low : (plan : Plan) (b : ℕ) → Parents plan (b + 1) → (n : ℕ) (o : Option ℕ) → UpTo b o
+    → list_all (λ q. nat_le q b) (lineage plan n o) ≡ true
 low plan b before zero o h = refl
 low plan b before (suc n) None h = refl
 low plan b before (suc n) (Some i) h =
@@ -86,7 +89,8 @@ parents plan valid zero i slot p h is parent = absurd (omega arith)
 parents plan valid (suc k) zero slot p h is parent = absurd (no_parent slot p (sym (ap is_root is) ∙ valid.root) parent)
 parents plan valid (suc k) (suc i) slot p h is parent =
     let short = within plan.slots (suc i) slot is in
-    let follows = each_number (follows_in_preorder plan) 0 (length plan.slots) (suc i) valid.preorder (omega arith) (omega arith) in
+    let follows =
+    each_number (follows_in_preorder plan) 0 (length plan.slots) (suc i) valid.preorder (omega arith) (omega arith) in
     let named : list_any (λ q. is_number q (Some p)) (lineage plan 4 (Some i)) ≡ true =
     sym (ap (λ o. list_any (λ q. is_number q o) (lineage plan 4 (Some i))) (ap parent_in is ∙ parent)) ∙ follows in
     let small = one_low i p (lineage plan 4 (Some i))
@@ -101,7 +105,8 @@ found : (test : ℕ → Bool) (xs : List ℕ) (x : ℕ) → find test xs ≡ Som
 found test [] x e = absurd (cc e)
 found test (y ∷ ys) x e = step (test y) refl (found test ys x) e
   where
-    step : (b : Bool) → test y ≡ b → (find test ys ≡ Some x → test x ≡ true) → cond b (Some y) (find test ys) ≡ Some x → test x ≡ true
+    step : (b : Bool) → test y ≡ b → (find test ys ≡ Some x → test x ≡ true) → cond b (Some y) (find test ys) ≡ Some x
+        → test x ≡ true
     step true passes later e = let same : y ≡ x = cc in ap test (sym same) ∙ passes
     step false passes later e = later e
 
@@ -111,22 +116,27 @@ pub record IsComponent (plan : Plan) (i j : ℕ) : Type 0 where
   pub there : j < length plan.slots
 
 stands_below : (plan : Plan) → IsValid plan → (n j p : ℕ) (line : Line) (slot : Slot)
-    → slice_get plan.lines n ≡ Some line → slice_get plan.slots j ≡ Some slot → slot.line ≡ n → slot.parent ≡ Some p → p ≡ line.slot
+    → slice_get plan.lines n ≡ Some line → slice_get plan.slots j ≡ Some slot → slot.line ≡ n → slot.parent ≡ Some p
+    → p ≡ line.slot
 stands_below plan valid n zero p line slot at_line at_slot for_line parent =
     absurd (no_parent slot p (sym (ap is_root at_slot) ∙ valid.root) parent)
 stands_below plan valid n (suc j) p line slot at_line at_slot for_line parent =
     let below = all_behind (λ s. is_below plan s s.parent) plan.slots j slot valid.below at_slot in
     let of_parent : is_below plan slot (Some p) ≡ true = sym (ap (is_below plan slot) parent) ∙ below in
-    let owner = (and_parts (slot.depth == depth_in (slice_get plan.slots p) + 1) (is_number p (slot_of_line (slice_get plan.lines slot.line))) of_parent).1 in
+    let owner =
+    (and_parts (slot.depth == depth_in (slice_get plan.slots p) + 1)
+    (is_number p (slot_of_line (slice_get plan.lines slot.line))) of_parent).1 in
     let line_at : slice_get plan.lines slot.line ≡ Some line = ap (slice_get plan.lines) for_line ∙ at_line in
     eqb-true p line.slot (sym (ap (λ o. is_number p (slot_of_line o)) line_at) ∙ owner)
 
 pub component_after : (plan : Plan) → IsValid plan → (n j : ℕ) (line : Line)
     → slice_get plan.lines n ≡ Some line → component_of plan n ≡ Some j → IsComponent plan line.slot j
 component_after plan valid n j line at_line is =
-    of_slot (slice_get plan.slots j) refl (found (λ k. is_for_line n (slice_get plan.slots k)) (numbers_below (length plan.slots)) j is)
+    of_slot (slice_get plan.slots j) refl
+    (found (λ k. is_for_line n (slice_get plan.slots k)) (numbers_below (length plan.slots)) j is)
   where
-    of_parent : (slot : Slot) → slice_get plan.slots j ≡ Some slot → (slot.line == n) ≡ true → (o : Option ℕ) → slot.parent ≡ o → is_some o ≡ true
+    of_parent : (slot : Slot) → slice_get plan.slots j ≡ Some slot → (slot.line == n) ≡ true → (o : Option ℕ) → slot.parent ≡ o
+        → is_some o ≡ true
         → IsComponent plan line.slot j
     of_parent slot at_slot for_line None parent e = absurd (cc)
     of_parent slot at_slot for_line (Some p) parent e =
