@@ -1,5 +1,13 @@
 -- Worked rows of plans, by computing. Beside what is so stands what would be so by a likely slip, and isn't.
+pub mod BrokenLists
+pub mod BrokenProcedures
+pub mod BrokenRules
+pub mod BrokenSizes
+pub mod BrokenThings
+pub mod BrokenTyping
+pub mod BrokenWords
 pub mod Comparisons
+pub mod Facts
 pub mod Lines
 pub mod Models
 pub mod Numbers
@@ -7,7 +15,9 @@ pub mod Pumps
 pub mod Restricting
 pub mod Rings
 pub mod Sets
+pub mod SmallModels
 pub mod StepModel
 pub mod Tables
 pub mod Truths
 pub mod Validity
+pub mod WholeModels

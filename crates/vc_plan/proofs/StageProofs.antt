@@ -1,4 +1,8 @@
 -- Proofs of the laws of stages and bills.
 pub mod Decided
 pub mod Items
+pub mod Levels
+pub mod Nested
 pub mod Own
+pub mod OwnLines
+pub mod Parents

@@ -63,9 +63,13 @@ bill_from plan seen reading (suc levels) level i =
     flat_map (λ n. bill_line plan reading level i n ∷ below (bill_from plan seen reading levels (level + 1)) (component_of plan n))
     (lines_of plan seen reading i)
 
--- the whole bill: there are no more levels than slots
+-- the bill of an instance whole: there are no more levels than slots
+abbrev pub own_bill : Plan → Seen → Reading → ℕ → ℕ → List BillLine
+own_bill plan seen reading level i = bill_from plan seen reading (length plan.slots) level i
+
+-- that of the root
 abbrev pub bill_of : Plan → Seen → Reading → List BillLine
-bill_of plan seen reading = bill_from plan seen reading (length plan.slots) 1 0
+bill_of plan seen reading = own_bill plan seen reading 1 0
 
 -- whether an operation is taken: its instance is here, and its selection conditions are met
 abbrev pub takes_operation : Plan → Seen → Reading → Option Operation → Bool

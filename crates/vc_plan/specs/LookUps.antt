@@ -2,6 +2,11 @@
 use Rattle.std.specs.Prelude.{ℕ, Bool, true, false, not, ◌&&◌, ◌||◌, ◌==◌, nat_lt, List, [], ◌∷◌, length, map, slice_get, Option, None, Some}
 use Rattle.std.specs.List.{filter, list_all}
 use Rattle.vc_value.specs.declared.value.Value.{Value}
+use Rattle.vc_plan.specs.declared.conditions.Piece.{Piece}
+use Rattle.vc_plan.specs.declared.conditions.Piece.TheVariants.{OneText}
+use Rattle.vc_plan.specs.declared.plans.Guard.{Guard}
+use Rattle.vc_plan.specs.declared.plans.Named.{Named}
+use Rattle.vc_plan.specs.declared.plans.Named.TheVariants.{Var, Set}
 use Rattle.vc_plan.specs.declared.plans.Plan.{Plan}
 use Rattle.vc_plan.specs.declared.plans.Table.{Table}
 use Rattle.vc_plan.specs.declared.plans.TableColumn.{TableColumn}
@@ -10,10 +15,15 @@ use Rattle.vc_plan.specs.declared.procedures.Action.TheVariants.{Assign, SetDefa
 use Rattle.vc_plan.specs.declared.procedures.FilledColumn.{FilledColumn}
 use Rattle.vc_plan.specs.declared.procedures.KeyTerm.{KeyTerm}
 use Rattle.vc_plan.specs.declared.procedures.Procedure.{Procedure}
+use Rattle.vc_plan.specs.declared.procedures.Trigger.{Trigger}
+use Rattle.vc_plan.specs.declared.procedures.Trigger.TheVariants.{Anyway, ValueIn, TextIn}
+use Rattle.vc_plan.specs.Classes.{list_at}
 use Rattle.vc_plan.specs.Domains.{numbers_below}
+use Rattle.vc_plan.specs.Lists.{is_entry}
 use Rattle.vc_plan.specs.Pieces.{same_value}
-use Rattle.vc_plan.specs.Orders.{are_apart}
+use Rattle.vc_plan.specs.Orders.{are_apart, is_number}
 use Rattle.vc_plan.specs.RuleShapes.{is_at}
+use Rattle.vc_plan.specs.Showing.{slot_of_named}
 
 -- the variables that an action writes
 abbrev pub action_writes : Action → List ℕ
@@ -24,6 +34,22 @@ action_writes (LookUp table keys filled) = map (λ column. column.var) filled
 
 abbrev pub writes_own : Plan → Procedure → Bool
 writes_own plan procedure = list_all (λ statement. list_all (is_at plan (procedure.slot ∷ [])) (action_writes statement.action)) procedure.statements
+
+-- a value's procedure stands at a listed value of its own slot, and a value's precondition at a listed value
+abbrev pub is_value_of : Plan → ℕ → Named → Piece → Bool
+is_value_of plan i named piece = is_number i (slot_of_named plan named) && is_entry (list_at plan named) piece
+
+abbrev pub trigger_listed : Plan → ℕ → Trigger → Bool
+trigger_listed plan i Anyway = true
+trigger_listed plan i (ValueIn v piece) = is_value_of plan i (Var v) piece
+trigger_listed plan i (TextIn set text) = is_value_of plan i (Set set) (OneText text)
+
+abbrev pub value_listed : Plan → Named → Option Piece → Bool
+value_listed plan named None = true
+value_listed plan named (Some piece) = is_entry (list_at plan named) piece
+
+abbrev pub guard_listed : Plan → Guard → Bool
+guard_listed plan guard = value_listed plan guard.at guard.value
 
 -- whether the table's column of this number is a key
 abbrev pub is_key_column : Option TableColumn → Bool

@@ -11,6 +11,8 @@ use Rattle.vc_plan.specs.declared.conditions.Condition.{Condition}
 use Rattle.vc_plan.specs.declared.conditions.Condition.TheVariants.{Always, Compared, IsIn, Specified, Holds, Filled, Not', And', Or'}
 use Rattle.vc_plan.specs.declared.conditions.Piece.{Piece}
 use Rattle.vc_plan.specs.declared.conditions.Piece.TheVariants.{OneText, Stretch}
+use Rattle.vc_plan.specs.declared.plans.Characteristic.{Characteristic}
+use Rattle.vc_plan.specs.declared.plans.Object.{Object}
 use Rattle.vc_plan.specs.declared.plans.Plan.{Plan}
 use Rattle.vc_plan.specs.declared.plans.Slot.{Slot}
 use Rattle.vc_plan.specs.declared.plans.TextSet.{TextSet}
@@ -44,6 +46,12 @@ grain_there grain = is_stored grain.low && is_stored grain.high
 abbrev pub domain_there : Plan → Domain → Bool
 domain_there plan (Texts texts) = list_all (is_of plan.texts) texts
 domain_there plan (Nums decimals grains) = nat_le decimals 6 && list_all grain_there grains
+
+abbrev pub characteristic_there : Plan → Characteristic → Bool
+characteristic_there plan characteristic = domain_there plan characteristic.list
+
+abbrev pub object_there : Plan → Object → Bool
+object_there plan object = list_all (is_of plan.characteristics) object.characteristics
 
 abbrev pub slot_there : Plan → Slot → Bool
 slot_there plan slot = is_of_if plan.slots slot.parent && is_of plan.objects slot.object

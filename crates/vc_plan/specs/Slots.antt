@@ -26,7 +26,8 @@ is_root (Some slot) = not (is_some slot.parent) && (slot.depth == 0)
 -- a slot stands one deeper than its parent, and for a line of it
 abbrev pub is_below : Plan → Slot → Option ℕ → Bool
 is_below plan slot None = false
-is_below plan slot (Some p) = (slot.depth == depth_in (slice_get plan.slots p) + 1) && is_number p (slot_of_line (slice_get plan.lines slot.line))
+is_below plan slot (Some p) =
+    (slot.depth == depth_in (slice_get plan.slots p) + 1) && is_number p (slot_of_line (slice_get plan.lines slot.line))
 
 -- a slot and those above it, up to four
 abbrev pub lineage : Plan → ℕ → Option ℕ → List ℕ
@@ -37,7 +38,8 @@ lineage plan (suc n) (Some i) = i ∷ lineage plan n (parent_in (slice_get plan.
 -- in preorder a slot's parent is the slot before it, or one above that
 abbrev pub follows_in_preorder : Plan → ℕ → Bool
 follows_in_preorder plan zero = true
-follows_in_preorder plan (suc i) = list_any (λ p. is_number p (parent_in (slice_get plan.slots (suc i)))) (lineage plan 4 (Some i))
+follows_in_preorder plan (suc i) =
+    list_any (λ p. is_number p (parent_in (slice_get plan.slots (suc i)))) (lineage plan 4 (Some i))
 
 -- of two slots with one parent the first stands for the earlier line
 abbrev pub is_item_before : Slot → Slot → Bool
@@ -54,6 +56,10 @@ stands_for l slot = is_some slot.parent && (slot.line == l)
 abbrev pub has_material : List ℕ → Option Object → Bool
 has_material material None = false
 has_material material (Some object) = same_bytes object.material material
+
+-- the selection conditions of a configurable line stand in the rules of its slot, and not beside it
+abbrev pub leaves_selections : Plan → bill.Line → Bool
+leaves_selections plan line = not (is_configurable plan line) || (length line.selections == 0)
 
 -- a configurable line has one slot, and another line none
 abbrev pub has_its_slots : Plan → ℕ → Option bill.Line → Bool

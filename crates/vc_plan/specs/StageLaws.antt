@@ -1,11 +1,13 @@
 -- Laws over the definitions of stages, and of bills.
-use Rattle.std.specs.Prelude.{◌≡◌, ℕ, Bool, true, false, ◌==◌, nat_lt, List, slice_get, slice_index_or, Option, None, Some}
-use Rattle.std.specs.List.{list_all, list_any}
+use Rattle.std.specs.Prelude.{◌≡◌, ◌<◌, ◌≤◌, ℕ, ◌+◌, Bool, true, false, ◌==◌, nat_lt, nat_le, List, [], ◌∷◌, ◌++◌, length, map, slice_get, slice_index_or, Option, None, Some}
+use Rattle.std.specs.List.{filter, list_all, list_any}
 use Rattle.vc_value.specs.declared.value.Value.{Value}
 use Rattle.vc_plan.specs.declared.atoms.Atom.{Atom}
 use Rattle.vc_plan.specs.declared.plans.Line as bill
 use Rattle.vc_plan.specs.declared.plans.Plan.{Plan}
-use Rattle.vc_plan.specs.Bills.{component_of, lines_of}
+use Rattle.vc_plan.specs.declared.plans.Slot.{Slot}
+use Rattle.vc_plan.specs.declared.shown.BillLine.{BillLine}
+use Rattle.vc_plan.specs.Bills.{below, bill_from, bill_line, bill_of, component_of, lines_of, own_bill}
 use Rattle.vc_plan.specs.Entries.{Entries, written_at}
 use Rattle.vc_plan.specs.Evaluate.{Users, evaluation_of, holds}
 use Rattle.vc_plan.specs.LookUps.{writes_own}
@@ -13,6 +15,7 @@ use Rattle.vc_plan.specs.Orders.{are_in_order}
 use Rattle.vc_plan.specs.Readings.{Reading}
 use Rattle.vc_plan.specs.RuleShapes.{is_at}
 use Rattle.vc_plan.specs.Seen.{Seen, seen_of}
+use Rattle.vc_plan.specs.Valid.{IsValid}
 use Rattle.vc_plan.specs.Writes.{depth_writes, instances_at, summing_instances, summing_writes}
 
 -- two users chose the same: of each variable the same value, or none, and of each set the same texts
@@ -25,7 +28,8 @@ pub record ChooseAlike (users others : Users) : Type 0 where
 
 -- what the user chose decides the evaluation, all of it
 abbrev pub UsersDecide : Type 0
-UsersDecide = (plan : Plan) (users others : Users) → ChooseAlike users others → evaluation_of plan users ≡ evaluation_of plan others
+UsersDecide = (plan : Plan) (users others : Users) → ChooseAlike users others
+    → evaluation_of plan users ≡ evaluation_of plan others
 
 -- where each procedure writes at its own slot, those of a stage leave all variables of other slots alone
 abbrev pub StagesWriteTheirOwn : Type 0
@@ -47,3 +51,41 @@ ItemsAscend = (plan : Plan) (seen : Seen) (reading : Reading) (i : ℕ) → are_
 abbrev pub ComponentsAreTakenWhereHere : Type 0
 ComponentsAreTakenWhereHere = (plan : Plan) (seen : Seen) (reading : Reading) (n j : ℕ) (line : bill.Line)
     → slice_get plan.lines n ≡ Some line → component_of plan n ≡ Some j → list_any (λ m. m == n) (lines_of plan seen reading line.slot) ≡ seen.here j
+
+-- in a valid plan each slot comes after its parent
+abbrev pub ParentsComeFirst : Type 0
+ParentsComeFirst = (plan : Plan) → IsValid plan → (i p : ℕ) (slot : Slot) → slice_get plan.slots i ≡ Some slot
+    → slot.parent ≡ Some p → p < i
+
+-- the own bill of a bill line's component, one level deeper; none where the line isn't configurable
+abbrev pub component_bill : Plan → Seen → Reading → BillLine → List BillLine
+component_bill plan seen reading row = below (own_bill plan seen reading (row.level + 1)) (component_of plan row.line)
+
+-- whether a list is at its end, or goes on with a line that isn't deeper
+abbrev pub IsNoDeeper : ℕ → List BillLine → Type 0
+IsNoDeeper level [] = Unit {0}
+IsNoDeeper level (row ∷ rows) = row.level ≤ level
+
+-- in the bill of a valid plan each line is followed at once by its component's own bill, and that by no deeper line: a
+-- component's whole bill stands before its owner's next line
+abbrev pub ComponentsFollow : Type 0
+ComponentsFollow = (plan : Plan) → IsValid plan
+    → (seen : Seen) (reading : Reading) (before after : List BillLine) (row : BillLine)
+    → bill_of plan seen reading ≡ before ++ row ∷ after
+    → (rest : List BillLine) × (after ≡ component_bill plan seen reading row ++ rest) × IsNoDeeper row.level rest
+
+-- an instance's bill has at its level the lines that are taken, in item order, and else deeper ones
+pub record HasOwnLines (plan : Plan) (seen : Seen) (reading : Reading) (level i : ℕ) : Type 0 where
+  pub own : filter (λ row. row.level == level) (own_bill plan seen reading level i)
+      ≡ map (bill_line plan reading level i) (lines_of plan seen reading i)
+  pub deeper : list_all (λ row. nat_le level row.level) (own_bill plan seen reading level i) ≡ true
+
+abbrev pub OwnLinesInOrder : Type 0
+OwnLinesInOrder = (plan : Plan) → 0 < length plan.slots → (seen : Seen) (reading : Reading) (level i : ℕ)
+    → HasOwnLines plan seen reading level i
+
+-- to the bill of a slot of a valid plan more levels than there are slots add nothing
+abbrev pub LevelsSuffice : Type 0
+LevelsSuffice = (plan : Plan) → IsValid plan → (seen : Seen) (reading : Reading) (levels level i : ℕ)
+    → length plan.slots ≤ levels → i < length plan.slots
+    → bill_from plan seen reading levels level i ≡ own_bill plan seen reading level i

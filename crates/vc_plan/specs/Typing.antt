@@ -12,6 +12,8 @@ use Rattle.vc_plan.specs.declared.conditions.Piece.TheVariants.{OneText, Stretch
 use Rattle.vc_plan.specs.declared.conditions.Relation.{Relation}
 use Rattle.vc_plan.specs.declared.conditions.Relation.TheVariants.{Equal, Unequal, Less, AtMost, Greater, AtLeast}
 use Rattle.vc_plan.specs.declared.plans.Plan.{Plan}
+use Rattle.vc_plan.specs.declared.plans.Table.{Table}
+use Rattle.vc_plan.specs.declared.plans.TableColumn.{TableColumn}
 use Rattle.vc_plan.specs.declared.procedures.Action.{Action}
 use Rattle.vc_plan.specs.declared.procedures.Action.TheVariants.{Assign, SetDefault, DeleteDefault, LookUp}
 use Rattle.vc_plan.specs.declared.procedures.FilledColumn.{FilledColumn}
@@ -27,7 +29,7 @@ use Rattle.vc_plan.specs.declared.rules.Restriction.TheVariants.{Against, OneOf}
 use Rattle.vc_plan.specs.declared.terms.Term.{Term}
 use Rattle.vc_plan.specs.declared.terms.Term.TheVariants.{Literal, Read, PartSum, PartCount, Applied', Joined'}
 use Rattle.vc_plan.specs.Domains.{domain_of}
-use Rattle.vc_plan.specs.TableRows.{rows_of, cell_passes}
+use Rattle.vc_plan.specs.Lists.{list_of}
 
 -- whether a domain is one of numbers, and whether it is one of texts
 abbrev pub has_numbers : Option Domain → Bool
@@ -106,14 +108,33 @@ abbrev pub restriction_typed : Plan → ℕ → Restriction → Bool
 restriction_typed plan v (Against r a) = meet plan r (Read v) (Literal a)
 restriction_typed plan v (OneOf pieces) = list_all (is_piece_of plan v) pieces
 
--- whether what a column is given may meet the cell
+-- the list of the column's characteristic
+abbrev pub characteristic_of_column : Option TableColumn → Option ℕ
+characteristic_of_column None = None
+characteristic_of_column (Some column) = Some column.characteristic
+
+abbrev pub column_in : ℕ → Option Table → Option TableColumn
+column_in c None = None
+column_in c (Some table) = slice_get table.columns c
+
+abbrev pub column_list : Plan → ℕ → ℕ → Option Domain
+column_list plan table c = list_of plan (characteristic_of_column (column_in c (slice_get plan.tables table)))
+
+-- whether a term may meet the values of a list
+abbrev pub meets_list : Plan → Option Domain → Term → Bool
+meets_list plan list term = (has_numbers list && is_numeric plan term) || (has_texts list && is_textual plan term)
+
+abbrev pub meets_list_if : Plan → Option Domain → Option Term → Bool
+meets_list_if plan list None = false
+meets_list_if plan list (Some term) = meets_list plan list term
+
+-- whether what a column is given may meet its cells
 abbrev pub operand_term : Operand → Term
 operand_term (Constant a) = Literal a
 operand_term (Variable v) = Read v
 
 abbrev pub binding_typed : Plan → ℕ → Binding → Bool
-binding_typed plan table binding =
-    list_all (λ row. cell_passes (λ a. meet plan Equal (operand_term binding.operand) (Literal a)) (slice_get row binding.column)) (rows_of plan table)
+binding_typed plan table binding = meets_list plan (column_list plan table binding.column) (operand_term binding.operand)
 
 -- a comparison is none of equality: that is Equate
 abbrev pub is_equality : Relation → Bool
@@ -133,14 +154,12 @@ kind_typed plan Never = true
 kind_typed plan (Last v) = true
 kind_typed plan (Line i) = true
 
--- whether a key's term, and the variable that a column fills, may meet each cell of the column
+-- whether a key's term, and the variable that a column fills, may meet the column's cells
 abbrev pub key_typed : Plan → ℕ → KeyTerm → Bool
-key_typed plan table key =
-    list_all (λ row. cell_passes (λ a. meet_if plan Equal (slice_get plan.terms key.term) (Some (Literal a))) (slice_get row key.column)) (rows_of plan table)
+key_typed plan table key = meets_list_if plan (column_list plan table key.column) (slice_get plan.terms key.term)
 
 abbrev pub filled_typed : Plan → ℕ → FilledColumn → Bool
-filled_typed plan table filled =
-    list_all (λ row. cell_passes (λ a. meet plan Equal (Read filled.var) (Literal a)) (slice_get row filled.column)) (rows_of plan table)
+filled_typed plan table filled = meets_list plan (column_list plan table filled.column) (Read filled.var)
 
 abbrev pub action_typed : Plan → Action → Bool
 action_typed plan (Assign v term) = meet_if plan Equal (Some (Read v)) (slice_get plan.terms term)

@@ -15,12 +15,16 @@ pub struct Characteristic {
     pub unit: Option<Word>,
     /// Whether it must have a value, whatever the selection conditions are.
     pub required: bool,
+    /// Its values as they are listed, one interval an entry.
+    pub list: Domain,
 }
 
 /// A configurable object of the model.
 #[derive(Debug, Drop)]
 pub struct Object {
     pub material: Word,
+    /// The characteristics of its class, in class order.
+    pub characteristics: Listed<u32>,
 }
 
 /// A column of a variant table.

@@ -1,6 +1,6 @@
 //! Laws of stages and bills, each the contract of a function that does nothing.
 
-ghost use Rattle.vc_plan.specs.StageLaws.{UsersDecide, StagesWriteTheirOwn, SumsWriteTheirOwn, ItemsAscend, ComponentsAreTakenWhereHere};
+ghost use Rattle.vc_plan.specs.StageLaws.{UsersDecide, StagesWriteTheirOwn, SumsWriteTheirOwn, ItemsAscend, ComponentsAreTakenWhereHere, ParentsComeFirst, ComponentsFollow, OwnLinesInOrder, LevelsSuffice};
 
 /// What the user chose decides the evaluation.
 pub fn users_decide()
@@ -21,4 +21,17 @@ pub fn items_ascend()
 /// A configurable line is taken exactly where its slot is here.
 pub fn components_are_taken_where_here()
     ensures { ComponentsAreTakenWhereHere }
+{}
+
+/// In a valid plan each slot comes after its parent.
+pub fn parents_come_first()
+    ensures { ParentsComeFirst }
+{}
+
+/// The bill is in preorder: each line is followed at once by its component's own bill, which stands whole before the
+/// owner's next line; an instance's own lines come in item order; and no bill has more levels than there are slots.
+pub fn bills_are_in_preorder()
+    ensures follow { ComponentsFollow }
+    ensures own { OwnLinesInOrder }
+    ensures levels { LevelsSuffice }
 {}

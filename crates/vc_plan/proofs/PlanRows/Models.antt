@@ -72,9 +72,13 @@ rule condition inferred kind = record {
   kind = kind;
 }
 
--- a rule of no constraint
+-- a rule of no constraint and no selection condition
 abbrev pub own_rule : ℕ → Kind → Rule
-own_rule condition kind = record { dependency = None; number = 1; slots = []; condition = condition; inferred = []; kind = kind }
+own_rule condition kind = record { dependency = None; number = 0; slots = []; condition = condition; inferred = []; kind = kind }
+
+-- the rule as a restriction of this number, of this constraint, or as a selection condition
+abbrev pub of : ℕ → ℕ → Rule → Rule
+of dependency number r = record r { dependency = Some dependency; number = number }
 
 abbrev pub last : ℕ → Rule
 last v = own_rule 0 (Last v)

@@ -12,9 +12,9 @@ use Rattle.vc_plan.specs.declared.rules.Kind.TheVariants.{Among, ByTable}
 use Rattle.vc_plan.specs.declared.rules.Restriction.TheVariants.{Against}
 use Rattle.vc_plan.specs.declared.terms.Term.TheVariants.{Literal, Read}
 use Rattle.vc_plan.specs.Settle.{settlement_of}
-use Rattle.vc_plan.proofs.PlanRows.Models.{empty, root, open_var, fixed_var, rule, last, column, table_of, users, settles_at}
+use Rattle.vc_plan.proofs.PlanRows.Models.{empty, root, open_var, fixed_var, rule, of, last, column, table_of, users, settles_at}
 
-abbrev ring : Plan
+abbrev pub ring : Plan
 ring = record empty {
   domains = Texts (0 ∷ 1 ∷ []) ∷ Texts (1 ∷ 2 ∷ []) ∷ Texts (1 ∷ 2 ∷ []) ∷ [];
   tables = table_of ((Text 1 ∷ Text 1 ∷ []) ∷ (Text 2 ∷ Text 2 ∷ []) ∷ []) ∷ [];
@@ -23,7 +23,7 @@ ring = record empty {
   conditions = Always ∷ Compared Equal (Read 0) (Literal (Text 1)) ∷ [];
   rules =
       rule 1 (1 ∷ []) (Among 1 (Against Equal (Text 1)))
-      ∷ rule 0 (1 ∷ 2 ∷ []) (ByTable 0 (column 0 1 ∷ column 1 2 ∷ []))
+      ∷ of 1 1 (rule 0 (1 ∷ 2 ∷ []) (ByTable 0 (column 0 1 ∷ column 1 2 ∷ [])))
       ∷ last 0
       ∷ last 1
       ∷ last 2

@@ -15,10 +15,10 @@ use Rattle.vc_plan.specs.declared.rules.Restriction.TheVariants.{Against}
 use Rattle.vc_plan.specs.declared.terms.Operator.TheVariants.{Times}
 use Rattle.vc_plan.specs.declared.terms.Term.TheVariants.{Literal, Read, Joined'}
 use Rattle.vc_plan.specs.Settle.{settlement_of}
-use Rattle.vc_plan.proofs.PlanRows.Models.{empty, root, open_var, fixed_var, rule, last, users, settles_at, whole, from_to}
+use Rattle.vc_plan.proofs.PlanRows.Models.{empty, root, open_var, fixed_var, rule, of, last, users, settles_at, whole, from_to}
 
 -- 0 .. 4.9, 5, 5.1 .. 9.9, 10 and 10.1 .. 100
-abbrev flow_grains : List Grain
+abbrev pub flow_grains : List Grain
 flow_grains =
     interval (pos 0) (pos 4_900_000)
     ∷ interval (pos 5_000_000) (pos 5_000_000)
@@ -30,7 +30,7 @@ flow_grains =
 cuts : cut_at 1 (record { millionths = pos 10_000_000 }) (cut_at 1 (record { millionths = pos 5_000_000 }) (from_to 0 100 ∷ [])) ≡ flow_grains
 cuts = refl
 
-abbrev steps : Box (Unit {0}) Global → Plan
+abbrev pub steps : Box (Unit {0}) Global → Plan
 steps p = record empty {
   domains = Nums 0 (from_to 0 0 ∷ from_to 1 1 ∷ from_to 2 2 ∷ from_to 3 50 ∷ []) ∷ Nums 1 flow_grains ∷ [];
   slots = root ∷ [];
@@ -39,8 +39,8 @@ steps p = record empty {
   terms = Read 1 ∷ Joined' Times p (Literal (whole 2)) p (Read 0) ∷ [];
   rules =
       rule 0 (1 ∷ []) (Compare AtMost 0 1)
-      ∷ rule 1 (1 ∷ []) (Among 0 (Against AtLeast (whole 1)))
-      ∷ rule 2 (1 ∷ []) (Among 0 (Against AtLeast (whole 2)))
+      ∷ of 0 2 (rule 1 (1 ∷ []) (Among 0 (Against AtLeast (whole 1))))
+      ∷ of 0 3 (rule 2 (1 ∷ []) (Among 0 (Against AtLeast (whole 2))))
       ∷ last 0
       ∷ last 1
       ∷ [];

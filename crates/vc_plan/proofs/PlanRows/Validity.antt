@@ -1,6 +1,6 @@
--- PUMP with its names, bill and operation is valid.
+-- The models of the rows are valid; and the tests of plans by themselves.
 use Rattle.std.proofs.Common.{◌≡◌, ℕ, List, [], ◌∷◌, map, Bool, true, false, refl}
-use Rattle.std.specs.Prelude.{None, Some, ◌≢◌, codes, Box}
+use Rattle.std.specs.Prelude.{Some, ◌≢◌, Box}
 use Rattle.std.specs.declared.alloc.Global.{Global}
 use Rattle.vc_value.specs.declared.value.Value.TheVariants.{Text}
 use Rattle.vc_plan.specs.declared.conditions.Condition.TheVariants.{Always, Compared, Specified, Not', And'}
@@ -8,7 +8,7 @@ use Rattle.vc_plan.specs.declared.conditions.Relation.TheVariants.{Equal, AtMost
 use Rattle.vc_plan.specs.declared.plans.Plan.{Plan}
 use Rattle.vc_plan.specs.declared.procedures.Action.{Action}
 use Rattle.vc_plan.specs.declared.procedures.Action.TheVariants.{LookUp}
-use Rattle.vc_plan.specs.declared.terms.Operator.TheVariants.{Plus, Times, Over}
+use Rattle.vc_plan.specs.declared.terms.Operator.TheVariants.{Times}
 use Rattle.vc_plan.specs.declared.terms.Term.{Term}
 use Rattle.vc_plan.specs.declared.terms.Term.TheVariants.{Literal, Read, Joined'}
 use Rattle.vc_plan.specs.Cuts.{is_cut}
@@ -18,117 +18,28 @@ use Rattle.vc_plan.specs.Sizes.{term_size, is_small}
 use Rattle.vc_plan.specs.Slots.{follows_in_preorder}
 use Rattle.vc_plan.specs.Typing.{condition_typed, action_typed}
 use Rattle.vc_plan.specs.Valid.{IsValid}
+use Rattle.vc_plan.proofs.PlanRows.Facts.{valid_from}
 use Rattle.vc_plan.proofs.PlanRows.Models.{empty, root, pump, last, whole}
+use Rattle.vc_plan.proofs.PlanRows.WholeModels.{whole_pump, whole_step, whole_ring, whole_paint, whole_machine, whole_gear}
 
--- 15 + FLOW / 2
-abbrev whole_pump : Box (Unit {0}) Global → Plan
-whole_pump p = record pump {
-  name = codes "PUMP";
-  texts = codes "S" ∷ codes "M" ∷ codes "L" ∷ codes "E1" ∷ codes "E2" ∷ codes "E3" ∷ [];
-  dependencies = codes "C_SM" ∷ codes "S_L" ∷ [];
-  characteristics =
-      record { name = codes "SIZE"; unit = None; required = true }
-      ∷ record { name = codes "MOTOR"; unit = None; required = true }
-      ∷ record { name = codes "FLOW"; unit = Some (codes "m3/h"); required = true }
-      ∷ [];
-  objects = record { material = codes "PUMP" } ∷ [];
-  tables = record {
-    name = codes "SM";
-    columns = record { characteristic = 0; key = false } ∷ record { characteristic = 1; key = false } ∷ [];
-    rows = (Text 0 ∷ Text 3 ∷ []) ∷ (Text 1 ∷ Text 3 ∷ []) ∷ (Text 1 ∷ Text 4 ∷ []) ∷ (Text 2 ∷ Text 5 ∷ []) ∷ [];
-  } ∷ [];
-  conditions = Always ∷ Compared Equal (Read 0) (Literal (Text 2)) ∷ [];
-  terms =
-      Literal (whole 1)
-      ∷ Literal (whole 2)
-      ∷ Joined' Plus p (Literal (whole 15)) p (Joined' Over p (Read 2) p (Literal (whole 2)))
-      ∷ [];
-  lines =
-      record { slot = 0; item = 10; material = codes "HOUSING"; unit = codes "PC"; quantity = 0; selections = [] }
-      ∷ record {
-        slot = 0;
-        item = 20;
-        material = codes "SEAL";
-        unit = codes "PC";
-        quantity = 1;
-        selections = record { dependency = 1; condition = 1 } ∷ [];
-      }
-      ∷ [];
-  operations = record { slot = 0; number = 10; name = codes "ASSY"; unit = codes "MIN"; time = 2; selections = [] } ∷ [];
-}
+-- the models of the rows
+pump_valid : (p : Box (Unit {0}) Global) → IsValid (whole_pump p)
+pump_valid p = valid_from (whole_pump p) refl refl
 
-valid : (p : Box (Unit {0}) Global) → IsValid (whole_pump p)
-valid p = record {
-  slots_there = refl;
-  vars_there = refl;
-  sets_there = refl;
-  domains_there = refl;
-  tables_there = refl;
-  conditions_there = refl;
-  terms_there = refl;
-  rules_there = refl;
-  procedures_there = refl;
-  lines_there = refl;
-  operations_there = refl;
-  guards_there = refl;
-  requirements_there = refl;
-  root = refl;
-  below = refl;
-  deeper = refl;
-  one_root = refl;
-  items = refl;
-  line_slots = refl;
-  vars_by_slot = refl;
-  sets_by_slot = refl;
-  vars_once = refl;
-  sets_once = refl;
-  not_both = refl;
-  alike = refl;
-  one_domain = refl;
-  some_grain = refl;
-  proper = refl;
-  cut = refl;
-  sets_of_texts = refl;
-  own_slots = refl;
-  rules_once = refl;
-  lines_once = refl;
-  lasts = refl;
-  slot_lines = refl;
-  columns = refl;
-  conditions_typed = refl;
-  rules_typed = refl;
-  statements_typed = refl;
-  nets = refl;
-  no_sum_asked = refl;
-  no_sum_meant = refl;
-  terms_small = refl;
-  conditions_small = refl;
-  own_writes = refl;
-  look_ups = refl;
-  keys = refl;
-  lines_in_order = refl;
-  operations_in_order = refl;
-  procedures_by_slot = refl;
-  guards_by_slot = refl;
-  name = refl;
-  names = refl;
-  dependency_names = refl;
-  table_names = refl;
-  materials = refl;
-  texts = refl;
-  names_once = refl;
-  dependencies_once = refl;
-  tables_once = refl;
-  materials_once = refl;
-  texts_once = refl;
-  levels = refl;
-  slot_limit = refl;
-  rule_limit = refl;
-  atom_limit = refl;
-  cell_limit = refl;
-  row_limit = refl;
-  column_limit = refl;
-}
+step_valid : (p : Box (Unit {0}) Global) → IsValid (whole_step p)
+step_valid p = valid_from (whole_step p) refl refl
+
+ring_valid : IsValid whole_ring
+ring_valid = valid_from whole_ring refl refl
+
+paint_valid : IsValid whole_paint
+paint_valid = valid_from whole_paint refl refl
+
+machine_valid : IsValid whole_machine
+machine_valid = valid_from whole_machine refl refl
+
+gear_valid : IsValid whole_gear
+gear_valid = valid_from whole_gear refl refl
 
 -- a piece of machinery with its drive, whose slot stands for a line with the drive's material
 abbrev slots : ℕ → ℕ → ℕ → Plan
@@ -209,18 +120,18 @@ sixteenth_large : (p : Box (Unit {0}) Global) → is_small pump (sixteenth p) �
 sixteenth_large p e = cc
 
 -- a look-up in the table of sizes and motors, by a text and by a number
-abbrev looking : Plan
-looking = record pump { terms = Literal (Text 0) ∷ Literal (whole 5) ∷ [] }
+abbrev looking : Box (Unit {0}) Global → Plan
+looking p = record (whole_pump p) { terms = Literal (Text 0) ∷ Literal (whole 5) ∷ [] }
 
 abbrev look_up : ℕ → ℕ → Action
 look_up term v = LookUp 0 (record { column = 0; term = term } ∷ []) (record { column = 1; var = v } ∷ [])
 
-by_text : action_typed looking (look_up 0 1) ≡ true
-by_text = refl
+by_text : (p : Box (Unit {0}) Global) → action_typed (looking p) (look_up 0 1) ≡ true
+by_text p = refl
 
-by_number : action_typed looking (look_up 1 1) ≢ true
-by_number e = cc
+by_number : (p : Box (Unit {0}) Global) → action_typed (looking p) (look_up 1 1) ≢ true
+by_number p e = cc
 
 -- and a motor for the flow
-into_number : action_typed looking (look_up 0 2) ≢ true
-into_number e = cc
+into_number : (p : Box (Unit {0}) Global) → action_typed (looking p) (look_up 0 2) ≢ true
+into_number p e = cc

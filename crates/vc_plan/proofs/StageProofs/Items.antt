@@ -71,7 +71,7 @@ there_from a n (suc len) low high =
 there_below : (n len : ℕ) → n < len → list_any (λ m. m == n) (numbers_below len) ≡ true
 there_below n len high = there_from 0 n len (omega arith) (omega arith)
 
-within : {X : Type 0} (xs : List X) (n : ℕ) (x : X) → slice_get xs n ≡ Some x → n < length xs
+pub within : {X : Type 0} (xs : List X) (n : ℕ) (x : X) → slice_get xs n ≡ Some x → n < length xs
 within [] n x is = absurd (cc is)
 within (y ∷ ys) zero x is = omega arith
 within (y ∷ ys) (suc n) x is = let h = within ys n x is in omega arith

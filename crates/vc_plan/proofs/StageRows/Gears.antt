@@ -1,5 +1,5 @@
 -- GEAR: a total over three parts, and bills of more levels.
-use Rattle.std.proofs.Common.{◌≡◌, ℕ, ◌*◌, pos, true, false, map, [], ◌∷◌, refl}
+use Rattle.std.proofs.Common.{◌≡◌, ℕ, ◌+◌, ◌*◌, pos, true, false, map, [], ◌∷◌, refl}
 use Rattle.std.specs.Prelude.{None, Some, ◌≢◌}
 use Rattle.vc_value.specs.declared.table_header.Domain.TheVariants.{Nums}
 use Rattle.vc_value.specs.declared.value.Value.{Value}
@@ -16,13 +16,13 @@ use Rattle.vc_plan.proofs.PlanRows.Models.{empty, root, own_rule, last, number, 
 use Rattle.vc_plan.proofs.StageRows.StageModels.{always, chosen, ends_at, line, says}
 
 abbrev part : ℕ → Slot
-part n = record { parent = Some 0; depth = 1; object = 1; line = n }
+part n = record { parent = Some 0; depth = 1; object = n + 1; line = n }
 
 abbrev weight : ℕ → Var
 weight slot = record { slot = slot; characteristic = 0; domain = 0; restrictable = false }
 
 -- variable 0 is TOTAL, of the root; variables 1 to 3 are the WEIGHTs of the parts
-abbrev gear : Plan
+abbrev pub gear : Plan
 gear = record empty {
   domains = Nums 1 (from_to 0 100 ∷ []) ∷ Nums 1 (from_to 0 1000 ∷ []) ∷ [];
   slots = root ∷ part 0 ∷ part 1 ∷ part 2 ∷ [];

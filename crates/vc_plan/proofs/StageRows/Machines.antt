@@ -11,18 +11,18 @@ use Rattle.vc_plan.specs.declared.procedures.Action.TheVariants.{Assign}
 use Rattle.vc_plan.specs.declared.rules.Kind.TheVariants.{Line}
 use Rattle.vc_plan.specs.declared.terms.Term.TheVariants.{Literal, Read}
 use Rattle.vc_plan.specs.Shown.{bill}
-use Rattle.vc_plan.proofs.PlanRows.Models.{empty, root, fixed_var, own_rule, last, whole}
+use Rattle.vc_plan.proofs.PlanRows.Models.{empty, root, fixed_var, of, own_rule, last, whole}
 use Rattle.vc_plan.proofs.StageRows.StageModels.{always, chosen, ends_at, ends_late, line, says}
 
 -- the texts are Y 0, N 1, P1 2, P2 3; variable 0 is DRIVEN, of the root; variable 1 is POWER, of the drive
-abbrev machine : Plan
+abbrev pub machine : Plan
 machine = record empty {
   domains = Texts (0 ∷ 1 ∷ []) ∷ Texts (2 ∷ 3 ∷ []) ∷ [];
   slots = root ∷ record { parent = Some 0; depth = 1; object = 1; line = 0 } ∷ [];
   vars = fixed_var 0 ∷ record { slot = 1; characteristic = 1; domain = 1; restrictable = false } ∷ [];
   conditions = Always ∷ Compared Equal (Read 0) (Literal (Text 0)) ∷ [];
   terms = Literal (whole 1) ∷ Literal (Text 2) ∷ Literal (Text 0) ∷ [];
-  rules = last 0 ∷ last 1 ∷ own_rule 1 (Line 1) ∷ [];
+  rules = last 0 ∷ last 1 ∷ of 0 1 (own_rule 1 (Line 1)) ∷ [];
   lines = line 0 0 [] ∷ [];
 }
 

@@ -23,7 +23,7 @@ use Rattle.vc_plan.proofs.PlanRows.Models.{empty, root, fixed_var, last, whole}
 use Rattle.vc_plan.proofs.StageRows.StageModels.{always, breaks_at, chosen, ends_at, entry_for, line, says}
 
 -- the texts are RED 0, BLUE 1, GREEN 2, H 3, N 4, LUX 5, STD 6, and A, B, C; dependency 0 is PRE_LUX
-abbrev with : List Procedure → Plan
+abbrev pub with : List Procedure → Plan
 with procedures = record empty {
   domains = Texts (0 ∷ 1 ∷ 2 ∷ []) ∷ Texts (3 ∷ 4 ∷ []) ∷ Texts (5 ∷ 6 ∷ []) ∷ Texts (7 ∷ 8 ∷ 9 ∷ []) ∷ [];
   slots = root ∷ [];

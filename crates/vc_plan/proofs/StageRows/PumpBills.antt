@@ -20,7 +20,7 @@ use Rattle.vc_plan.specs.declared.atoms.Mark.TheVariants.{Held}
 -- a housing always, two seals where SIZE is L, and 15 + FLOW / 2 minutes; SIZE is required
 abbrev machine : Box (Unit {0}) Global → Plan
 machine p = record pump {
-  characteristics = record { name = []; unit = None; required = true } ∷ [];
+  characteristics = record { name = []; unit = None; required = true; list = Texts (0 ∷ 1 ∷ 2 ∷ []) } ∷ [];
   conditions = Always ∷ Compared Equal (Read 0) (Literal (Text 2)) ∷ [];
   terms = Literal (whole 1) ∷ Literal (whole 2) ∷ Joined' Plus p (Literal (whole 15)) p (Joined' Over p (Read 2) p (Literal (whole 2))) ∷ [];
   lines = line 0 0 [] ∷ line 0 1 (record { dependency = 1; condition = 1 } ∷ []) ∷ [];
