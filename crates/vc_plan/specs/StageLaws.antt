@@ -1,5 +1,5 @@
 -- Laws over the definitions of stages, and of bills.
-use Rattle.std.specs.Prelude.{◌≡◌, ◌<◌, ◌≤◌, ℕ, ◌+◌, Bool, true, false, ◌==◌, nat_lt, nat_le, List, [], ◌∷◌, ◌++◌, length, map, slice_get, slice_index_or, Option, None, Some}
+use Rattle.std.specs.Prelude.{◌≡◌, ◌<◌, ◌≤◌, ℕ, ◌+◌, Bool, true, false, ◌==◌, nat_lt, nat_le, if◌then◌else◌, List, [], ◌∷◌, ◌++◌, length, map, slice_get, slice_index_or, Option, None, Some}
 use Rattle.std.specs.List.{filter, list_all, list_any}
 use Rattle.vc_value.specs.declared.value.Value.{Value}
 use Rattle.vc_plan.specs.declared.atoms.Atom.{Atom}
@@ -16,7 +16,7 @@ use Rattle.vc_plan.specs.Readings.{Reading}
 use Rattle.vc_plan.specs.RuleShapes.{is_at}
 use Rattle.vc_plan.specs.Seen.{Seen, seen_of}
 use Rattle.vc_plan.specs.Valid.{IsValid}
-use Rattle.vc_plan.specs.Writes.{depth_writes, instances_at, summing_instances, summing_writes}
+use Rattle.vc_plan.specs.Writes.{depth_of, depth_writes, instances_at, summing_instances, summing_writes}
 
 -- two users chose the same: of each variable the same value, or none, and of each set the same texts
 abbrev pub value_chosen : Users → ℕ → Option Value
@@ -89,3 +89,20 @@ abbrev pub LevelsSuffice : Type 0
 LevelsSuffice = (plan : Plan) → IsValid plan → (seen : Seen) (reading : Reading) (levels level i : ℕ)
     → length plan.slots ≤ levels → i < length plan.slots
     → bill_from plan seen reading levels level i ≡ own_bill plan seen reading level i
+
+-- the root is here, and each slot that is here has its parent here
+pub record IsUpward (plan : Plan) (seen : Seen) : Type 0 where
+  pub root : seen.here 0 ≡ true
+  pub parents : (i p : ℕ) (slot : Slot) → slice_get plan.slots i ≡ Some slot → slot.parent ≡ Some p → seen.here i ≡ true
+      → seen.here p ≡ true
+
+-- of each slot the bill of a valid plan has the lines that it takes where it is here, once each, in item order, one level
+-- below its depth; and no others
+abbrev pub taken_lines : Plan → Seen → Reading → ℕ → List BillLine
+taken_lines plan seen reading i =
+    if seen.here i then map (bill_line plan reading (depth_of plan i + 1) i) (lines_of plan seen reading i) else []
+
+abbrev pub BillsHaveTakenLines : Type 0
+BillsHaveTakenLines = (plan : Plan) → IsValid plan → (seen : Seen) (reading : Reading) → IsUpward plan seen → (i : ℕ)
+    → i < length plan.slots
+    → filter (λ row. row.slot == i) (bill_of plan seen reading) ≡ taken_lines plan seen reading i
