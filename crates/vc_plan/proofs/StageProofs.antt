@@ -10,3 +10,4 @@ pub mod OwnLines
 pub mod Owners
 pub mod Parents
 pub mod TakenLines
+pub mod Upward

@@ -1,6 +1,7 @@
 -- Laws over the definitions of stages, and of bills.
 use Rattle.std.specs.Prelude.{◌≡◌, ◌<◌, ◌≤◌, ℕ, ◌+◌, Bool, true, false, ◌==◌, nat_lt, nat_le, if◌then◌else◌, List, [], ◌∷◌, ◌++◌, length, map, slice_get, slice_index_or, Option, None, Some}
 use Rattle.std.specs.List.{filter, list_all, list_any}
+use Rattle.vc_base.specs.Rounds.{settled}
 use Rattle.vc_value.specs.declared.value.Value.{Value}
 use Rattle.vc_plan.specs.declared.atoms.Atom.{Atom}
 use Rattle.vc_plan.specs.declared.plans.Line as bill
@@ -15,6 +16,8 @@ use Rattle.vc_plan.specs.Orders.{are_in_order}
 use Rattle.vc_plan.specs.Readings.{Reading}
 use Rattle.vc_plan.specs.RuleShapes.{is_at}
 use Rattle.vc_plan.specs.Seen.{Seen, seen_of}
+use Rattle.vc_plan.specs.Settle.{settlement_of}
+use Rattle.vc_plan.specs.Sources.{Sources}
 use Rattle.vc_plan.specs.Valid.{IsValid}
 use Rattle.vc_plan.specs.Writes.{depth_of, depth_writes, instances_at, summing_instances, summing_writes}
 
@@ -106,3 +109,8 @@ abbrev pub BillsHaveTakenLines : Type 0
 BillsHaveTakenLines = (plan : Plan) → IsValid plan → (seen : Seen) (reading : Reading) → IsUpward plan seen → (i : ℕ)
     → i < length plan.slots
     → filter (λ row. row.slot == i) (bill_of plan seen reading) ≡ taken_lines plan seen reading i
+
+-- where settling ends for a valid plan, the root is here, and with each slot its parent
+abbrev pub ParentsAreHere : Type 0
+ParentsAreHere = (plan : Plan) → IsValid plan → (sources : Sources) (set : List Atom) → settlement_of plan sources ≡ settled set
+    → IsUpward plan (seen_of set)

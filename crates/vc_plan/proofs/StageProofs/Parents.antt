@@ -77,7 +77,7 @@ one_low b p (q ∷ qs) h e =
       | inr later ↦ one_low b p qs both.1 later
     ]
 
-no_parent : (slot : Slot) (p : ℕ) → is_root (Some slot) ≡ true → slot.parent ≡ Some p → ⊥
+pub no_parent : (slot : Slot) (p : ℕ) → is_root (Some slot) ≡ true → slot.parent ≡ Some p → ⊥
 no_parent slot p root is =
     differ (sym (ap (λ o. not (is_some o)) is) ∙ (and_parts (not (is_some slot.parent)) (slot.depth == 0) root).0)
   where
