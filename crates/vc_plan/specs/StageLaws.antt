@@ -1,6 +1,7 @@
 -- Laws over the definitions of stages, and of bills.
-use Rattle.std.specs.Prelude.{◌≡◌, ◌<◌, ◌≤◌, ℕ, ◌+◌, Bool, true, false, ◌==◌, nat_lt, nat_le, List, [], ◌∷◌, ◌++◌, length, map, slice_get, slice_index_or, Option, None, Some}
+use Rattle.std.specs.Prelude.{◌≡◌, ◌<◌, ◌≤◌, ℕ, ◌+◌, Bool, true, false, ◌==◌, nat_lt, nat_le, if◌then◌else◌, List, [], ◌∷◌, ◌++◌, length, map, slice_get, slice_index_or, Option, None, Some}
 use Rattle.std.specs.List.{filter, list_all, list_any}
+use Rattle.vc_base.specs.Rounds.{settled}
 use Rattle.vc_value.specs.declared.value.Value.{Value}
 use Rattle.vc_plan.specs.declared.atoms.Atom.{Atom}
 use Rattle.vc_plan.specs.declared.plans.Line as bill
@@ -15,8 +16,10 @@ use Rattle.vc_plan.specs.Orders.{are_in_order}
 use Rattle.vc_plan.specs.Readings.{Reading}
 use Rattle.vc_plan.specs.RuleShapes.{is_at}
 use Rattle.vc_plan.specs.Seen.{Seen, seen_of}
+use Rattle.vc_plan.specs.Settle.{settlement_of}
+use Rattle.vc_plan.specs.Sources.{Sources}
 use Rattle.vc_plan.specs.Valid.{IsValid}
-use Rattle.vc_plan.specs.Writes.{depth_writes, instances_at, summing_instances, summing_writes}
+use Rattle.vc_plan.specs.Writes.{depth_of, depth_writes, instances_at, summing_instances, summing_writes}
 
 -- two users chose the same: of each variable the same value, or none, and of each set the same texts
 abbrev pub value_chosen : Users → ℕ → Option Value
@@ -89,3 +92,25 @@ abbrev pub LevelsSuffice : Type 0
 LevelsSuffice = (plan : Plan) → IsValid plan → (seen : Seen) (reading : Reading) (levels level i : ℕ)
     → length plan.slots ≤ levels → i < length plan.slots
     → bill_from plan seen reading levels level i ≡ own_bill plan seen reading level i
+
+-- the root is here, and each slot that is here has its parent here
+pub record IsUpward (plan : Plan) (seen : Seen) : Type 0 where
+  pub root : seen.here 0 ≡ true
+  pub parents : (i p : ℕ) (slot : Slot) → slice_get plan.slots i ≡ Some slot → slot.parent ≡ Some p → seen.here i ≡ true
+      → seen.here p ≡ true
+
+-- of each slot the bill of a valid plan has the lines that it takes where it is here, once each, in item order, one level
+-- below its depth; and no others
+abbrev pub taken_lines : Plan → Seen → Reading → ℕ → List BillLine
+taken_lines plan seen reading i =
+    if seen.here i then map (bill_line plan reading (depth_of plan i + 1) i) (lines_of plan seen reading i) else []
+
+abbrev pub BillsHaveTakenLines : Type 0
+BillsHaveTakenLines = (plan : Plan) → IsValid plan → (seen : Seen) (reading : Reading) → IsUpward plan seen → (i : ℕ)
+    → i < length plan.slots
+    → filter (λ row. row.slot == i) (bill_of plan seen reading) ≡ taken_lines plan seen reading i
+
+-- where settling ends for a valid plan, the root is here, and with each slot its parent
+abbrev pub ParentsAreHere : Type 0
+ParentsAreHere = (plan : Plan) → IsValid plan → (sources : Sources) (set : List Atom) → settlement_of plan sources ≡ settled set
+    → IsUpward plan (seen_of set)

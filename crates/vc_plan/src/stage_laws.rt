@@ -1,6 +1,6 @@
 //! Laws of stages and bills, each the contract of a function that does nothing.
 
-ghost use Rattle.vc_plan.specs.StageLaws.{UsersDecide, StagesWriteTheirOwn, SumsWriteTheirOwn, ItemsAscend, ComponentsAreTakenWhereHere, ParentsComeFirst, ComponentsFollow, OwnLinesInOrder, LevelsSuffice};
+ghost use Rattle.vc_plan.specs.StageLaws.{UsersDecide, StagesWriteTheirOwn, SumsWriteTheirOwn, ItemsAscend, ComponentsAreTakenWhereHere, ParentsComeFirst, ComponentsFollow, OwnLinesInOrder, LevelsSuffice, BillsHaveTakenLines, ParentsAreHere};
 
 /// What the user chose decides the evaluation.
 pub fn users_decide()
@@ -29,9 +29,16 @@ pub fn parents_come_first()
 {}
 
 /// The bill is in preorder: each line is followed at once by its component's own bill, which stands whole before the
-/// owner's next line; an instance's own lines come in item order; and no bill has more levels than there are slots.
+/// owner's next line; an instance's own lines come in item order; and no bill has more levels than there are slots. It has
+/// of each instance exactly the lines that it takes.
 pub fn bills_are_in_preorder()
     ensures follow { ComponentsFollow }
     ensures own { OwnLinesInOrder }
     ensures levels { LevelsSuffice }
+    ensures taken { BillsHaveTakenLines }
+{}
+
+/// Where settling ends for a valid plan, the root is here, and each slot that is here has its parent here.
+pub fn parents_are_here()
+    ensures { ParentsAreHere }
 {}

@@ -23,7 +23,7 @@ all_at p [] i x h is = absurd (cc is)
 all_at p (y ∷ ys) zero x h is = let same : y ≡ x = cc in ap p (sym same) ∙ (and_parts (p y) (list_all p ys) h).0
 all_at p (y ∷ ys) (suc i) x h is = all_at p ys i x (and_parts (p y) (list_all p ys) h).1 is
 
-all_behind : {X : Type 0} (p : X → Bool) (xs : List X) (i : ℕ) (x : X) → list_all p (drop 1 xs) ≡ true
+pub all_behind : {X : Type 0} (p : X → Bool) (xs : List X) (i : ℕ) (x : X) → list_all p (drop 1 xs) ≡ true
     → slice_get xs (suc i) ≡ Some x → p x ≡ true
 all_behind p [] i x h is = absurd (cc is)
 all_behind p (y ∷ ys) i x h is = all_at p ys i x h is
@@ -77,7 +77,7 @@ one_low b p (q ∷ qs) h e =
       | inr later ↦ one_low b p qs both.1 later
     ]
 
-no_parent : (slot : Slot) (p : ℕ) → is_root (Some slot) ≡ true → slot.parent ≡ Some p → ⊥
+pub no_parent : (slot : Slot) (p : ℕ) → is_root (Some slot) ≡ true → slot.parent ≡ Some p → ⊥
 no_parent slot p root is =
     differ (sym (ap (λ o. not (is_some o)) is) ∙ (and_parts (not (is_some slot.parent)) (slot.depth == 0) root).0)
   where
@@ -101,7 +101,7 @@ pub parents_come_first : ParentsComeFirst
 parents_come_first plan valid i p slot is parent = parents plan valid (i + 1) i slot p (omega arith) is parent
 
 -- what is found passes the test
-found : (test : ℕ → Bool) (xs : List ℕ) (x : ℕ) → find test xs ≡ Some x → test x ≡ true
+pub found : (test : ℕ → Bool) (xs : List ℕ) (x : ℕ) → find test xs ≡ Some x → test x ≡ true
 found test [] x e = absurd (cc e)
 found test (y ∷ ys) x e = step (test y) refl (found test ys x) e
   where
@@ -115,7 +115,7 @@ pub record IsComponent (plan : Plan) (i j : ℕ) : Type 0 where
   pub after : i < j
   pub there : j < length plan.slots
 
-stands_below : (plan : Plan) → IsValid plan → (n j p : ℕ) (line : Line) (slot : Slot)
+pub stands_below : (plan : Plan) → IsValid plan → (n j p : ℕ) (line : Line) (slot : Slot)
     → slice_get plan.lines n ≡ Some line → slice_get plan.slots j ≡ Some slot → slot.line ≡ n → slot.parent ≡ Some p
     → p ≡ line.slot
 stands_below plan valid n zero p line slot at_line at_slot for_line parent =

@@ -1,3 +1,4 @@
+use Rattle.vc_plan.proofs.StageProofs.TakenLines.{bills_have_taken_lines}
 use Rattle.vc_plan.proofs.StageProofs.Nested.{components_follow}
 use Rattle.vc_plan.proofs.StageProofs.OwnLines.{own_lines_in_order}
 use Rattle.vc_plan.proofs.StageProofs.Levels.{levels_suffice}
@@ -11,3 +12,6 @@ returns-clause-own c = own_lines_in_order
 
 pub returns-clause-levels : goal.returns-clause-levels
 returns-clause-levels c = levels_suffice
+
+pub returns-clause-taken : goal.returns-clause-taken
+returns-clause-taken c = bills_have_taken_lines
