@@ -1,4 +1,6 @@
+pub mod Chains
 pub mod Growing
+pub mod Kept
 pub mod Rounds
 pub mod Sets
 pub mod Runs
