@@ -1,12 +1,12 @@
 -- Laws of accepted lists of steps.
-use Rattle.std.proofs.Common.{◌≡◌, ℕ, zero, suc, ◌+◌, ◌<◌, Bool, true, false, cond, ◌&&◌, List, [], ◌∷◌, ◌++◌, length, refl, sym, ◌∙◌, ap, subst, inl, inr, arith, append_assoc, length-append}
+use Rattle.std.proofs.Common.{◌≡◌, ℕ, zero, suc, ◌<◌, Bool, true, false, cond, ◌&&◌, List, [], ◌∷◌, ◌++◌, length, refl, subst, inl, inr, arith, length-append}
 use Rattle.std.specs.Prelude.{Option, None, Some, is_none, nat_lt, slice_get}
 use Rattle.std.specs.List.{list_all}
 use Rattle.std.proofs.lemmas.Bool.{and_parts, and_from, lt-ltb}
 use Rattle.vc_base.specs.Chains.{StepForm, conclusions, before_all, cited, all_pass, is_justified, accepted, first_refused, cites_earlier}
 use Rattle.vc_base.specs.Rounds.{System, atoms_of}
 use Rattle.vc_base.specs.Sets.{has, Within}
-use Rattle.vc_base.proofs.SetLaws.{has_either, has_first, has_more, has_cases, within_cons}
+use Rattle.vc_base.proofs.SetLaws.{has_either, has_first, has_more, within_cons}
 use Rattle.vc_base.proofs.Settling.{Laws, IsClosed, IsIn, given_stands}
 
 -- an element of a list by its place is below its length

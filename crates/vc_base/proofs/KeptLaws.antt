@@ -1,12 +1,10 @@
 -- Laws of what is kept of a list of steps.
-use Rattle.std.proofs.Common.{◌≡◌, ℕ, zero, suc, ◌+◌, ◌<◌, ◌≤◌, Bool, true, false, cond, not, ◌&&◌, ◌||◌, ◌⊎◌, List, [], ◌∷◌, ◌++◌, length, map, refl, sym, ◌∙◌, ap, subst, inl, inr, arith, append_assoc, length-append}
-use Rattle.std.specs.Prelude.{Option, None, Some, nat_lt, slice_get, ◌==◌}
-use Rattle.std.specs.List.{list_all, list_any}
-use Rattle.std.proofs.lemmas.Bool.{and_parts, and_from, or_cases, or_left, or_right, ltb-true, eqb-true, not-true, cases_lt}
-use Rattle.vc_base.specs.Chains.{StepForm, before_all, cited, all_pass, is_justified, accepted, cites_earlier}
-use Rattle.vc_base.specs.Kept.{kept_number, new_numbers, new_premises, with_step, number_for, count_with, kept, is_to_drop, IsDropping, number_left, without, IsLeft}
+use Rattle.std.proofs.Common.{◌≡◌, ℕ, zero, suc, ◌<◌, Bool, true, false, cond, ◌⊎◌, List, [], ◌∷◌, ◌++◌, length, refl, sym, ◌∙◌, ap, inl, inr, arith, length-append}
+use Rattle.std.specs.Prelude.{Option, None, Some, slice_get}
+use Rattle.std.proofs.lemmas.Bool.{and_from}
+use Rattle.vc_base.specs.Chains.{StepForm, before_all, cited, all_pass, is_justified, accepted}
+use Rattle.vc_base.specs.Kept.{kept_number, new_numbers, new_premises, with_step, number_for, count_with, kept}
 use Rattle.vc_base.proofs.ChainLaws.{all_there, get_below, accepted_parts}
-use Rattle.vc_base.proofs.SetLaws.{both, told}
 
 -- an element of a list with one more: the last one, or one of the others
 pub get_front : {X : Type 0} (xs : List X) (y : X) (i : ℕ) (x : X) → slice_get xs i ≡ Some x → slice_get (xs ++ y ∷ []) i ≡ Some x

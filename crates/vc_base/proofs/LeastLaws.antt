@@ -1,13 +1,12 @@
 -- What is kept of steps is what the least set of dropped steps leaves.
-use Rattle.std.proofs.Common.{◌≡◌, ℕ, zero, suc, ◌+◌, ◌<◌, ◌≤◌, Bool, true, false, cond, not, ◌&&◌, ◌||◌, List, [], ◌∷◌, ◌++◌, length, map, refl, sym, ◌∙◌, ap, subst, inl, inr, arith, append_assoc, append-nil, length-append}
-use Rattle.std.specs.Prelude.{Option, None, Some, nat_lt, slice_get, ◌==◌}
+use Rattle.std.proofs.Common.{◌≡◌, ℕ, zero, suc, ◌<◌, Bool, true, false, cond, ◌||◌, List, [], ◌∷◌, ◌++◌, length, map, refl, sym, ◌∙◌, ap, inl, inr, arith, append_assoc, append-nil, length-append}
+use Rattle.std.specs.Prelude.{Option, None, Some, nat_lt, slice_get}
 use Rattle.std.specs.List.{list_all, list_any}
-use Rattle.std.proofs.lemmas.Bool.{and_parts, or_cases, or_right, or_left, ltb-true, and_from}
+use Rattle.std.proofs.lemmas.Bool.{and_parts, or_cases, or_right, or_left, ltb-true}
 use Rattle.vc_base.specs.Chains.{StepForm, before_all, cites_earlier}
 use Rattle.vc_base.specs.Kept.{kept_number, new_numbers, new_premises, with_step, number_for, count_with, kept, has_step, is_to_drop, IsDropping, number_left, without, IsLeft}
-use Rattle.vc_base.proofs.ChainLaws.{all_there, get_below}
-use Rattle.vc_base.proofs.KeptLaws.{get_cases, get_end, not_gone}
-use Rattle.vc_base.proofs.SetLaws.{both}
+use Rattle.vc_base.proofs.ChainLaws.{all_there}
+use Rattle.vc_base.proofs.KeptLaws.{get_cases, not_gone}
 
 -- whether a step was dropped: it has its place among all, and no new number
 abbrev is_unnumbered : Option (Option ℕ) → Bool

@@ -5,3 +5,4 @@ pub mod LeastLaws
 pub mod RunLaws
 pub mod SetLaws
 pub mod Settling
+pub mod SpreadLaws

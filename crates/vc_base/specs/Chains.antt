@@ -1,6 +1,6 @@
 -- Lists of steps, each with a conclusion and the numbers of the steps that it follows from. Steps are numbered from 1;
 -- number 0 is what stands from the start.
-use Rattle.std.specs.Prelude.{ℕ, zero, suc, ◌+◌, Bool, true, false, ◌&&◌, ◌||◌, ◌==◌, if◌then◌else◌, nat_lt, List, [], ◌∷◌, ◌++◌, length, map, slice_get, Option, None, Some}
+use Rattle.std.specs.Prelude.{ℕ, zero, suc, Bool, true, false, ◌&&◌, ◌||◌, ◌==◌, if◌then◌else◌, nat_lt, List, [], ◌∷◌, ◌++◌, length, map, slice_get, Option, None, Some}
 use Rattle.std.specs.List.{list_any, list_all}
 
 -- how steps are read: what a step concludes, the numbers of its premises, and the same step with other numbers

@@ -3,4 +3,5 @@ pub mod Growing
 pub mod Kept
 pub mod Rounds
 pub mod Sets
+pub mod Spreading
 pub mod Runs
