@@ -1,0 +1,40 @@
+//! Laws of reasons, each the contract of a function that does nothing.
+
+ghost use Rattle.vc_reasons.specs.Laws.{AcceptedUnrefused, ConclusionsStand, WholeSettles, RefutingBreaks, KeptIsAccepted, KeptIsLeft, GivesLocally, GivesWhatItWrites, ReachIsLeast};
+
+/// A list of steps is accepted exactly where no step is refused.
+pub fn accepted_is_unrefused()
+    ensures { AcceptedUnrefused }
+{}
+
+/// What an accepted list concludes stands in every closed set: so two steps can't hold each other up.
+pub fn conclusions_stand()
+    ensures { ConclusionsStand }
+{}
+
+/// A whole list concludes just what settling ends at.
+pub fn whole_lists_settle()
+    ensures { WholeSettles }
+{}
+
+/// Where a clash refutes the sources, settling with them is broken.
+pub fn refuting_breaks()
+    ensures { RefutingBreaks }
+{}
+
+/// What is kept of an accepted list is accepted with the new sources, and is what the least set of dropped steps leaves.
+pub fn kept_is_accepted()
+    ensures accepted { KeptIsAccepted }
+    ensures least { KeptIsLeft }
+{}
+
+/// What a rule or source gives depends on what it reads and writes alone, and it gives atoms of what it writes.
+pub fn giving_is_local()
+    ensures reads { GivesLocally }
+    ensures writes { GivesWhatItWrites }
+{}
+
+/// What things reach is the least list with what rules write that read one of it.
+pub fn reach_is_least()
+    ensures { ReachIsLeast }
+{}
