@@ -23,22 +23,26 @@ all_there (Some x) None ys e = absurd (cc)
 all_there (Some x) (Some xs) ys e = (x, xs, refl, refl, cc)
 
 -- a test that all pass is passed by what is there
-pub passed : {A : Type 0} (test : List A → Bool) (o : Option (List A)) → all_pass test o ≡ true → (atoms : List A) × (o ≡ Some atoms) × (test atoms ≡ true)
+pub passed : {A : Type 0} (test : List A → Bool) (o : Option (List A)) → all_pass test o ≡ true
+    → (atoms : List A) × (o ≡ Some atoms) × (test atoms ≡ true)
 passed test None e = absurd (cc)
 passed test (Some atoms) e = (atoms, refl, e)
 
 -- an accepted step: what it cites is there, it follows, and the later ones are accepted
-pub record Accepted {S A : Type 0} (form : StepForm S A) (follows : S → List A → Bool) (earlier : List A) (step : S) (steps : List S) : Type 0 where
+pub record Accepted {S A : Type 0} (form : StepForm S A) (follows : S → List A → Bool) (earlier : List A) (step : S)
+    (steps : List S) : Type 0 where
   pub atoms : List A
   pub cites : cited earlier (form.premises step) ≡ Some atoms
   pub from : follows step atoms ≡ true
   pub later : accepted form follows (earlier ++ form.conclusion step ∷ []) steps ≡ true
 
-pub accepted_parts : {S A : Type 0} (form : StepForm S A) (follows : S → List A → Bool) (earlier : List A) (step : S) (steps : List S)
+pub accepted_parts : {S A : Type 0} (form : StepForm S A) (follows : S → List A → Bool) (earlier : List A) (step : S)
+    (steps : List S)
     → accepted form follows earlier (step ∷ steps) ≡ true → Accepted form follows earlier step steps
 accepted_parts {A = A} form follows earlier step steps e =
     let later = accepted form follows (earlier ++ form.conclusion step ∷ []) steps in
-    let p : (is_justified form follows earlier step ≡ true) × (later ≡ true) = and_parts (is_justified form follows earlier step) later e in
+    let p : (is_justified form follows earlier step ≡ true) × (later ≡ true)
+    = and_parts (is_justified form follows earlier step) later e in
     let q : (atoms : List A) × (cited earlier (form.premises step) ≡ Some atoms) × (follows step atoms ≡ true)
     = passed (follows step) (cited earlier (form.premises step)) p.0 in
     record { atoms = q.0; cites = q.1; from = q.2; later = p.1 }
@@ -76,11 +80,14 @@ accepted_earlier form follows earlier (step ∷ steps) e =
     let p = accepted_parts form follows earlier step steps e in
     let longer : length (earlier ++ form.conclusion step ∷ []) ≡ suc (length earlier)
     = omega (arith, length-append earlier (form.conclusion step ∷ [])) in
-    and_from (list_all (λ k. nat_lt k (suc (length earlier))) (form.premises step)) (cites_earlier form (suc (suc (length earlier))) steps)
+    and_from (list_all (λ k. nat_lt k (suc (length earlier))) (form.premises step))
+    (cites_earlier form (suc (suc (length earlier))) steps)
     (cited_earlier earlier (form.premises step) p.atoms p.cites)
-    (subst (λ n. cites_earlier form (suc n) steps ≡ true) longer (accepted_earlier form follows (earlier ++ form.conclusion step ∷ []) steps p.later))
+    (subst (λ n. cites_earlier form (suc n) steps ≡ true) longer
+    (accepted_earlier form follows (earlier ++ form.conclusion step ∷ []) steps p.later))
 
-module _ {A : Type 0} (same : A → A → Bool) (exact : (a b : A) → same a b ≡ true → a ≡ b) (itself : (a : A) → same a a ≡ true) where
+module _ {A : Type 0} (same : A → A → Bool) (exact : (a b : A) → same a b ≡ true → a ≡ b)
+    (itself : (a : A) → same a a ≡ true) where
   -- an element by its place is in the list
   pub get_has : (xs : List A) (i : ℕ) (x : A) → slice_get xs i ≡ Some x → has same xs x ≡ true
   get_has [] i x e = absurd (cc)
@@ -89,7 +96,8 @@ module _ {A : Type 0} (same : A → A → Bool) (exact : (a b : A) → same a b 
   get_has (y ∷ ys) (suc i) x e = has_more same exact itself y ys x (get_has ys i x e)
 
   -- what is cited stands among the earlier conclusions
-  pub cited_within : (earlier : List A) (numbers : List ℕ) (atoms : List A) → cited earlier numbers ≡ Some atoms → Within same atoms earlier
+  pub cited_within : (earlier : List A) (numbers : List ℕ) (atoms : List A) → cited earlier numbers ≡ Some atoms
+      → Within same atoms earlier
   cited_within earlier [] atoms e a h = let none : [] ≡ atoms = cc in absurd (cc)
   cited_within earlier (zero ∷ numbers) atoms e a h = cited_within earlier numbers atoms e a h
   cited_within earlier (suc n ∷ numbers) atoms e a h =
@@ -97,11 +105,13 @@ module _ {A : Type 0} (same : A → A → Bool) (exact : (a b : A) → same a b 
       within_cons same exact itself r.0 r.1 earlier (get_has earlier n r.0 r.2) (cited_within earlier numbers r.1 r.3) a
       (subst (λ z. has same z a ≡ true) r.4 h)
 
-module _ {S A O : Type 0} (system : System A O) (laws : Laws system) (form : StepForm S A) (follows : S → List A → Bool) (base : List A) where
+module _ {S A O : Type 0} (system : System A O) (laws : Laws system) (form : StepForm S A) (follows : S → List A → Bool)
+    (base : List A) where
   -- what follows is given by a giver at what it follows from, with what stands from the start
   abbrev pub IsGiven : Type 0
   IsGiven = (step : S) (atoms : List A) → follows step atoms ≡ true
-      → (o : O) × IsIn o system.givers × (has system.same (atoms_of (system.gives o (base ++ atoms))) (form.conclusion step) ≡ true)
+      → (o : O) × IsIn o system.givers
+      × (has system.same (atoms_of (system.gives o (base ++ atoms))) (form.conclusion step) ≡ true)
 
   -- what is added to two sets within a third
   pub both_within : (xs ys zs : List A) → Within system.same xs zs → Within system.same ys zs → Within system.same (xs ++ ys) zs
@@ -112,8 +122,10 @@ module _ {S A O : Type 0} (system : System A O) (laws : Laws system) (form : Ste
   one_within x zs h = within_cons system.same laws.exact laws.itself x [] zs h (λ a k. absurd (cc))
 
   -- the conclusions of an accepted list stand in each closed set in which the start stands
-  pub accepted_within : IsGiven → (closed : List A) → IsClosed system closed → Within system.same base closed → (earlier : List A) (steps : List S)
-      → Within system.same earlier closed → accepted form follows earlier steps ≡ true → Within system.same (conclusions form steps) closed
+  pub accepted_within : IsGiven → (closed : List A) → IsClosed system closed → Within system.same base closed
+      → (earlier : List A) (steps : List S)
+      → Within system.same earlier closed → accepted form follows earlier steps ≡ true
+      → Within system.same (conclusions form steps) closed
   accepted_within given closed c b earlier [] w e = λ a h. absurd (cc)
   accepted_within given closed c b earlier (step ∷ steps) w e =
       let p = accepted_parts form follows earlier step steps e in
@@ -121,7 +133,8 @@ module _ {S A O : Type 0} (system : System A O) (laws : Laws system) (form : Ste
       = λ a h. w a (cited_within system.same laws.exact laws.itself earlier (form.premises step) p.atoms p.cites a h) in
       let g = given step p.atoms p.from in
       let stands : has system.same closed (form.conclusion step) ≡ true
-      = given_stands system laws (base ++ p.atoms) closed g.0 (form.conclusion step) g.1 c (both_within base p.atoms closed b cites) g.2 in
+      = given_stands system laws (base ++ p.atoms) closed g.0 (form.conclusion step) g.1 c
+      (both_within base p.atoms closed b cites) g.2 in
       within_cons system.same laws.exact laws.itself (form.conclusion step) (conclusions form steps) closed stands
       (accepted_within given closed c b (earlier ++ form.conclusion step ∷ []) steps
       (both_within earlier (form.conclusion step ∷ []) closed w (one_within (form.conclusion step) closed stands)) p.later)

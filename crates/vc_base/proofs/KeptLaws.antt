@@ -33,7 +33,8 @@ kept_is : (o : Option (Option ℕ)) (m : ℕ) → kept_number o ≡ Some m → o
 kept_is None m e = absurd (cc)
 kept_is (Some number) m e = ap Some e
 
-cited_one : {A : Type 0} (later : List A) (m k : ℕ) (a : A) (numbers : List ℕ) (atoms : List A) → m ≡ suc k → slice_get later k ≡ Some a
+cited_one : {A : Type 0} (later : List A) (m k : ℕ) (a : A) (numbers : List ℕ) (atoms : List A) → m ≡ suc k
+    → slice_get later k ≡ Some a
     → cited later numbers ≡ Some atoms → cited later (m ∷ numbers) ≡ Some (a ∷ atoms)
 cited_one later m k a numbers atoms e f g =
     ap (λ z. cited later (z ∷ numbers)) e ∙ (ap (λ o. before_all o (cited later numbers)) f ∙ ap (before_all (Some a)) g)
@@ -55,9 +56,11 @@ cited_again numbers earlier later (suc n ∷ premises) ns atoms agrees e f =
     let c = all_there (slice_get earlier n) (cited earlier premises) atoms f in
     let k = agrees n r.0 c.0 (kept_is (slice_get numbers n) r.0 r.2) c.2 in
     ap (cited later) r.4
-    ∙ (cited_one later r.0 k.0 c.0 r.1 c.1 k.1 k.2 (cited_again numbers earlier later premises r.1 c.1 agrees r.3 c.3) ∙ ap Some (sym c.4))
+    ∙ (cited_one later r.0 k.0 c.0 r.1 c.1 k.1 k.2 (cited_again numbers earlier later premises r.1 c.1 agrees r.3 c.3)
+    ∙ ap Some (sym c.4))
 
-agrees_dropped : {A : Type 0} (numbers : List (Option ℕ)) (earlier later : List A) (a : A) → length numbers ≡ length earlier → Agrees numbers earlier later
+agrees_dropped : {A : Type 0} (numbers : List (Option ℕ)) (earlier later : List A) (a : A) → length numbers ≡ length earlier
+    → Agrees numbers earlier later
     → Agrees (numbers ++ None ∷ []) (earlier ++ a ∷ []) later
 agrees_dropped numbers earlier later a same agrees n m b e f =
     elim (get_cases numbers None n (Some m) e) [
@@ -68,7 +71,8 @@ agrees_dropped numbers earlier later a same agrees n m b e f =
       | inr h ↦ let no : Some m ≡ None = h.1 in absurd (cc)
     ]
 
-agrees_kept : {A : Type 0} (numbers : List (Option ℕ)) (earlier later : List A) (a : A) (count : ℕ) → length numbers ≡ length earlier → count ≡ length later
+agrees_kept : {A : Type 0} (numbers : List (Option ℕ)) (earlier later : List A) (a : A) (count : ℕ)
+    → length numbers ≡ length earlier → count ≡ length later
     → Agrees numbers earlier later → Agrees (numbers ++ Some (suc count) ∷ []) (earlier ++ a ∷ []) (later ++ a ∷ [])
 agrees_kept numbers earlier later a count same is agrees n m b e f =
     elim (get_cases numbers (Some (suc count)) n (Some m) e) [
@@ -86,7 +90,8 @@ agrees_kept numbers earlier later a count same is agrees n m b e f =
     ]
 
 -- lists with one more
-longer : {X Y : Type 0} (xs : List X) (x : X) (ys : List Y) (y : Y) → length xs ≡ length ys → length (xs ++ x ∷ []) ≡ length (ys ++ y ∷ [])
+longer : {X Y : Type 0} (xs : List X) (x : X) (ys : List Y) (y : Y) → length xs ≡ length ys
+    → length (xs ++ x ∷ []) ≡ length (ys ++ y ∷ [])
 longer xs x ys y same = omega (arith, length-append xs (x ∷ []), length-append ys (y ∷ []), same)
 
 one_more : {X : Type 0} (count : ℕ) (xs : List X) (x : X) → count ≡ length xs → suc count ≡ length (xs ++ x ∷ [])
@@ -94,7 +99,8 @@ one_more count xs x is = omega (arith, length-append xs (x ∷ []), is)
 
 -- the parts of new premises
 pub not_gone : {S A : Type 0} (form : StepForm S A) (gone : S → Bool) (numbers : List (Option ℕ)) (step : S) (premises : List ℕ)
-    → new_premises form gone numbers step ≡ Some premises → (gone step ≡ false) × (new_numbers numbers (form.premises step) ≡ Some premises)
+    → new_premises form gone numbers step ≡ Some premises
+    → (gone step ≡ false) × (new_numbers numbers (form.premises step) ≡ Some premises)
 not_gone form gone numbers step premises e = choice (gone step) (new_numbers numbers (form.premises step)) e
   where
     choice : (b : Bool) (o : Option (List ℕ)) → cond b None o ≡ Some premises → (b ≡ false) × (o ≡ Some premises)
@@ -111,7 +117,8 @@ module _ {S A : Type 0} (form : StepForm S A) (gone : S → Bool) (before after 
 
   -- a step that is kept, before others that are accepted after it
   kept_first : Stays → (later : List A) (step : S) (premises : List ℕ) (atoms : List A) (rest : List S) → gone step ≡ false
-      → cited later premises ≡ Some atoms → before step atoms ≡ true → accepted form after (later ++ form.conclusion step ∷ []) rest ≡ true
+      → cited later premises ≡ Some atoms → before step atoms ≡ true
+      → accepted form after (later ++ form.conclusion step ∷ []) rest ≡ true
       → accepted form after later (form.with_premises step premises ∷ rest) ≡ true
   kept_first stays later step premises atoms rest stands again from onwards =
       let new = form.with_premises step premises in
@@ -122,14 +129,16 @@ module _ {S A : Type 0} (form : StepForm S A) (gone : S → Bool) (before after 
       (ap (λ a. accepted form after (later ++ a ∷ []) rest) (stays.same step premises) ∙ onwards)
 
   -- what is kept of an accepted list is accepted
-  pub kept_accepted : Stays → (numbers : List (Option ℕ)) (count : ℕ) (earlier later : List A) (steps : List S) → length numbers ≡ length earlier
+  pub kept_accepted : Stays → (numbers : List (Option ℕ)) (count : ℕ) (earlier later : List A) (steps : List S)
+      → length numbers ≡ length earlier
       → count ≡ length later → Agrees numbers earlier later → accepted form before earlier steps ≡ true
       → accepted form after later (kept form gone numbers count steps) ≡ true
   kept_accepted stays numbers count earlier later [] same is agrees e = refl
   kept_accepted stays numbers count earlier later (step ∷ steps) same is agrees e =
       let p = accepted_parts form before earlier step steps e in
       elim (new_premises form gone numbers step) as (λ o. new_premises form gone numbers step ≡ o
-      → accepted form after later (with_step form step o (kept form gone (numbers ++ number_for o count ∷ []) (count_with o count) steps)) ≡ true) [
+      → accepted form after later
+      (with_step form step o (kept form gone (numbers ++ number_for o count ∷ []) (count_with o count) steps)) ≡ true) [
         | None ↦ λ k.
             kept_accepted stays (numbers ++ None ∷ []) count (earlier ++ form.conclusion step ∷ []) later steps
             (longer numbers None earlier (form.conclusion step) same) is
@@ -137,12 +146,16 @@ module _ {S A : Type 0} (form : StepForm S A) (gone : S → Bool) (before after 
         | Some premises ↦ λ k.
             let n = not_gone form gone numbers step premises k in
             let again = cited_again numbers earlier later (form.premises step) premises p.atoms agrees n.1 p.cites in
-            kept_first stays later step premises p.atoms (kept form gone (numbers ++ Some (suc count) ∷ []) (suc count) steps) n.0 again p.from
-            (kept_accepted stays (numbers ++ Some (suc count) ∷ []) (suc count) (earlier ++ form.conclusion step ∷ []) (later ++ form.conclusion step ∷ []) steps
-            (longer numbers (Some (suc count)) earlier (form.conclusion step) same) (one_more count later (form.conclusion step) is)
+            kept_first stays later step premises p.atoms
+            (kept form gone (numbers ++ Some (suc count) ∷ []) (suc count) steps) n.0 again p.from
+            (kept_accepted stays (numbers ++ Some (suc count) ∷ []) (suc count) (earlier ++ form.conclusion step ∷ [])
+            (later ++ form.conclusion step ∷ []) steps
+            (longer numbers (Some (suc count)) earlier (form.conclusion step) same)
+            (one_more count later (form.conclusion step) is)
             (agrees_kept numbers earlier later (form.conclusion step) count same is agrees) p.later)
       ] refl
 
   -- from nothing
-  pub kept_of_all : Stays → (steps : List S) → accepted form before [] steps ≡ true → accepted form after [] (kept form gone [] 0 steps) ≡ true
+  pub kept_of_all : Stays → (steps : List S) → accepted form before [] steps ≡ true
+      → accepted form after [] (kept form gone [] 0 steps) ≡ true
   kept_of_all stays steps e = kept_accepted stays [] 0 [] [] steps refl refl (λ n m a h k. absurd (cc)) e

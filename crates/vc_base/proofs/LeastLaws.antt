@@ -48,7 +48,8 @@ module _ {S A : Type 0} (form : StepForm S A) (gone : S → Bool) where
   gone_none : (numbers : List (Option ℕ)) (step : S) → gone step ≡ true → new_premises form gone numbers step ≡ None
   gone_none numbers step e = ap (λ b. cond b None (new_numbers numbers (form.premises step))) e
 
-  unnew_none : (numbers : List (Option ℕ)) (step : S) → new_numbers numbers (form.premises step) ≡ None → new_premises form gone numbers step ≡ None
+  unnew_none : (numbers : List (Option ℕ)) (step : S) → new_numbers numbers (form.premises step) ≡ None
+      → new_premises form gone numbers step ≡ None
   unnew_none numbers step e = choice (gone step) (new_numbers numbers (form.premises step)) e
     where
       choice : (b : Bool) (o : Option (List ℕ)) → o ≡ None → cond b None o ≡ None
@@ -67,20 +68,24 @@ module _ {S A : Type 0} (form : StepForm S A) (gone : S → Bool) (all : List (O
   before : (n : ℕ) (numbers : List (Option ℕ)) (count : ℕ) (steps : List S) → Fits n numbers count steps → (k : ℕ) → k < n
       → slice_get all k ≡ slice_get numbers k
   before n numbers count steps f k below =
-      ap (λ xs. slice_get xs k) f.whole ∙ get_front numbers (numbers_from form gone numbers count steps) k (omega (arith, f.place))
+      ap (λ xs. slice_get xs k) f.whole
+      ∙ get_front numbers (numbers_from form gone numbers count steps) k (omega (arith, f.place))
 
   -- and of the number itself
   here : (n : ℕ) (numbers : List (Option ℕ)) (count : ℕ) (step : S) (steps : List S) → Fits n numbers count (step ∷ steps)
       → slice_get all n ≡ Some (number_for (new_premises form gone numbers step) count)
   here n numbers count step steps f =
       let number = number_for (new_premises form gone numbers step) count in
-      let later = numbers_from form gone (numbers ++ number ∷ []) (count_with (new_premises form gone numbers step) count) steps in
+      let later = numbers_from form gone (numbers ++ number ∷ [])
+      (count_with (new_premises form gone numbers step) count) steps in
       ap (slice_get all) f.place ∙ (ap (λ xs. slice_get xs (length numbers)) f.whole ∙ get_middle numbers number later)
 
   -- one number more is left, or not
-  left_next : (n : ℕ) (count : ℕ) (o : Option (List ℕ)) → slice_get all n ≡ Some (number_for o count) → number_left (dropped_by all) n ≡ count
+  left_next : (n : ℕ) (count : ℕ) (o : Option (List ℕ)) → slice_get all n ≡ Some (number_for o count)
+      → number_left (dropped_by all) n ≡ count
       → number_left (dropped_by all) (suc n) ≡ count_with o count
-  left_next n count None e f = ap (λ p. cond (is_unnumbered p) (number_left (dropped_by all) n) (suc (number_left (dropped_by all) n))) e ∙ f
+  left_next n count None e f =
+      ap (λ p. cond (is_unnumbered p) (number_left (dropped_by all) n) (suc (number_left (dropped_by all) n))) e ∙ f
   left_next n count (Some ps) e f =
       ap (λ p. cond (is_unnumbered p) (number_left (dropped_by all) n) (suc (number_left (dropped_by all) n))) e ∙ ap suc f
 
@@ -89,12 +94,14 @@ module _ {S A : Type 0} (form : StepForm S A) (gone : S → Bool) (all : List (O
   number_is (Some ps) count m e = let is : m ≡ suc count = cc in sym is
 
   fits_next : (n : ℕ) (numbers : List (Option ℕ)) (count : ℕ) (step : S) (steps : List S) → Fits n numbers count (step ∷ steps)
-      → Fits (suc n) (numbers ++ number_for (new_premises form gone numbers step) count ∷ []) (count_with (new_premises form gone numbers step) count) steps
+      → Fits (suc n) (numbers ++ number_for (new_premises form gone numbers step) count ∷ [])
+      (count_with (new_premises form gone numbers step) count) steps
   fits_next n numbers count step steps f =
       let o = new_premises form gone numbers step in
       let number = number_for o count in
       let later = numbers_from form gone (numbers ++ number ∷ []) (count_with o count) steps in
-      let next : number_left (dropped_by all) (suc n) ≡ count_with o count = left_next n count o (here n numbers count step steps f) f.counted in
+      let next : number_left (dropped_by all) (suc n) ≡ count_with o count
+      = left_next n count o (here n numbers count step steps f) f.counted in
       record {
         whole = f.whole ∙ sym (append_assoc numbers (number ∷ []) later);
         place = omega (arith, f.place, length-append numbers (number ∷ []));
@@ -118,7 +125,8 @@ module _ {S A : Type 0} (form : StepForm S A) (gone : S → Bool) (all : List (O
       let below : suc k < suc n = ltb-true (suc k) (suc n) p.0 in
       elim (or_cases (dropped_by all (suc k)) (list_any (has_step (dropped_by all)) premises) e) [
         | inl h ↦
-            let none : slice_get numbers k ≡ Some None = sym (before n numbers count steps f k (omega arith)) ∙ unnumbered_is (slice_get all k) h in
+            let none : slice_get numbers k ≡ Some None
+            = sym (before n numbers count steps f k (omega arith)) ∙ unnumbered_is (slice_get all k) h in
             ap (λ o. before_all (kept_number o) (new_numbers numbers premises)) none
         | inr h ↦
             ap (before_all (kept_number (slice_get numbers k))) (unnew n numbers count steps f premises p.1 h)
@@ -126,7 +134,8 @@ module _ {S A : Type 0} (form : StepForm S A) (gone : S → Bool) (all : List (O
       ]
 
   -- the new numbers of premises count what is left
-  new_are : (n : ℕ) (numbers : List (Option ℕ)) (count : ℕ) (steps : List S) → Fits n numbers count steps → (premises news : List ℕ)
+  new_are : (n : ℕ) (numbers : List (Option ℕ)) (count : ℕ) (steps : List S) → Fits n numbers count steps
+      → (premises news : List ℕ)
       → new_numbers numbers premises ≡ Some news → news ≡ map (number_left (dropped_by all)) premises
   new_are n numbers count steps f [] news e = cc
   new_are n numbers count steps f (zero ∷ premises) news e =
@@ -136,7 +145,8 @@ module _ {S A : Type 0} (form : StepForm S A) (gone : S → Bool) (all : List (O
   new_are n numbers count steps f (suc k ∷ premises) news e =
       let r = all_there (kept_number (slice_get numbers k)) (new_numbers numbers premises) news e in
       let is : number_left (dropped_by all) (suc k) ≡ r.0 = f.numbered k r.0 (number_there (slice_get numbers k) r.0 r.2) in
-      r.4 ∙ (ap (λ z. z ∷ r.1) (sym is) ∙ ap (λ zs. number_left (dropped_by all) (suc k) ∷ zs) (new_are n numbers count steps f premises r.1 r.3))
+      r.4 ∙ (ap (λ z. z ∷ r.1) (sym is)
+      ∙ ap (λ zs. number_left (dropped_by all) (suc k) ∷ zs) (new_are n numbers count steps f premises r.1 r.3))
     where
       number_there : (o : Option (Option ℕ)) (m : ℕ) → kept_number o ≡ Some m → o ≡ Some (Some m)
       number_there None m g = absurd (cc)
@@ -144,7 +154,8 @@ module _ {S A : Type 0} (form : StepForm S A) (gone : S → Bool) (all : List (O
 
   -- a step that is to be dropped has its number among the dropped
   dropped_here : (n : ℕ) (numbers : List (Option ℕ)) (count : ℕ) (step : S) (steps : List S) → Fits n numbers count (step ∷ steps)
-      → list_all (λ k. nat_lt k (suc n)) (form.premises step) ≡ true → is_to_drop form gone (dropped_by all) step ≡ true → dropped_by all (suc n) ≡ true
+      → list_all (λ k. nat_lt k (suc n)) (form.premises step) ≡ true → is_to_drop form gone (dropped_by all) step ≡ true
+      → dropped_by all (suc n) ≡ true
   dropped_here n numbers count step steps f earlier e =
       let some = list_any (has_step (dropped_by all)) (form.premises step) in
       let none : new_premises form gone numbers step ≡ None
@@ -154,33 +165,41 @@ module _ {S A : Type 0} (form : StepForm S A) (gone : S → Bool) (all : List (O
       ] in
       ap is_unnumbered (here n numbers count step steps f) ∙ ap (λ o. is_unnumbered (Some (number_for o count))) none
 
-  is_dropping : (n : ℕ) (numbers : List (Option ℕ)) (count : ℕ) (steps : List S) → Fits n numbers count steps → cites_earlier form (suc n) steps ≡ true
+  is_dropping : (n : ℕ) (numbers : List (Option ℕ)) (count : ℕ) (steps : List S) → Fits n numbers count steps
+      → cites_earlier form (suc n) steps ≡ true
       → IsDropping form gone (dropped_by all) (suc n) steps
   is_dropping n numbers count [] f earlier = tt
   is_dropping n numbers count (step ∷ steps) f earlier =
-      let p = and_parts (list_all (λ k. nat_lt k (suc n)) (form.premises step)) (cites_earlier form (suc (suc n)) steps) earlier in
+      let p = and_parts (list_all (λ k. nat_lt k (suc n)) (form.premises step))
+      (cites_earlier form (suc (suc n)) steps) earlier in
       let o = new_premises form gone numbers step in (
         dropped_here n numbers count step steps f p.0,
-        is_dropping (suc n) (numbers ++ number_for o count ∷ []) (count_with o count) steps (fits_next n numbers count step steps f) p.1,
+        is_dropping (suc n) (numbers ++ number_for o count ∷ []) (count_with o count) steps
+            (fits_next n numbers count step steps f) p.1,
       )
 
   -- what is kept is what is left without the dropped
   left_here : (n : ℕ) (count : ℕ) (step : S) (o : Option (List ℕ)) (later : List S) → slice_get all n ≡ Some (number_for o count)
       → ((news : List ℕ) → o ≡ Some news → news ≡ map (number_left (dropped_by all)) (form.premises step))
-      → with_step form step o later ≡ cond (dropped_by all (suc n)) later (form.with_premises step (map (number_left (dropped_by all)) (form.premises step)) ∷ later)
+      → with_step form step o later ≡ cond (dropped_by all (suc n)) later
+      (form.with_premises step (map (number_left (dropped_by all)) (form.premises step)) ∷ later)
   left_here n count step None later e g =
-      sym (ap (λ p. cond (is_unnumbered p) later (form.with_premises step (map (number_left (dropped_by all)) (form.premises step)) ∷ later)) e)
+      sym (ap (λ p. cond (is_unnumbered p) later
+      (form.with_premises step (map (number_left (dropped_by all)) (form.premises step)) ∷ later)) e)
   left_here n count step (Some news) later e g =
       ap (λ ns. form.with_premises step ns ∷ later) (g news refl)
-      ∙ sym (ap (λ p. cond (is_unnumbered p) later (form.with_premises step (map (number_left (dropped_by all)) (form.premises step)) ∷ later)) e)
+      ∙ sym (ap (λ p. cond (is_unnumbered p) later
+      (form.with_premises step (map (number_left (dropped_by all)) (form.premises step)) ∷ later)) e)
 
   left_is : (n : ℕ) (numbers : List (Option ℕ)) (count : ℕ) (steps : List S) → Fits n numbers count steps
       → kept form gone numbers count steps ≡ without form (dropped_by all) (suc n) steps
   left_is n numbers count [] f = refl
   left_is n numbers count (step ∷ steps) f =
       let o = new_premises form gone numbers step in
-      let rest : kept form gone (numbers ++ number_for o count ∷ []) (count_with o count) steps ≡ without form (dropped_by all) (suc (suc n)) steps
-      = left_is (suc n) (numbers ++ number_for o count ∷ []) (count_with o count) steps (fits_next n numbers count step steps f) in
+      let rest : kept form gone (numbers ++ number_for o count ∷ []) (count_with o count) steps ≡ without form (dropped_by all)
+      (suc (suc n)) steps
+      = left_is (suc n) (numbers ++ number_for o count ∷ []) (count_with o count) steps
+      (fits_next n numbers count step steps f) in
       ap (with_step form step o) rest
       ∙ left_here n count step o (without form (dropped_by all) (suc (suc n)) steps) (here n numbers count step steps f)
       (λ news e. new_are n numbers count (step ∷ steps) f (form.premises step) news (not_gone form gone numbers step news e).1)
@@ -213,7 +232,8 @@ module _ {S A : Type 0} (form : StepForm S A) (gone : S → Bool) (other : ℕ �
           | None ↦ λ g. or_left (other (suc k)) rest (holds k g)
           | Some j ↦ λ g.
               let none : new_numbers numbers premises ≡ None
-              = rest_none j (new_numbers numbers premises) (sym (ap (λ o. before_all (kept_number o) (new_numbers numbers premises)) g) ∙ e) in
+              = rest_none j (new_numbers numbers premises)
+              (sym (ap (λ o. before_all (kept_number o) (new_numbers numbers premises)) g) ∙ e) in
               or_right (other (suc k)) rest (some_dropped n numbers is holds premises p.1 none)
         ]
       ] refl
@@ -229,7 +249,8 @@ module _ {S A : Type 0} (form : StepForm S A) (gone : S → Bool) (other : ℕ �
 
   -- so a step without new premises is to be dropped there
   to_drop : (n : ℕ) (numbers : List (Option ℕ)) → n ≡ length numbers → Holds numbers → (step : S)
-      → list_all (λ k. nat_lt k (suc n)) (form.premises step) ≡ true → new_premises form gone numbers step ≡ None → is_to_drop form gone other step ≡ true
+      → list_all (λ k. nat_lt k (suc n)) (form.premises step) ≡ true → new_premises form gone numbers step ≡ None
+      → is_to_drop form gone other step ≡ true
   to_drop n numbers is holds step earlier e =
       let some = list_any (has_step other) (form.premises step) in
       elim (gone step) as (λ b. cond b None (new_numbers numbers (form.premises step)) ≡ None → (b || some) ≡ true) [
@@ -250,14 +271,17 @@ module _ {S A : Type 0} (form : StepForm S A) (gone : S → Bool) (other : ℕ �
       none_is (Some ps) f = absurd (cc)
 
   least_from : (n : ℕ) (numbers : List (Option ℕ)) (count : ℕ) (steps : List S) → n ≡ length numbers → Holds numbers
-      → cites_earlier form (suc n) steps ≡ true → IsDropping form gone other (suc n) steps → Holds (numbers ++ numbers_from form gone numbers count steps)
+      → cites_earlier form (suc n) steps ≡ true → IsDropping form gone other (suc n) steps
+      → Holds (numbers ++ numbers_from form gone numbers count steps)
   least_from n numbers count [] is holds earlier d k e = holds k (ap (λ xs. slice_get xs k) (sym (append-nil numbers)) ∙ e)
   least_from n numbers count (step ∷ steps) is holds earlier d k e =
-      let p = and_parts (list_all (λ j. nat_lt j (suc n)) (form.premises step)) (cites_earlier form (suc (suc n)) steps) earlier in
+      let p = and_parts (list_all (λ j. nat_lt j (suc n)) (form.premises step))
+      (cites_earlier form (suc (suc n)) steps) earlier in
       let o = new_premises form gone numbers step in
       let number = number_for o count in
       let later = numbers_from form gone (numbers ++ number ∷ []) (count_with o count) steps in
-      least_from (suc n) (numbers ++ number ∷ []) (count_with o count) steps (omega (arith, is, length-append numbers (number ∷ [])))
+      least_from (suc n) (numbers ++ number ∷ []) (count_with o count) steps
+      (omega (arith, is, length-append numbers (number ∷ [])))
       (holds_next n numbers count o is holds (λ g. d.0 (to_drop n numbers is holds step p.0 g))) p.1 d.1 k
       (ap (λ xs. slice_get xs k) (append_assoc numbers (number ∷ []) later) ∙ e)
 
@@ -266,11 +290,13 @@ pub kept_is_left : {S A : Type 0} (form : StepForm S A) (gone : S → Bool) (ste
     → IsLeft form gone steps (kept form gone [] 0 steps)
 kept_is_left form gone steps earlier =
     let all = numbers_from form gone [] 0 steps in
-    let f : Fits form gone all 0 [] 0 steps = record { whole = refl; place = refl; counted = refl; numbered = λ k m e. absurd (cc) } in
+    let f : Fits form gone all 0 [] 0 steps
+    = record { whole = refl; place = refl; counted = refl; numbered = λ k m e. absurd (cc) } in
     record {
       dropped = dropped_by all;
       is = is_dropping form gone all 0 [] 0 steps f earlier;
-      least = λ other d n e. among all other (λ k. least_from form gone other 0 [] 0 steps refl (λ j g. absurd (cc)) earlier d k) n e;
+      least =
+          λ other d n e. among all other (λ k. least_from form gone other 0 [] 0 steps refl (λ j g. absurd (cc)) earlier d k) n e;
       rest = left_is form gone all 0 [] 0 steps f;
     }
   where

@@ -9,7 +9,8 @@ use Rattle.vc_base.specs.Spreading.{Links, reads_some, written_from, spread, rea
 use Rattle.vc_base.proofs.Counting.{missing}
 use Rattle.vc_base.proofs.SetLaws.{same_test, has_either, has_front, has_back, with_all_left, with_all_right, with_all_cases, with_all_same, with_all_longer, with_all_distinct}
 
-module _ {T R : Type 0} (links : Links T R) (exact : (a b : T) → links.same a b ≡ true → a ≡ b) (itself : (a : T) → links.same a a ≡ true) where
+module _ {T R : Type 0} (links : Links T R) (exact : (a b : T) → links.same a b ≡ true → a ≡ b)
+    (itself : (a : T) → links.same a a ≡ true) where
   -- a rule that reads a thing of a list reads one of a longer list
   more_read : (xs ys : List T) → Within links.same xs ys → (things : List T) → list_any (has links.same xs) things ≡ true
       → list_any (has links.same ys) things ≡ true
@@ -24,21 +25,26 @@ module _ {T R : Type 0} (links : Links T R) (exact : (a b : T) → links.same a 
   abbrev written_if : (R → Bool) → List R → List T
   written_if test rules = flat_map (λ rule. cond (test rule) (links.writes rule) []) rules
 
-  if_more : (p q : R → Bool) → ((r : R) → p r ≡ true → q r ≡ true) → (rules : List R) → Within links.same (written_if p rules) (written_if q rules)
+  if_more : (p q : R → Bool) → ((r : R) → p r ≡ true → q r ≡ true) → (rules : List R)
+      → Within links.same (written_if p rules) (written_if q rules)
   if_more p q f [] a h = h
   if_more p q f (r ∷ rules) a h =
       elim (has_either links.same exact itself (cond (p r) (links.writes r) []) (written_if p rules) a h) [
-        | inl e ↦ has_front links.same exact itself (cond (q r) (links.writes r) []) (written_if q rules) a (first (p r) (q r) (links.writes r) (f r) e)
-        | inr e ↦ has_back links.same exact itself (cond (q r) (links.writes r) []) (written_if q rules) a (if_more p q f rules a e)
+        | inl e ↦ has_front links.same exact itself (cond (q r) (links.writes r) []) (written_if q rules) a
+            (first (p r) (q r) (links.writes r) (f r) e)
+        | inr e ↦ has_back links.same exact itself (cond (q r) (links.writes r) []) (written_if q rules) a
+            (if_more p q f rules a e)
       ]
     where
-      first : (b c : Bool) (xs : List T) → (b ≡ true → c ≡ true) → has links.same (cond b xs []) a ≡ true → has links.same (cond c xs []) a ≡ true
+      first : (b c : Bool) (xs : List T) → (b ≡ true → c ≡ true) → has links.same (cond b xs []) a ≡ true
+          → has links.same (cond c xs []) a ≡ true
       first true true xs g k = k
       first true false xs g k = let no : false ≡ true = g refl in absurd (cc)
       first false c xs g k = absurd (cc)
 
   written_grows : (xs ys : List T) → Within links.same xs ys → Within links.same (written_from links xs) (written_from links ys)
-  written_grows xs ys w = if_more (reads_some links xs) (reads_some links ys) (λ r e. more_read xs ys w (links.reads r) e) links.rules
+  written_grows xs ys w =
+      if_more (reads_some links xs) (reads_some links ys) (λ r e. more_read xs ys w (links.reads r) e) links.rules
 
   all_written : (xs : List T) → Within links.same (written_from links xs) (flat_map links.writes links.rules)
   all_written xs = if_more (reads_some links xs) (λ r. true) (λ r e. refl) links.rules
@@ -47,10 +53,12 @@ module _ {T R : Type 0} (links : Links T R) (exact : (a b : T) → links.same a 
   spread_holds : (n : ℕ) (xs : List T) → Within links.same xs (spread links n xs)
   spread_holds zero xs = λ a h. h
   spread_holds (suc n) xs = λ a h.
-      spread_holds n (with_all links.same xs (written_from links xs)) a (with_all_left links.same exact itself xs (written_from links xs) a h)
+      spread_holds n (with_all links.same xs (written_from links xs)) a
+      (with_all_left links.same exact itself xs (written_from links xs) a h)
 
   -- and stands in each list that has what is written from it
-  spread_within : (n : ℕ) (xs all : List T) → Within links.same xs all → Within links.same (written_from links all) all → Within links.same (spread links n xs) all
+  spread_within : (n : ℕ) (xs all : List T) → Within links.same xs all → Within links.same (written_from links all) all
+      → Within links.same (spread links n xs) all
   spread_within zero xs all w c = w
   spread_within (suc n) xs all w c =
       spread_within n (with_all links.same xs (written_from links xs)) all
@@ -62,7 +70,8 @@ module _ {T R : Type 0} (links : Links T R) (exact : (a b : T) → links.same a 
   spread_distinct : (n : ℕ) (xs : List T) → IsDistinct links.same xs → IsDistinct links.same (spread links n xs)
   spread_distinct zero xs d = d
   spread_distinct (suc n) xs d =
-      spread_distinct n (with_all links.same xs (written_from links xs)) (with_all_distinct links.same exact itself xs (written_from links xs) d)
+      spread_distinct n (with_all links.same xs (written_from links xs))
+      (with_all_distinct links.same exact itself xs (written_from links xs) d)
 
   -- a list that has what is written from it stays
   spread_stays : (n : ℕ) (xs : List T) → Within links.same (written_from links xs) xs → spread links n xs ≡ xs
@@ -72,7 +81,8 @@ module _ {T R : Type 0} (links : Links T R) (exact : (a b : T) → links.same a 
 
   -- each time it has all that is written, or gets longer
   whole_or_long : (n : ℕ) (xs : List T)
-      → Within links.same (written_from links (spread links n xs)) (spread links n xs) ⊎ (length xs + n ≤ length (spread links n xs))
+      → Within links.same (written_from links (spread links n xs)) (spread links n xs) ⊎
+      (length xs + n ≤ length (spread links n xs))
   whole_or_long zero xs = inr (omega arith)
   whole_or_long (suc n) xs =
       let next = with_all links.same xs (written_from links xs) in
@@ -110,7 +120,8 @@ module _ {T R : Type 0} (links : Links T R) (exact : (a b : T) → links.same a 
         | inl c ↦ c
         | inr l ↦
             let most : length (spread links n xs) ≤ length (xs ++ written)
-            = length-le_from_is_member equivalence (spread links n xs) (xs ++ written) (spread_distinct n xs d) (spread_known n xs) in
+            = length-le_from_is_member equivalence (spread links n xs) (xs ++ written) (spread_distinct n xs d)
+            (spread_known n xs) in
             absurd (omega (arith, length-append xs written))
       ]
 
@@ -123,7 +134,9 @@ module _ {T R : Type 0} (links : Links T R) (exact : (a b : T) → links.same a 
   reach_spreads things =
       let once = with_all links.same [] things in
       record {
-        holds = λ a h. spread_holds (suc (length (flat_map links.writes links.rules))) once a (with_all_right links.same exact itself [] things a h);
+        holds =
+            λ a h. spread_holds (suc (length (flat_map links.writes links.rules))) once a
+            (with_all_right links.same exact itself [] things a h);
         written = enough once (with_all_distinct links.same exact itself [] things none_distinct);
       }
 

@@ -16,7 +16,8 @@ new_numbers numbers (suc n ∷ premises) = before_all (kept_number (slice_get nu
 
 -- the new premises of a step that is kept: it isn't gone, and its premises were kept
 abbrev pub new_premises : {S A : Type 0} → StepForm S A → (S → Bool) → List (Option ℕ) → S → Option (List ℕ)
-new_premises form gone numbers step = let premises = new_numbers numbers (form.premises step) in if gone step then None else premises
+new_premises form gone numbers step =
+    let premises = new_numbers numbers (form.premises step) in if gone step then None else premises
 
 -- a step with its new premises before those kept later, if it is kept
 abbrev pub with_step : {S A : Type 0} → StepForm S A → S → Option (List ℕ) → List S → List S

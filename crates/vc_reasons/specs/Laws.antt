@@ -23,7 +23,9 @@ use Rattle.vc_reasons.specs.Work.{links_of, reach_of}
 
 -- a list is accepted exactly where no step is the first that isn't
 abbrev pub AcceptedUnrefused : Type 0
-AcceptedUnrefused = (plan : Plan) (sources : Sources) (steps : List Step) → is_accepted plan sources steps ≡ is_none (first_unaccepted plan sources steps)
+AcceptedUnrefused =
+    (plan : Plan) (sources : Sources) (steps : List Step)
+    → is_accepted plan sources steps ≡ is_none (first_unaccepted plan sources steps)
 
 -- what an accepted list concludes stands in every closed set in which the root is here
 abbrev pub ConclusionsStand : Type 0
@@ -39,7 +41,8 @@ WholeSettles = (plan : Plan) (sources : Sources) (steps : List Step) → is_whol
 
 -- where a clash refutes, settling is broken
 abbrev pub RefutingBreaks : Type 0
-RefutingBreaks = (plan : Plan) (sources : Sources) (clash : Clash) → refutes plan sources clash ≡ true → settlement_of plan sources ≡ broken
+RefutingBreaks =
+    (plan : Plan) (sources : Sources) (clash : Clash) → refutes plan sources clash ≡ true → settlement_of plan sources ≡ broken
 
 -- what is kept of a list that was accepted is accepted with the new sources
 abbrev pub KeptIsAccepted : Type 0
@@ -53,7 +56,8 @@ KeptIsLeft = (plan : Plan) (old new : Sources) (log : List Step) → is_accepted
 
 -- two sets have the same atoms of the things
 abbrev pub AreAlike : List Thing → List Atom → List Atom → Type 0
-AreAlike things set other = (atom : Atom) → has_thing things (thing_of atom) ≡ true → has same_atom set atom ≡ has same_atom other atom
+AreAlike things set other =
+    (atom : Atom) → has_thing things (thing_of atom) ≡ true → has same_atom set atom ≡ has same_atom other atom
 
 -- a giver gives the same at a set as at a clear one with the same atoms of the things that it reads or writes
 abbrev pub GivesLocally : Type 0
@@ -64,7 +68,8 @@ GivesLocally = (plan : Plan) (sources : Sources) (giver : Giver) (set other : Li
 -- and it gives atoms of the things that it writes alone
 abbrev pub GivesWhatItWrites : Type 0
 GivesWhatItWrites = (plan : Plan) (sources : Sources) (giver : Giver) (set : List Atom) (atom : Atom)
-    → has same_atom (atoms_of (gives plan sources giver (seen_of set))) atom ≡ true → has_thing (giver_writes plan giver) (thing_of atom) ≡ true
+    → has same_atom (atoms_of (gives plan sources giver (seen_of set))) atom ≡ true
+    → has_thing (giver_writes plan giver) (thing_of atom) ≡ true
 
 -- what things reach is the least list that has them and all that a rule writes which reads one of it; it has each once
 abbrev pub ReachIsLeast : Type 0

@@ -70,7 +70,8 @@ culprit_clashes plan sources (HiddenSet dependency other) set = false
 -- first: the premises are clear, the culprit reads their things, and it clashes there
 abbrev pub is_clash_at : Plan → Sources → Culprit → List Atom → Bool
 is_clash_at plan sources culprit premises =
-    is_clear plan (set_with premises) && (are_of (culprit_reads plan culprit) premises && culprit_clashes plan sources culprit (set_with premises))
+    is_clear plan (set_with premises)
+    && (are_of (culprit_reads plan culprit) premises && culprit_clashes plan sources culprit (set_with premises))
 
 -- whether the origin is the culprit
 abbrev pub is_origin : Culprit → Origin → Bool
@@ -91,7 +92,8 @@ set_without atom set = filter (λ other. not (same_atom atom other)) set
 abbrev pub is_collision : Plan → Culprit → List Atom → Option (List Origin) → Bool
 is_collision plan culprit premises by =
     not (is_clear plan (set_with premises))
-    && (list_all (λ atom. is_clear plan (set_without atom (set_with premises))) premises && all_pass (list_any (is_origin culprit)) by)
+    && (list_all (λ atom. is_clear plan (set_without atom (set_with premises))) premises
+    && all_pass (list_any (is_origin culprit)) by)
 
 -- whether one of both holds of what the clash cites
 abbrev pub contradicts : Plan → Sources → Clash → List Atom → Bool

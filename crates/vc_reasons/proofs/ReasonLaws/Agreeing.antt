@@ -70,14 +70,16 @@ pub record Agree (things : List Thing) (s t : Seen) : Type 0 where
   pub here : (i : ℕ) → has_thing things (slot_at i) ≡ true → s.here i ≡ t.here i
   pub var : (v : ℕ) → has_thing things (var_at v) ≡ true → SameVar s t v
 
-pub agree_vars : (things : List Thing) (s t : Seen) → Agree things s t → (vs : List ℕ) → Within same_thing (map var_at vs) things → SameVars s t vs
+pub agree_vars : (things : List Thing) (s t : Seen) → Agree things s t → (vs : List ℕ) → Within same_thing (map var_at vs) things
+    → SameVars s t vs
 agree_vars things s t a [] w = tt
 agree_vars things s t a (v ∷ vs) w = (
   a.var v (w (var_at v) (has_first same_thing thing_exact thing_itself (var_at v) (map var_at vs))),
   agree_vars things s t a vs (λ x h. w x (has_more same_thing thing_exact thing_itself (var_at v) (map var_at vs) x h)),
 )
 
-pub agree_slots : (things : List Thing) (s t : Seen) → Agree things s t → (is : List ℕ) → Within same_thing (map slot_at is) things → SameSlots s t is
+pub agree_slots : (things : List Thing) (s t : Seen) → Agree things s t → (is : List ℕ)
+    → Within same_thing (map slot_at is) things → SameSlots s t is
 agree_slots things s t a [] w = tt
 agree_slots things s t a (i ∷ is) w = (
   a.here i (w (slot_at i) (has_first same_thing thing_exact thing_itself (slot_at i) (map slot_at is))),
@@ -85,7 +87,8 @@ agree_slots things s t a (i ∷ is) w = (
 )
 
 -- a value of a clear set is the only one
-only : (plan : Plan) (set : List Atom) → Facts plan set → (v : ℕ) (a b : Value) → has same_atom set (Is v a) ≡ true → has same_atom set (Is v b) ≡ true
+only : (plan : Plan) (set : List Atom) → Facts plan set → (v : ℕ) (a b : Value) → has same_atom set (Is v a) ≡ true
+    → has same_atom set (Is v b) ≡ true
     → a ≡ b
 only plan set f v a b h k =
     elim (and_cases (v == v) (not (same_value a b)) (f.apart (Is v a) (Is v b) h k)) [
@@ -94,7 +97,8 @@ only plan set f v a b h k =
     ]
 
 same_value_read : (plan : Plan) (set other : List Atom) → Facts plan other → (v : ℕ)
-    → ((a : Value) → has same_atom set (Is v a) ≡ has same_atom other (Is v a)) → (o p : Option Value) → value_in set v ≡ o → value_in other v ≡ p → o ≡ p
+    → ((a : Value) → has same_atom set (Is v a) ≡ has same_atom other (Is v a)) → (o p : Option Value) → value_in set v ≡ o
+    → value_in other v ≡ p → o ≡ p
 same_value_read plan set other f v h None None d e = refl
 same_value_read plan set other f v h None (Some b) d e =
     let r = value_read set v b (h b ∙ value_has other v b e) in
@@ -108,12 +112,15 @@ same_value_read plan set other f v h (Some a) (Some b) d e =
     ap Some (only plan other f v a b (sym (h a) ∙ value_has set v a d) (value_has other v b e))
 
 -- clear sets with the same atoms of things say the same of them
-pub alike_agree : (plan : Plan) (things : List Thing) (set other : List Atom) → is_clear plan other ≡ true → AreAlike things set other
+pub alike_agree : (plan : Plan) (things : List Thing) (set other : List Atom) → is_clear plan other ≡ true
+    → AreAlike things set other
     → Agree things (seen_of set) (seen_of other)
 alike_agree plan things set other clear alike = record {
   here = λ i h. alike (Here i) h;
   var = λ v h. record {
-    value = same_value_read plan set other (facts plan other clear) v (λ a. alike (Is v a) h) (value_in set v) (value_in other v) refl refl;
+    value =
+        same_value_read plan set other (facts plan other clear) v (λ a. alike (Is v a) h) (value_in set v)
+        (value_in other v) refl refl;
     out = λ g. alike (Out v g) h;
   };
 }
@@ -128,7 +135,8 @@ slot_same s t None h = refl
 slot_same s t (Some i) h = h.0
 
 -- grains left
-left_by_same : (plan : Plan) (s t : Seen) (v g : ℕ) (o : Option Value) → s.out v g ≡ t.out v g → is_left_by plan s v g o ≡ is_left_by plan t v g o
+left_by_same : (plan : Plan) (s t : Seen) (v g : ℕ) (o : Option Value) → s.out v g ≡ t.out v g
+    → is_left_by plan s v g o ≡ is_left_by plan t v g o
 left_by_same plan s t v g None e = ap not e
 left_by_same plan s t v g (Some a) e = refl
 
@@ -152,7 +160,8 @@ number_same s t (Joined' operator p a q b) h =
     ap (λ x. joined operator x (number (net_reading s) b)) (number_same s t a (vars_front s t (vars_in a) (vars_in b) h))
     ∙ ap (joined operator (number (net_reading t) a)) (number_same s t b (vars_back s t (vars_in a) (vars_in b) h))
 
-term_same : (s t : Seen) (term : Term) → SameVars s t (vars_in term) → term_value (net_reading s) term ≡ term_value (net_reading t) term
+term_same : (s t : Seen) (term : Term) → SameVars s t (vars_in term)
+    → term_value (net_reading s) term ≡ term_value (net_reading t) term
 term_same s t (Literal a) h = refl
 term_same s t (Read v) h = h.0.value
 term_same s t (PartSum slot characteristic) h = refl
@@ -160,7 +169,8 @@ term_same s t (PartCount slot) h = refl
 term_same s t (Applied' function p a) h = ap value_of_number (number_same s t (Applied' function p a) h)
 term_same s t (Joined' operator p a q b) h = ap value_of_number (number_same s t (Joined' operator p a q b) h)
 
-value_in_same : (s t : Seen) (o : Option Term) → SameVars s t (vars_of_term o) → value_in_term (net_reading s) o ≡ value_in_term (net_reading t) o
+value_in_same : (s t : Seen) (o : Option Term) → SameVars s t (vars_of_term o)
+    → value_in_term (net_reading s) o ≡ value_in_term (net_reading t) o
 value_in_same s t None h = refl
 value_in_same s t (Some term) h = term_same s t term h
 
@@ -186,10 +196,12 @@ condition_same s t (Or' p c q d) h =
     ap (λ k. kleene_or k (truth (net_reading s) d)) (condition_same s t c (vars_front s t (vars_read c) (vars_read d) h))
     ∙ ap (kleene_or (truth (net_reading t) c)) (condition_same s t d (vars_back s t (vars_read c) (vars_read d) h))
 
-truth_in_same : (s t : Seen) (o : Option Condition) → SameVars s t (vars_of_condition o) → truth_in (net_reading s) o ≡ truth_in (net_reading t) o
+truth_in_same : (s t : Seen) (o : Option Condition) → SameVars s t (vars_of_condition o)
+    → truth_in (net_reading s) o ≡ truth_in (net_reading t) o
 truth_in_same s t None h = refl
 truth_in_same s t (Some c) h = condition_same s t c h
 
-pub truth_same : (plan : Plan) (s t : Seen) (condition : ℕ) → SameVars s t (vars_of_condition (slice_get plan.conditions condition))
+pub truth_same : (plan : Plan) (s t : Seen) (condition : ℕ)
+    → SameVars s t (vars_of_condition (slice_get plan.conditions condition))
     → truth_at plan (net_reading s) condition ≡ truth_at plan (net_reading t) condition
 truth_same plan s t condition h = truth_in_same s t (slice_get plan.conditions condition) h

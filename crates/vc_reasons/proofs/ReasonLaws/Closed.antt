@@ -29,7 +29,8 @@ accepted_unrefused plan sources steps = chains.accepted_unrefused step_form (fol
 
 pub conclusions_stand : ConclusionsStand
 conclusions_stand plan sources steps closed e c w =
-    chains.accepted_within (system_of plan sources) (system_laws plan sources) step_form (follows plan sources) base (is_given plan sources) closed
+    chains.accepted_within (system_of plan sources) (system_laws plan sources) step_form (follows plan sources) base
+    (is_given plan sources) closed
     (record { clear = c.clear; calm = c.calm; given = c.given }) w [] steps (λ a h. absurd (cc)) e
 
 -- with the start
@@ -43,7 +44,8 @@ pub record Settled (plan : Plan) (sources : Sources) (set : List Atom) : Type 0 
   pub closed : IsClosed plan sources set
   pub root : Within same_atom base set
 
-pub settled_closed : (plan : Plan) (sources : Sources) (set : List Atom) → 0 < length plan.slots → settlement_of plan sources ≡ settled set
+pub settled_closed : (plan : Plan) (sources : Sources) (set : List Atom) → 0 < length plan.slots
+    → settlement_of plan sources ≡ settled set
     → Settled plan sources set
 settled_closed plan sources set some e = record {
   closed = rounds_suffice plan sources set some e;
@@ -81,7 +83,8 @@ silent_closed plan sources set clear silent =
         | inr e ↦ e
       ];
       given = λ a h.
-          let r = settling.giver_of system (system_laws plan sources) (λ giver. atoms_of (gives plan sources giver (seen_of set))) (givers_of plan) a h in
+          let r = settling.giver_of system (system_laws plan sources)
+          (λ giver. atoms_of (gives plan sources giver (seen_of set))) (givers_of plan) a h in
           absurd (silent_none (gives plan sources r.0 (seen_of set)) a (quiet r.0 r.1) r.2);
     }
 

@@ -39,7 +39,8 @@ in_numbers : (n g : ℕ) → g < n → IsIn g (numbers_below n)
 in_numbers n g below = in_range 0 n g (omega arith) (omega arith)
 
 -- a rule that isn't there gives nothing, nor does a source of a variable that isn't
-rule_there : (plan : Plan) (seen : Seen) (r : ℕ) (o : Option Rule) → slice_get plan.rules r ≡ o → (fresh seen (rule_says plan seen o) ≡ nothing → ⊥)
+rule_there : (plan : Plan) (seen : Seen) (r : ℕ) (o : Option Rule) → slice_get plan.rules r ≡ o
+    → (fresh seen (rule_says plan seen o) ≡ nothing → ⊥)
     → r < length plan.rules
 rule_there plan seen r None e f = absurd (f refl)
 rule_there plan seen r (Some rule) e f = get_below plan.rules r rule e
@@ -50,7 +51,8 @@ var_there plan seen v said None e f = absurd (f refl)
 var_there plan seen v said (Some x) e f = get_below plan.vars v x e
 
 -- what gives something is a giver of the plan
-giver_in : (plan : Plan) (sources : Sources) (giver : Giver) (seen : Seen) → (gives plan sources giver seen ≡ nothing → ⊥) → IsIn giver (givers_of plan)
+giver_in : (plan : Plan) (sources : Sources) (giver : Giver) (seen : Seen) → (gives plan sources giver seen ≡ nothing → ⊥)
+    → IsIn giver (givers_of plan)
 giver_in plan sources (by_rule r) seen f =
     in_front (by_rule r) (map by_rule (numbers_below (length plan.rules)))
     (map by_user (numbers_below (length plan.vars)) ++ map by_entry (numbers_below (length plan.vars)))
@@ -60,12 +62,16 @@ giver_in plan sources (by_user v) seen f =
     let vars = numbers_below (length plan.vars) in
     in_back (by_user v) (map by_rule (numbers_below (length plan.rules))) (map by_user vars ++ map by_entry vars)
     (in_front (by_user v) (map by_user vars) (map by_entry vars)
-    (in_map by_user v vars (in_numbers (length plan.vars) v (var_there plan seen v (value_says v (user_of sources v)) (slice_get plan.vars v) refl f))))
+    (in_map by_user v vars
+    (in_numbers (length plan.vars) v
+    (var_there plan seen v (value_says v (user_of sources v)) (slice_get plan.vars v) refl f))))
 giver_in plan sources (by_entry v) seen f =
     let vars = numbers_below (length plan.vars) in
     in_back (by_entry v) (map by_rule (numbers_below (length plan.rules))) (map by_user vars ++ map by_entry vars)
     (in_back (by_entry v) (map by_user vars) (map by_entry vars)
-    (in_map by_entry v vars (in_numbers (length plan.vars) v (var_there plan seen v (entry_says v (entry_of sources v)) (slice_get plan.vars v) refl f))))
+    (in_map by_entry v vars
+    (in_numbers (length plan.vars) v
+    (var_there plan seen v (entry_says v (entry_of sources v)) (slice_get plan.vars v) refl f))))
 
 -- so is what clashes, and what gives an atom
 not_nothing_clash : (x : Given Atom) → is_clash x ≡ true → x ≡ nothing → ⊥
@@ -74,13 +80,16 @@ not_nothing_clash x h e = both h (ap is_clash e)
 not_nothing_atom : (x : Given Atom) (a : Atom) → has same_atom (atoms_of x) a ≡ true → x ≡ nothing → ⊥
 not_nothing_atom x a h e = both h (ap (λ y. has same_atom (atoms_of y) a) e)
 
-pub clashing_in : (plan : Plan) (sources : Sources) (giver : Giver) (set : List Atom) → is_clash (gives plan sources giver (seen_of set)) ≡ true
+pub clashing_in : (plan : Plan) (sources : Sources) (giver : Giver) (set : List Atom)
+    → is_clash (gives plan sources giver (seen_of set)) ≡ true
     → IsIn giver (givers_of plan)
-clashing_in plan sources giver set h = giver_in plan sources giver (seen_of set) (not_nothing_clash (gives plan sources giver (seen_of set)) h)
+clashing_in plan sources giver set h =
+    giver_in plan sources giver (seen_of set) (not_nothing_clash (gives plan sources giver (seen_of set)) h)
 
 pub giving_in : (plan : Plan) (sources : Sources) (giver : Giver) (set : List Atom) (a : Atom)
     → has same_atom (atoms_of (gives plan sources giver (seen_of set))) a ≡ true → IsIn giver (givers_of plan)
-giving_in plan sources giver set a h = giver_in plan sources giver (seen_of set) (not_nothing_atom (gives plan sources giver (seen_of set)) a h)
+giving_in plan sources giver set a h =
+    giver_in plan sources giver (seen_of set) (not_nothing_atom (gives plan sources giver (seen_of set)) a h)
 
 -- what follows: its premises are clear, and a giver of the plan gives it at them
 pub record Following (plan : Plan) (sources : Sources) (step : Step) (premises : List Atom) : Type 0 where
@@ -100,11 +109,14 @@ following plan sources step premises e =
     by (giver_of sources step) q.0 p.1
   where
     by : (g : Option Giver) → is_clear plan (set_with premises) ≡ true
-        → has same_atom (atoms_of (given_by plan sources g (set_with premises))) step.conclusion ≡ true → Following plan sources step premises
+        → has same_atom (atoms_of (given_by plan sources g (set_with premises))) step.conclusion ≡ true
+        → Following plan sources step premises
     by None c h = absurd (cc)
-    by (Some giver) c h = record { clear = c; giver = giver; is_in = giving_in plan sources giver (set_with premises) step.conclusion h; given = h }
+    by (Some giver) c h =
+        record { clear = c; giver = giver; is_in = giving_in plan sources giver (set_with premises) step.conclusion h; given = h }
 
-pub is_given : (plan : Plan) (sources : Sources) → IsGiven (system_of plan sources) (system_laws plan sources) step_form (follows plan sources) base
+pub is_given : (plan : Plan) (sources : Sources)
+    → IsGiven (system_of plan sources) (system_laws plan sources) step_form (follows plan sources) base
 is_given plan sources step premises e =
     let f = following plan sources step premises e in (f.giver, f.is_in, f.given)
 

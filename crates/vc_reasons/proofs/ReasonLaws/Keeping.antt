@@ -54,7 +54,8 @@ user_same : (old new : Sources) (v : ℕ) → user_differs old new v ≡ false �
 user_same old new v e = user_exact (user_of old v) (user_of new v) (not-false (same_user (user_of old v) (user_of new v)) e)
 
 entry_same : (old new : Sources) (v : ℕ) → entry_differs old new v ≡ false → entry_of old v ≡ entry_of new v
-entry_same old new v e = entry_exact (entry_of old v) (entry_of new v) (not-false (same_entry (entry_of old v) (entry_of new v)) e)
+entry_same old new v e =
+    entry_exact (entry_of old v) (entry_of new v) (not-false (same_entry (entry_of old v) (entry_of new v)) e)
 
 -- so an origin that isn't gone means the same giver, which gives the same
 given_if : (plan : Plan) (old new : Sources) (v : ℕ) (set : List Atom) → entry_of old v ≡ entry_of new v → (b : Bool)
@@ -62,7 +63,8 @@ given_if : (plan : Plan) (old new : Sources) (v : ℕ) (set : List Atom) → ent
 given_if plan old new v set e true = ap (λ o. fresh (seen_of set) (if_here plan (seen_of set) v (entry_says v o))) e
 given_if plan old new v set e false = refl
 
-same_given : (plan : Plan) (old new : Sources) (set : List Atom) (origin : Origin) (v : Option ℕ) → origin_differs old new origin v ≡ false
+same_given : (plan : Plan) (old new : Sources) (set : List Atom) (origin : Origin) (v : Option ℕ)
+    → origin_differs old new origin v ≡ false
     → (giver_from old origin v ≡ giver_from new origin v)
     × (given_by plan old (giver_from old origin v) set ≡ given_by plan new (giver_from new origin v) set)
 same_given plan old new set (Rule r) v e = (refl, refl)
@@ -84,7 +86,8 @@ follows_same plan old new step premises e =
     let s = same_given plan old new set step.origin (var_of step.conclusion) e in
     let was = given_by plan old (giver_of old step) set in
     ap (λ g. (is_clear plan set && are_of (things_read plan g) premises) && has same_atom (atoms_of was) step.conclusion) s.0
-    ∙ ap (λ x. (is_clear plan set && are_of (things_read plan (giver_of new step)) premises) && has same_atom (atoms_of x) step.conclusion) s.1
+    ∙ ap (λ x. (is_clear plan set && are_of (things_read plan (giver_of new step)) premises)
+    && has same_atom (atoms_of x) step.conclusion) s.1
 
 stays : (plan : Plan) (old new : Sources) → Stays step_form (is_gone old new) (follows plan old) (follows plan new)
 stays plan old new = record {
@@ -94,7 +97,9 @@ stays plan old new = record {
 }
 
 pub kept_is_accepted : KeptIsAccepted
-kept_is_accepted plan old new log e = kept_of_all step_form (is_gone old new) (follows plan old) (follows plan new) (stays plan old new) log e
+kept_is_accepted plan old new log e =
+    kept_of_all step_form (is_gone old new) (follows plan old) (follows plan new) (stays plan old new) log e
 
 pub kept_is_left : KeptIsLeft
-kept_is_left plan old new log e = steps_left step_form (is_gone old new) log (accepted_earlier step_form (follows plan old) [] log e)
+kept_is_left plan old new log e =
+    steps_left step_form (is_gone old new) log (accepted_earlier step_form (follows plan old) [] log e)

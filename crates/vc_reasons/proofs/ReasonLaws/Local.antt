@@ -39,19 +39,24 @@ use Rattle.vc_reasons.proofs.ReasonLaws.Agreeing.{SameVar, SameVars, SameSlots, 
 use Rattle.vc_reasons.proofs.ReasonLaws.Reaching.{thing_exact, thing_itself}
 use Rattle.vc_reasons.proofs.ReasonLaws.Writing.{Writes, inferred_parts, says_written}
 
-confined_same : (plan : Plan) (s t : Seen) (v : ℕ) (test : Piece → Bool) → SameVar s t v → confined plan s v test ≡ confined plan t v test
+confined_same : (plan : Plan) (s t : Seen) (v : ℕ) (test : Piece → Bool) → SameVar s t v
+    → confined plan s v test ≡ confined plan t v test
 confined_same plan s t v test h =
     ap (λ left. cond (is_restrictable plan v) (atoms (map (Out v) (failing plan v test)))
-    (of_remaining plan v (filter (λ g. left g && is_grain_with plan v test g) (numbers_below (count_of plan v))))) (left_same plan s t v h)
+    (of_remaining plan v (filter (λ g. left g && is_grain_with plan v test g) (numbers_below (count_of plan v)))))
+    (left_same plan s t v h)
 
 among_same : (plan : Plan) (s t : Seen) (rule : Rule) (v : ℕ) (restriction : Restriction) → SameVar s t v
     → among plan s rule v restriction ≡ among plan t rule v restriction
 among_same plan s t rule v restriction h =
     let test = allows plan v restriction in
-    ap (λ x. cond (is_inferred rule v) x (clash_if (is_nothing (filter (λ g. is_left plan s v g && is_grain_with plan v test g) (numbers_below (count_of plan v)))) nothing))
+    ap (λ x. cond (is_inferred rule v) x
+    (clash_if (is_nothing
+    (filter (λ g. is_left plan s v g && is_grain_with plan v test g) (numbers_below (count_of plan v)))) nothing))
     (confined_same plan s t v test h)
     ∙ ap (λ f. cond (is_inferred rule v) (confined plan t v test)
-    (clash_if (is_nothing (filter (λ g. f g && is_grain_with plan v test g) (numbers_below (count_of plan v)))) nothing)) (left_same plan s t v h)
+    (clash_if (is_nothing (filter (λ g. f g && is_grain_with plan v test g) (numbers_below (count_of plan v)))) nothing))
+    (left_same plan s t v h)
 
 -- a term that is one variable
 lone_same : (s t : Seen) (o : Option Term) (v : ℕ) → lone_in o ≡ Some v → SameVars s t (vars_of_term o) → SameVar s t v
@@ -67,13 +72,15 @@ side_same : (plan : Plan) (s t : Seen) (rule : Rule) (a v : ℕ) → lone_inferr
     → SameVars s t (vars_of_term (slice_get plan.terms a)) → SameVar s t v
 side_same plan s t rule a v e h = lone_same s t (slice_get plan.terms a) v (inferred_parts rule (lone plan a) v e).0 h
 
-related_same : (plan : Plan) (s t : Seen) (r : Relation) (o : Option ℕ) (x : Option Value) → ((v : ℕ) → o ≡ Some v → SameVar s t v)
+related_same : (plan : Plan) (s t : Seen) (r : Relation) (o : Option ℕ) (x : Option Value)
+    → ((v : ℕ) → o ≡ Some v → SameVar s t v)
     → related plan s r o x ≡ related plan t r o x
 related_same plan s t r None x f = refl
 related_same plan s t r (Some v) None f = refl
 related_same plan s t r (Some v) (Some a) f = confined_same plan s t v (λ piece. not (is_outside r a piece)) (f v refl)
 
-compare_same : (plan : Plan) (s t : Seen) (rule : Rule) (r : Relation) (a b : ℕ) → SameVars s t (vars_of_term (slice_get plan.terms a))
+compare_same : (plan : Plan) (s t : Seen) (rule : Rule) (r : Relation) (a b : ℕ)
+    → SameVars s t (vars_of_term (slice_get plan.terms a))
     → SameVars s t (vars_of_term (slice_get plan.terms b)) → compare plan s rule r a b ≡ compare plan t rule r a b
 compare_same plan s t rule r a b h k =
     let v = lone_inferred plan rule a in
@@ -82,7 +89,8 @@ compare_same plan s t rule r a b h k =
     let y = value_at plan (net_reading t) b in
     ap (λ z. clash_if_false (compared r z (value_at plan (net_reading s) b))
     (beside (related plan s r v (value_at plan (net_reading s) b)) (related plan s (turned r) w z))) (value_same plan s t a h)
-    ∙ (ap (λ z. clash_if_false (compared r x z) (beside (related plan s r v z) (related plan s (turned r) w x))) (value_same plan s t b k)
+    ∙ (ap (λ z. clash_if_false (compared r x z) (beside (related plan s r v z) (related plan s (turned r) w x)))
+    (value_same plan s t b k)
     ∙ (ap (λ z. clash_if_false (compared r x y) (beside z (related plan s (turned r) w x)))
     (related_same plan s t r v y (λ u e. side_same plan s t rule a u e h))
     ∙ ap (λ z. clash_if_false (compared r x y) (beside (related plan t r v y) z))
@@ -97,15 +105,18 @@ equate_same plan s t rule a b h k =
     let x = value_at plan (net_reading t) a in
     ap (λ z. clash_if ((is_none v && is_none w) && differ decimals z (value_at plan (net_reading s) b))
     (beside (equal_to plan v (value_at plan (net_reading s) b)) (equal_to plan w z))) (value_same plan s t a h)
-    ∙ ap (λ z. clash_if ((is_none v && is_none w) && differ decimals x z) (beside (equal_to plan v z) (equal_to plan w x))) (value_same plan s t b k)
+    ∙ ap (λ z. clash_if ((is_none v && is_none w) && differ decimals x z) (beside (equal_to plan v z) (equal_to plan w x)))
+    (value_same plan s t b k)
 
 -- which rows are possible
 fits_same : (plan : Plan) (s t : Seen) (o : Operand) → SameVars s t (vars_of_operand o) → fits plan s o ≡ fits plan t o
 fits_same plan s t (Constant b) h = refl
 fits_same plan s t (Variable v) h =
-    ap (λ left a. list_any (λ g. left g && is_grain_with plan v (lies_in a) g) (numbers_below (count_of plan v))) (left_same plan s t v h.0)
+    ap (λ left a. list_any (λ g. left g && is_grain_with plan v (lies_in a) g) (numbers_below (count_of plan v)))
+    (left_same plan s t v h.0)
 
-possible_same : (plan : Plan) (s t : Seen) (columns : List Binding) → SameVars s t (flat_map vars_of_column columns) → (row : List Value)
+possible_same : (plan : Plan) (s t : Seen) (columns : List Binding) → SameVars s t (flat_map vars_of_column columns)
+    → (row : List Value)
     → is_possible_in plan s columns row ≡ is_possible_in plan t columns row
 possible_same plan s t [] h row = refl
 possible_same plan s t (column ∷ columns) h row =
@@ -126,7 +137,8 @@ some_columns s t p (column ∷ columns) h =
     choice true rest f g = vars_join s t (vars_of_column column) (flat_map vars_of_column rest) f g
     choice false rest f g = g
 
-variable_same : (plan : Plan) (s t : Seen) (table : ℕ) (columns : List Binding) (v : ℕ) → SameVars s t (flat_map vars_of_column columns)
+variable_same : (plan : Plan) (s t : Seen) (table : ℕ) (columns : List Binding) (v : ℕ)
+    → SameVars s t (flat_map vars_of_column columns)
     → for_variable plan s table columns v ≡ for_variable plan t table columns v
 variable_same plan s t table columns v h =
     let others = other_columns v columns in
@@ -136,16 +148,22 @@ variable_same plan s t table columns v h =
     ap (λ f. atoms (cond (is_restrictable plan v) (map (Out v) (missing_grains plan v own (filter f (rows_of plan table))))
     (agreed plan v own (filter f (rows_of plan table))))) same
 
-table_same : (plan : Plan) (s t : Seen) (rule : Rule) (table : ℕ) (columns : List Binding) → SameVars s t (flat_map vars_of_column columns)
+table_same : (plan : Plan) (s t : Seen) (rule : Rule) (table : ℕ) (columns : List Binding)
+    → SameVars s t (flat_map vars_of_column columns)
     → by_table plan s rule table columns ≡ by_table plan t rule table columns
 table_same plan s t rule table columns h =
-    let possible : is_possible_in plan s columns ≡ is_possible_in plan t columns = λ i row. possible_same plan s t columns h row i in
-    let each : for_variable plan s table columns ≡ for_variable plan t table columns = λ i v. variable_same plan s t table columns v h i in
-    ap (λ f. clash_if (not (list_any f (rows_of plan table))) (gathered (for_variable plan s table columns) (narrowed rule columns))) possible
-    ∙ ap (λ f. clash_if (not (list_any (is_possible_in plan t columns) (rows_of plan table))) (gathered f (narrowed rule columns))) each
+    let possible : is_possible_in plan s columns ≡ is_possible_in plan t columns
+    = λ i row. possible_same plan s t columns h row i in
+    let each : for_variable plan s table columns ≡ for_variable plan t table columns
+    = λ i v. variable_same plan s t table columns v h i in
+    ap (λ f. clash_if (not (list_any f (rows_of plan table)))
+    (gathered (for_variable plan s table columns) (narrowed rule columns))) possible
+    ∙ ap (λ f. clash_if (not (list_any (is_possible_in plan t columns) (rows_of plan table)))
+    (gathered f (narrowed rule columns))) each
 
 -- each kind
-kind_same : (plan : Plan) (s t : Seen) (rule : Rule) (kind : Kind) → SameVars s t (vars_of_kind plan kind) → SameSlots s t (slots_of_kind plan kind)
+kind_same : (plan : Plan) (s t : Seen) (rule : Rule) (kind : Kind) → SameVars s t (vars_of_kind plan kind)
+    → SameSlots s t (slots_of_kind plan kind)
     → kind_gives plan s rule kind ≡ kind_gives plan t rule kind
 kind_same plan s t rule (Among v restriction) h k = among_same plan s t rule v restriction h.0
 kind_same plan s t rule (Compare r a b) h k =
@@ -161,8 +179,10 @@ kind_same plan s t rule Never h k = refl
 kind_same plan s t rule (Last v) h k =
     ap (λ b. atoms (cond b (last_atoms plan v (filter (λ g. not (s.out v g)) (numbers_below (count_of plan v)))) []))
     (slot_same s t (slot_in (slice_get plan.vars v)) k)
-    ∙ ap (λ f. atoms (cond (is_here plan t v) (last_atoms plan v (filter (λ g. not (f g)) (numbers_below (count_of plan v)))) [])) (out_same s t v h.0)
-kind_same plan s t rule (Line i) h k = ap (λ b. atoms (cond b (Here i ∷ []) [])) (slot_same s t (parent_in (slice_get plan.slots i)) k)
+    ∙ ap (λ f. atoms (cond (is_here plan t v)
+    (last_atoms plan v (filter (λ g. not (f g)) (numbers_below (count_of plan v)))) [])) (out_same s t v h.0)
+kind_same plan s t rule (Line i) h k =
+    ap (λ b. atoms (cond b (Here i ∷ []) [])) (slot_same s t (parent_in (slice_get plan.slots i)) k)
 
 rule_same : (plan : Plan) (s t : Seen) (rule : Rule)
     → SameVars s t (vars_of_condition (slice_get plan.conditions rule.condition) ++ vars_of_kind plan rule.kind)
@@ -172,18 +192,21 @@ rule_same plan s t rule h k =
     let own = vars_of_kind plan rule.kind in
     let slots = slots_all s t rule.slots (slots_front s t rule.slots (slots_of_kind plan rule.kind) k) in
     let truth = truth_same plan s t rule.condition (vars_front s t asked own h) in
-    let said = kind_same plan s t rule rule.kind (vars_back s t asked own h) (slots_back s t rule.slots (slots_of_kind plan rule.kind) k) in
+    let said = kind_same plan s t rule rule.kind (vars_back s t asked own h)
+    (slots_back s t rule.slots (slots_of_kind plan rule.kind) k) in
     ap (λ b. cond (b && is_true (truth_at plan (net_reading s) rule.condition)) (kind_gives plan s rule rule.kind) nothing) slots
     ∙ (ap (λ b. cond (list_all t.here rule.slots && is_true b) (kind_gives plan s rule rule.kind) nothing) truth
     ∙ ap (λ x. cond (acts plan t rule) x nothing) said)
 
 -- what doesn't stand yet of atoms of things of which both say the same
-says_same : (things : List Thing) (s t : Seen) → Agree things s t → (a : Atom) → has_thing things (thing_of a) ≡ true → says s a ≡ says t a
+says_same : (things : List Thing) (s t : Seen) → Agree things s t → (a : Atom) → has_thing things (thing_of a) ≡ true
+    → says s a ≡ says t a
 says_same things s t g (Here i) h = g.here i h
 says_same things s t g (Out v n) h = let same : SameVar s t v = g.var v h in same.out n
 says_same things s t g (Is v a) h = let same : SameVar s t v = g.var v h in ap (is_value a) same.value
 
-filter_same : (p q : Atom → Bool) (xs : List Atom) → ((a : Atom) → has same_atom xs a ≡ true → p a ≡ q a) → filter p xs ≡ filter q xs
+filter_same : (p q : Atom → Bool) (xs : List Atom) → ((a : Atom) → has same_atom xs a ≡ true → p a ≡ q a)
+    → filter p xs ≡ filter q xs
 filter_same p q [] f = refl
 filter_same p q (x ∷ xs) f =
     ap (λ b. cond b (x ∷ filter p xs) (filter p xs)) (f x (has_first same_atom atom_exact atom_itself x xs))
@@ -204,14 +227,17 @@ rule_agrees plan s t (Some rule) g =
     let slots = rule.slots ++ slots_of_kind plan rule.kind in
     let vars = vars_of_condition (slice_get plan.conditions rule.condition) ++ vars_of_kind plan rule.kind in
     rule_same plan s t rule
-    (agree_vars (rule_reads plan rule) s t g vars (λ a h. has_back same_thing thing_exact thing_itself (map slot_at slots) (map var_at vars) a h))
-    (agree_slots (rule_reads plan rule) s t g slots (λ a h. has_front same_thing thing_exact thing_itself (map slot_at slots) (map var_at vars) a h))
+    (agree_vars (rule_reads plan rule) s t g vars
+    (λ a h. has_back same_thing thing_exact thing_itself (map slot_at slots) (map var_at vars) a h))
+    (agree_slots (rule_reads plan rule) s t g slots
+    (λ a h. has_front same_thing thing_exact thing_itself (map slot_at slots) (map var_at vars) a h))
 
 source_agrees : (plan : Plan) (s t : Seen) (v : ℕ) (said : Given Atom) → Agree (map slot_at (slots_of_var plan v)) s t
     → cond (is_here plan s v) said nothing ≡ cond (is_here plan t v) said nothing
 source_agrees plan s t v said g =
     ap (λ b. cond b said nothing)
-    (slot_same s t (slot_in (slice_get plan.vars v)) (agree_slots (map slot_at (slots_of_var plan v)) s t g (slots_of_var plan v) (λ a h. h)))
+    (slot_same s t (slot_in (slice_get plan.vars v))
+    (agree_slots (map slot_at (slots_of_var plan v)) s t g (slots_of_var plan v) (λ a h. h)))
 
 giver_agrees : (plan : Plan) (sources : Sources) (giver : Giver) (s t : Seen) → Agree (giver_reads plan giver) s t
     → giver_says plan sources giver s ≡ giver_says plan sources giver t
@@ -226,6 +252,8 @@ gives_locally plan sources giver set other clear alike =
     let reads = giver_reads plan giver in
     let writes = giver_writes plan giver in
     let all : Agree (reads ++ writes) s t = alike_agree plan (reads ++ writes) set other clear alike in
-    ap (fresh s) (giver_agrees plan sources giver s t (part reads (reads ++ writes) s t (λ a h. has_front same_thing thing_exact thing_itself reads writes a h) all))
-    ∙ fresh_same writes s t (part writes (reads ++ writes) s t (λ a h. has_back same_thing thing_exact thing_itself reads writes a h) all)
+    ap (fresh s) (giver_agrees plan sources giver s t
+    (part reads (reads ++ writes) s t (λ a h. has_front same_thing thing_exact thing_itself reads writes a h) all))
+    ∙ fresh_same writes s t
+    (part writes (reads ++ writes) s t (λ a h. has_back same_thing thing_exact thing_itself reads writes a h) all)
     (giver_says plan sources giver t) (says_written plan sources giver t)

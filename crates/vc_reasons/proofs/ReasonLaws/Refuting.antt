@@ -33,18 +33,21 @@ use Rattle.vc_reasons.proofs.ReasonLaws.Closed.{Settled, all_stand, conclusions_
 use Rattle.vc_reasons.proofs.ReasonLaws.Givers.{clashing_in, following, rooted}
 
 -- the giver that clashes where a culprit does
-clashing : (plan : Plan) (sources : Sources) (culprit : Culprit) (set : List Atom) → culprit_clashes plan sources culprit set ≡ true
+clashing : (plan : Plan) (sources : Sources) (culprit : Culprit) (set : List Atom)
+    → culprit_clashes plan sources culprit set ≡ true
     → (giver : Giver) × (is_clash (gives plan sources giver (seen_of set)) ≡ true)
 clashing plan sources (Rule r) set e = (by_rule r, e)
 clashing plan sources (Written procedure statement) set e =
     let r = any_at (entry_clashes plan sources procedure statement set) (numbers_below (length plan.vars)) e in
-    let p = and_parts (is_by procedure statement (entry_of sources r.0)) (is_clash (gives plan sources (by_entry r.0) (seen_of set))) r.2 in
+    let p = and_parts (is_by procedure statement (entry_of sources r.0))
+    (is_clash (gives plan sources (by_entry r.0) (seen_of set))) r.2 in
     (by_entry r.0, p.1)
 clashing plan sources (Hidden dependency v) set e = absurd (cc)
 clashing plan sources (HiddenSet dependency other) set e = absurd (cc)
 
 -- no part of a closed set has a clash
-calm_part : (plan : Plan) (sources : Sources) (set closed : List Atom) (giver : Giver) → IsClosed plan sources closed → Within same_atom set closed
+calm_part : (plan : Plan) (sources : Sources) (set closed : List Atom) (giver : Giver) → IsClosed plan sources closed
+    → Within same_atom set closed
     → is_clash (gives plan sources giver (seen_of set)) ≡ true → ⊥
 calm_part plan sources set closed giver c w e =
     both
@@ -62,13 +65,15 @@ record Refuted (plan : Plan) (sources : Sources) (clash : Clash) : Type 0 where
 refuted : (plan : Plan) (sources : Sources) (clash : Clash) → refutes plan sources clash ≡ true → Refuted plan sources clash
 refuted plan sources clash e =
     let test = contradicts plan sources clash in
-    let p = and_parts (is_accepted plan sources clash.steps && is_blamable plan clash.culprit) (all_pass test (cited (concluded clash.steps) clash.premises)) e in
+    let p = and_parts (is_accepted plan sources clash.steps && is_blamable plan clash.culprit)
+    (all_pass test (cited (concluded clash.steps) clash.premises)) e in
     let q = and_parts (is_accepted plan sources clash.steps) (is_blamable plan clash.culprit) p.0 in
     let r = passed test (cited (concluded clash.steps) clash.premises) p.1 in
     record { accepted = q.0; premises = r.0; cites = r.1; holds = r.2 }
 
 -- the parts of both cases
-clash_parts : (plan : Plan) (sources : Sources) (culprit : Culprit) (premises : List Atom) → is_clash_at plan sources culprit premises ≡ true
+clash_parts : (plan : Plan) (sources : Sources) (culprit : Culprit) (premises : List Atom)
+    → is_clash_at plan sources culprit premises ≡ true
     → (is_clear plan (set_with premises) ≡ true) × (culprit_clashes plan sources culprit (set_with premises) ≡ true)
 clash_parts plan sources culprit premises e =
     let clear = is_clear plan (set_with premises) in
@@ -77,7 +82,8 @@ clash_parts plan sources culprit premises e =
     let p : (clear ≡ true) × ((read && clashes) ≡ true) = and_parts clear (read && clashes) e in
     (p.0, (and_parts read clashes p.1).1)
 
-collision_parts : (plan : Plan) (culprit : Culprit) (premises : List Atom) (by : Option (List Origin)) → is_collision plan culprit premises by ≡ true
+collision_parts : (plan : Plan) (culprit : Culprit) (premises : List Atom) (by : Option (List Origin))
+    → is_collision plan culprit premises by ≡ true
     → (is_clear plan (set_with premises) ≡ false) × (all_pass (list_any (is_origin culprit)) by ≡ true)
 collision_parts plan culprit premises by e =
     let clear = is_clear plan (set_with premises) in
@@ -87,12 +93,14 @@ collision_parts plan culprit premises by e =
     (not-true clear p.0, (and_parts needed blamed p.1).1)
 
 -- no set is closed
-none_closed : (plan : Plan) (sources : Sources) (clash : Clash) → Refuted plan sources clash → (closed : List Atom) → IsClosed plan sources closed
+none_closed : (plan : Plan) (sources : Sources) (clash : Clash) → Refuted plan sources clash → (closed : List Atom)
+    → IsClosed plan sources closed
     → Within same_atom base closed → ⊥
 none_closed plan sources clash r closed c w =
     let concluded_in = conclusions_stand plan sources clash.steps closed r.accepted c w in
     let premises_in : Within same_atom r.premises closed
-    = λ a h. concluded_in a (cited_within same_atom atom_exact atom_itself (concluded clash.steps) clash.premises r.premises r.cites a h) in
+    = λ a h. concluded_in a
+    (cited_within same_atom atom_exact atom_itself (concluded clash.steps) clash.premises r.premises r.cites a h) in
     let all_in : Within same_atom (set_with r.premises) closed = all_stand plan closed r.premises w premises_in in
     let by = cited (map (λ step. step.origin) clash.steps) clash.premises in
     elim (or_cases (is_clash_at plan sources clash.culprit r.premises) (is_collision plan clash.culprit r.premises by) r.holds) [
@@ -112,7 +120,8 @@ none_cited (zero ∷ numbers) xs e = none_cited numbers xs e
 none_cited (suc n ∷ numbers) xs e = absurd (cc)
 
 -- the plan has a root, since a set with it is clear
-steps_rooted : (plan : Plan) (sources : Sources) (culprit : Culprit) (steps : List Step) (numbers : List ℕ) → is_accepted plan sources steps ≡ true
+steps_rooted : (plan : Plan) (sources : Sources) (culprit : Culprit) (steps : List Step) (numbers : List ℕ)
+    → is_accepted plan sources steps ≡ true
     → all_pass (list_any (is_origin culprit)) (cited (map (λ step. step.origin) steps) numbers) ≡ true → 0 < length plan.slots
 steps_rooted plan sources culprit [] numbers e blamed =
     let r = passed (list_any (is_origin culprit)) (cited [] numbers) blamed in
@@ -127,7 +136,8 @@ clash_rooted plan sources clash r =
     let by = cited (map (λ step. step.origin) clash.steps) clash.premises in
     elim (or_cases (is_clash_at plan sources clash.culprit r.premises) (is_collision plan clash.culprit r.premises by) r.holds) [
       | inl e ↦ rooted plan r.premises (clash_parts plan sources clash.culprit r.premises e).0
-      | inr e ↦ steps_rooted plan sources clash.culprit clash.steps clash.premises r.accepted (collision_parts plan clash.culprit r.premises by e).1
+      | inr e ↦ steps_rooted plan sources clash.culprit clash.steps clash.premises r.accepted
+          (collision_parts plan clash.culprit r.premises by e).1
     ]
 
 pub refuting_breaks : RefutingBreaks

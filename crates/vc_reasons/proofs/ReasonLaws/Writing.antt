@@ -51,11 +51,13 @@ w_nothing things a h = absurd (cc)
 w_clash : (things : List Thing) → Writes things clash
 w_clash things a h = absurd (cc)
 
-w_if : (things : List Thing) (b : Bool) (x y : Given Atom) → (b ≡ true → Writes things x) → (b ≡ false → Writes things y) → Writes things (cond b x y)
+w_if : (things : List Thing) (b : Bool) (x y : Given Atom) → (b ≡ true → Writes things x) → (b ≡ false → Writes things y)
+    → Writes things (cond b x y)
 w_if things true x y f g = f refl
 w_if things false x y f g = g refl
 
-w_atoms_if : (things : List Thing) (b : Bool) (xs ys : List Atom) → Writes things (atoms xs) → Writes things (atoms ys) → Writes things (atoms (cond b xs ys))
+w_atoms_if : (things : List Thing) (b : Bool) (xs ys : List Atom) → Writes things (atoms xs) → Writes things (atoms ys)
+    → Writes things (atoms (cond b xs ys))
 w_atoms_if things true xs ys f g = f
 w_atoms_if things false xs ys f g = g
 
@@ -65,7 +67,8 @@ w_beside things (atoms xs) clash f g a h = absurd (cc)
 w_beside things (atoms xs) (atoms ys) f g a h =
     elim (has_either same_atom atom_exact atom_itself xs ys a h) [ inl e ↦ f a e | inr e ↦ g a e ]
 
-w_gathered : (things : List Thing) (f : ℕ → Given Atom) (xs : List ℕ) → ((x : ℕ) → has nat_eq xs x ≡ true → Writes things (f x)) → Writes things (gathered f xs)
+w_gathered : (things : List Thing) (f : ℕ → Given Atom) (xs : List ℕ) → ((x : ℕ) → has nat_eq xs x ≡ true → Writes things (f x))
+    → Writes things (gathered f xs)
 w_gathered things f [] g = w_nothing things
 w_gathered things f (x ∷ xs) g =
     w_beside things (f x) (gathered f xs) (g x (has_first nat_eq number_exact number_itself x xs))
@@ -73,7 +76,11 @@ w_gathered things f (x ∷ xs) g =
 
 w_one : (things : List Thing) (a : Atom) → has_thing things (thing_of a) ≡ true → Writes things (atoms (a ∷ []))
 w_one things a e b h =
-    elim (has_cases same_atom atom_exact atom_itself a [] b h) [ inl q ↦ ap (λ z. has_thing things (thing_of z)) q ∙ e | inr q ↦ absurd (cc) ]
+    elim (has_cases same_atom atom_exact atom_itself a [] b h) [
+      | inl q ↦ ap (λ z. has_thing things (thing_of z)) q
+          ∙ e
+      | inr q ↦ absurd (cc)
+    ]
 
 w_out : (things : List Thing) (v : ℕ) (gs : List ℕ) → has_thing things (var_at v) ≡ true → Writes things (atoms (map (Out v) gs))
 w_out things v [] e = w_nothing things
@@ -83,11 +90,13 @@ w_out things v (g ∷ gs) e =
       | inr q ↦ w_out things v gs e b q
     ]
 
-w_value : (things : List Thing) (v : ℕ) (o : Option Value) → has_thing things (var_at v) ≡ true → Writes things (atoms (value_atoms v o))
+w_value : (things : List Thing) (v : ℕ) (o : Option Value) → has_thing things (var_at v) ≡ true
+    → Writes things (atoms (value_atoms v o))
 w_value things v None e = w_nothing things
 w_value things v (Some a) e = w_one things (Is v a) e
 
-w_last : (things : List Thing) (plan : Plan) (v : ℕ) (gs : List ℕ) → has_thing things (var_at v) ≡ true → Writes things (atoms (last_atoms plan v gs))
+w_last : (things : List Thing) (plan : Plan) (v : ℕ) (gs : List ℕ) → has_thing things (var_at v) ≡ true
+    → Writes things (atoms (last_atoms plan v gs))
 w_last things plan v [] e = w_nothing things
 w_last things plan v (g ∷ []) e = w_value things v (only_value plan v g) e
 w_last things plan v (g ∷ (h ∷ more)) e = w_nothing things
@@ -95,9 +104,11 @@ w_last things plan v (g ∷ (h ∷ more)) e = w_nothing things
 w_confined : (things : List Thing) (plan : Plan) (s : Seen) (v : ℕ) (test : Piece → Bool) → has_thing things (var_at v) ≡ true
     → Writes things (confined plan s v test)
 w_confined things plan s v test e =
-    w_if things (is_restrictable plan v) (atoms (map (Out v) (failing plan v test))) (of_remaining plan v (left_with plan s v test))
+    w_if things (is_restrictable plan v) (atoms (map (Out v) (failing plan v test)))
+    (of_remaining plan v (left_with plan s v test))
     (λ r. w_out things v (failing plan v test) e)
-    (λ r. w_if things (is_nothing (left_with plan s v test)) clash (atoms (last_atoms plan v (left_with plan s v test))) (λ n. w_clash things)
+    (λ r. w_if things (is_nothing (left_with plan s v test)) clash (atoms (last_atoms plan v (left_with plan s v test)))
+    (λ n. w_clash things)
     (λ n. w_last things plan v (left_with plan s v test) e))
 
 -- a variable that the rule infers, among those of its restriction, is written
@@ -105,11 +116,13 @@ has_var : (vs : List ℕ) (v : ℕ) → has nat_eq vs v ≡ true → has_thing (
 has_var [] v h = h
 has_var (w ∷ vs) v h =
     elim (has_cases nat_eq number_exact number_itself w vs v h) [
-      | inl q ↦ subst (λ z. has_thing (var_at w ∷ map var_at vs) (var_at z) ≡ true) (sym q) (has_first same_thing thing_exact thing_itself (var_at w) (map var_at vs))
+      | inl q ↦ subst (λ z. has_thing (var_at w ∷ map var_at vs) (var_at z) ≡ true) (sym q)
+          (has_first same_thing thing_exact thing_itself (var_at w) (map var_at vs))
       | inr q ↦ has_more same_thing thing_exact thing_itself (var_at w) (map var_at vs) (var_at v) (has_var vs v q)
     ]
 
-inferred_has : (plan : Plan) (rule : Rule) (kind : Kind) (v : ℕ) → has nat_eq (vars_of_kind plan kind) v ≡ true → is_inferred rule v ≡ true
+inferred_has : (plan : Plan) (rule : Rule) (kind : Kind) (v : ℕ) → has nat_eq (vars_of_kind plan kind) v ≡ true
+    → is_inferred rule v ≡ true
     → has_thing (inferred_of plan rule kind) (var_at v) ≡ true
 inferred_has plan rule kind v h e =
     has_var (filter (is_inferred rule) (vars_of_kind plan kind)) v
@@ -119,13 +132,15 @@ inferred_has plan rule kind v h e =
 lone_has : (o : Option Term) (v : ℕ) → lone_in o ≡ Some v → has nat_eq (vars_of_term o) v ≡ true
 lone_has None v e = absurd (cc)
 lone_has (Some (Literal a)) v e = absurd (cc)
-lone_has (Some (Read w)) v e = let is : w ≡ v = cc in subst (λ z. has nat_eq (w ∷ []) z ≡ true) is (has_first nat_eq number_exact number_itself w [])
+lone_has (Some (Read w)) v e =
+    let is : w ≡ v = cc in subst (λ z. has nat_eq (w ∷ []) z ≡ true) is (has_first nat_eq number_exact number_itself w [])
 lone_has (Some (PartSum slot characteristic)) v e = absurd (cc)
 lone_has (Some (PartCount slot)) v e = absurd (cc)
 lone_has (Some (Applied' function p a)) v e = absurd (cc)
 lone_has (Some (Joined' operator p a q b)) v e = absurd (cc)
 
-pub inferred_parts : (rule : Rule) (o : Option ℕ) (v : ℕ) → if_inferred rule o ≡ Some v → (o ≡ Some v) × (is_inferred rule v ≡ true)
+pub inferred_parts : (rule : Rule) (o : Option ℕ) (v : ℕ) → if_inferred rule o ≡ Some v
+    → (o ≡ Some v) × (is_inferred rule v ≡ true)
 inferred_parts rule None v e = absurd (cc)
 inferred_parts rule (Some w) v e = choice (is_inferred rule w) refl e
   where
@@ -139,7 +154,8 @@ left_side plan rule kind a b k v e =
     let p = inferred_parts rule (lone plan a) v e in
     let here = lone_has (slice_get plan.terms a) v p.0 in
     inferred_has plan rule kind v (ap (λ vs. has nat_eq vs v) k
-    ∙ has_front nat_eq number_exact number_itself (vars_of_term (slice_get plan.terms a)) (vars_of_term (slice_get plan.terms b)) v here) p.1
+    ∙ has_front nat_eq number_exact number_itself (vars_of_term (slice_get plan.terms a))
+    (vars_of_term (slice_get plan.terms b)) v here) p.1
 
 right_side : (plan : Plan) (rule : Rule) (kind : Kind) (a b : ℕ) → vars_of_kind plan kind ≡ vars_of_sides plan a b → (v : ℕ)
     → lone_inferred plan rule b ≡ Some v → has_thing (inferred_of plan rule kind) (var_at v) ≡ true
@@ -147,7 +163,8 @@ right_side plan rule kind a b k v e =
     let p = inferred_parts rule (lone plan b) v e in
     let here = lone_has (slice_get plan.terms b) v p.0 in
     inferred_has plan rule kind v (ap (λ vs. has nat_eq vs v) k
-    ∙ has_back nat_eq number_exact number_itself (vars_of_term (slice_get plan.terms a)) (vars_of_term (slice_get plan.terms b)) v here) p.1
+    ∙ has_back nat_eq number_exact number_itself (vars_of_term (slice_get plan.terms a))
+    (vars_of_term (slice_get plan.terms b)) v here) p.1
 
 w_related : (things : List Thing) (plan : Plan) (s : Seen) (r : Relation) (o : Option ℕ) (x : Option Value)
     → ((v : ℕ) → o ≡ Some v → has_thing things (var_at v) ≡ true) → Writes things (related plan s r o x)
@@ -155,7 +172,8 @@ w_related things plan s r None x f = w_nothing things
 w_related things plan s r (Some v) None f = w_nothing things
 w_related things plan s r (Some v) (Some a) f = w_confined things plan s v (λ piece. not (is_outside r a piece)) (f v refl)
 
-w_equal : (things : List Thing) (plan : Plan) (o : Option ℕ) (x : Option Value) → ((v : ℕ) → o ≡ Some v → has_thing things (var_at v) ≡ true)
+w_equal : (things : List Thing) (plan : Plan) (o : Option ℕ) (x : Option Value)
+    → ((v : ℕ) → o ≡ Some v → has_thing things (var_at v) ≡ true)
     → Writes things (equal_to plan o x)
 w_equal things plan None x f = w_nothing things
 w_equal things plan (Some v) None f = w_nothing things
@@ -171,12 +189,15 @@ column_has : (v : ℕ) (o : Operand) → is_variable v o ≡ true → has nat_eq
 column_has v (Constant a) e = absurd (cc)
 column_has v (Variable w) e = or_left (v == w) false e
 
-columns_have : (v : ℕ) (columns : List Binding) → list_any (is_column_of v) columns ≡ true → has nat_eq (flat_map vars_of_column columns) v ≡ true
+columns_have : (v : ℕ) (columns : List Binding) → list_any (is_column_of v) columns ≡ true
+    → has nat_eq (flat_map vars_of_column columns) v ≡ true
 columns_have v [] e = e
 columns_have v (column ∷ columns) e =
     elim (or_cases (is_column_of v column) (list_any (is_column_of v) columns) e) [
-      | inl h ↦ has_front nat_eq number_exact number_itself (vars_of_column column) (flat_map vars_of_column columns) v (column_has v column.operand h)
-      | inr h ↦ has_back nat_eq number_exact number_itself (vars_of_column column) (flat_map vars_of_column columns) v (columns_have v columns h)
+      | inl h ↦ has_front nat_eq number_exact number_itself (vars_of_column column) (flat_map vars_of_column columns) v
+          (column_has v column.operand h)
+      | inr h ↦ has_back nat_eq number_exact number_itself (vars_of_column column) (flat_map vars_of_column columns) v
+          (columns_have v columns h)
     ]
 
 is_inferred_from : (v : ℕ) (vs : List ℕ) → has nat_eq vs v ≡ true → list_any (λ w. w == v) vs ≡ true
@@ -192,13 +213,15 @@ w_value_if : (things : List Thing) (test : Value → Bool) (v : ℕ) (o : Option
 w_value_if things test v None e = w_nothing things
 w_value_if things test v (Some a) e = w_atoms_if things (test a) (Is v a ∷ []) [] (w_one things (Is v a) e) (w_nothing things)
 
-w_agreed : (things : List Thing) (plan : Plan) (v : ℕ) (own : List Binding) (rows : List (List Value)) → has_thing things (var_at v) ≡ true
+w_agreed : (things : List Thing) (plan : Plan) (v : ℕ) (own : List Binding) (rows : List (List Value))
+    → has_thing things (var_at v) ≡ true
     → Writes things (atoms (agreed plan v own rows))
 w_agreed things plan v own [] e = w_nothing things
 w_agreed things plan v own (row ∷ rows) e =
     w_value_if things (λ a. list_all (has_cell own a) (row ∷ rows) && lies_in_some (grains_of plan v) a) v (first_cell own row) e
 
-w_variable : (things : List Thing) (plan : Plan) (s : Seen) (table : ℕ) (columns : List Binding) (v : ℕ) → has_thing things (var_at v) ≡ true
+w_variable : (things : List Thing) (plan : Plan) (s : Seen) (table : ℕ) (columns : List Binding) (v : ℕ)
+    → has_thing things (var_at v) ≡ true
     → Writes things (for_variable plan s table columns v)
 w_variable things plan s table columns v e =
     let rows = rows_for plan s table columns v in
@@ -206,13 +229,15 @@ w_variable things plan s table columns v e =
     w_atoms_if things (is_restrictable plan v) (map (Out v) (missing_grains plan v own rows)) (agreed plan v own rows)
     (w_out things v (missing_grains plan v own rows) e) (w_agreed things plan v own rows e)
 
-narrowed_has : (plan : Plan) (rule : Rule) (table : ℕ) (columns : List Binding) (v : ℕ) → has nat_eq (narrowed rule columns) v ≡ true
+narrowed_has : (plan : Plan) (rule : Rule) (table : ℕ) (columns : List Binding) (v : ℕ)
+    → has nat_eq (narrowed rule columns) v ≡ true
     → has_thing (inferred_of plan rule (ByTable table columns)) (var_at v) ≡ true
 narrowed_has plan rule table columns v h =
     let p = has_filter nat_eq number_exact number_itself (λ w. list_any (is_column_of w) columns) rule.inferred v h in
     inferred_has plan rule (ByTable table columns) v (columns_have v columns p.1) (is_inferred_from v rule.inferred p.0)
 
-w_among : (plan : Plan) (s : Seen) (rule : Rule) (v : ℕ) (restriction : Restriction) → Writes (kind_writes plan rule (Among v restriction)) (among plan s rule v restriction)
+w_among : (plan : Plan) (s : Seen) (rule : Rule) (v : ℕ) (restriction : Restriction)
+    → Writes (kind_writes plan rule (Among v restriction)) (among plan s rule v restriction)
 w_among plan s rule v restriction =
     let things = inferred_of plan rule (Among v restriction) in
     let test = allows plan v restriction in
@@ -239,7 +264,8 @@ w_kind plan s rule (Equate a b) =
     let v = lone_inferred plan rule a in
     let w = lone_inferred plan rule b in
     let decimals = min (decimals_in_side plan (lone plan a)) (decimals_in_side plan (lone plan b)) in
-    w_if things ((is_none v && is_none w) && differ decimals first second) clash (beside (equal_to plan v second) (equal_to plan w first))
+    w_if things ((is_none v && is_none w) && differ decimals first second) clash
+    (beside (equal_to plan v second) (equal_to plan w first))
     (λ e. w_clash things) (λ e. w_beside things (equal_to plan v second) (equal_to plan w first)
     (w_equal things plan v second (left_side plan rule (Equate a b) a b refl))
     (w_equal things plan w first (right_side plan rule (Equate a b) a b refl)))
@@ -252,11 +278,13 @@ w_kind plan s rule (ByTable table columns) =
 w_kind plan s rule Never = w_clash []
 w_kind plan s rule (Last v) =
     let own : has_thing (var_at v ∷ []) (var_at v) ≡ true = has_first same_thing thing_exact thing_itself (var_at v) [] in
-    w_atoms_if (var_at v ∷ []) (is_here plan s v) (last_atoms plan v (not_out plan s v)) [] (w_last (var_at v ∷ []) plan v (not_out plan s v) own)
+    w_atoms_if (var_at v ∷ []) (is_here plan s v) (last_atoms plan v (not_out plan s v)) []
+    (w_last (var_at v ∷ []) plan v (not_out plan s v) own)
     (w_nothing (var_at v ∷ []))
 w_kind plan s rule (Line i) =
     let own : has_thing (slot_at i ∷ []) (slot_at i) ≡ true = has_first same_thing thing_exact thing_itself (slot_at i) [] in
-    w_atoms_if (slot_at i ∷ []) (is_parent_here plan s i) (Here i ∷ []) [] (w_one (slot_at i ∷ []) (Here i) own) (w_nothing (slot_at i ∷ []))
+    w_atoms_if (slot_at i ∷ []) (is_parent_here plan s i) (Here i ∷ []) [] (w_one (slot_at i ∷ []) (Here i) own)
+    (w_nothing (slot_at i ∷ []))
 
 w_rule : (plan : Plan) (s : Seen) (o : Option Rule) → Writes (writes_in plan o) (rule_says plan s o)
 w_rule plan s None = w_nothing []
@@ -276,12 +304,15 @@ w_entry : (v : ℕ) (o : Option Entry) → Writes (var_at v ∷ []) (entry_says 
 w_entry v None = w_nothing (var_at v ∷ [])
 w_entry v (Some entry) = w_mark v entry.mark
 
-w_source : (plan : Plan) (s : Seen) (v : ℕ) (said : Given Atom) → Writes (var_at v ∷ []) said → Writes (var_at v ∷ []) (if_here plan s v said)
+w_source : (plan : Plan) (s : Seen) (v : ℕ) (said : Given Atom) → Writes (var_at v ∷ []) said
+    → Writes (var_at v ∷ []) (if_here plan s v said)
 w_source plan s v said f = w_if (var_at v ∷ []) (is_here plan s v) said nothing (λ e. f) (λ e. w_nothing (var_at v ∷ []))
 
-pub says_written : (plan : Plan) (sources : Sources) (giver : Giver) (s : Seen) → Writes (giver_writes plan giver) (giver_says plan sources giver s)
+pub says_written : (plan : Plan) (sources : Sources) (giver : Giver) (s : Seen)
+    → Writes (giver_writes plan giver) (giver_says plan sources giver s)
 says_written plan sources (by_rule r) s = w_rule plan s (slice_get plan.rules r)
-says_written plan sources (by_user v) s = w_source plan s v (value_says v (user_of sources v)) (w_value_says v (user_of sources v))
+says_written plan sources (by_user v) s =
+    w_source plan s v (value_says v (user_of sources v)) (w_value_says v (user_of sources v))
 says_written plan sources (by_entry v) s = w_source plan s v (entry_says v (entry_of sources v)) (w_entry v (entry_of sources v))
 
 w_fresh : (things : List Thing) (s : Seen) (x : Given Atom) → Writes things x → Writes things (fresh s x)
@@ -290,4 +321,5 @@ w_fresh things s (atoms xs) f = λ a h. f a (has_filter same_atom atom_exact ato
 
 pub gives_what_it_writes : GivesWhatItWrites
 gives_what_it_writes plan sources giver set =
-    w_fresh (giver_writes plan giver) (seen_of set) (giver_says plan sources giver (seen_of set)) (says_written plan sources giver (seen_of set))
+    w_fresh (giver_writes plan giver) (seen_of set) (giver_says plan sources giver (seen_of set))
+    (says_written plan sources giver (seen_of set))

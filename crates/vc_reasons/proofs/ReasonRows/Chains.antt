@@ -20,15 +20,20 @@ motor_unrefused : first_unaccepted pump large why_motor ≡ None
 motor_unrefused = refl
 
 -- the premise taken out of step 2: E1 doesn't follow from nothing
-out_of_step_2 : first_unaccepted pump large (large_size ∷ no_e1 [] ∷ no_e2 (1 ∷ []) ∷ step (Is 1 (Text 5)) (Rule 2) (2 ∷ 3 ∷ []) ∷ []) ≡ Some 2
+out_of_step_2 : first_unaccepted pump large
+    (large_size ∷ no_e1 [] ∷ no_e2 (1 ∷ []) ∷ step (Is 1 (Text 5)) (Rule 2) (2 ∷ 3 ∷ []) ∷ []) ≡ Some 2
 out_of_step_2 = refl
+
+counted_from_0 : first_unaccepted pump large (large_size ∷ no_e1 [] ∷ []) ≢ Some 1
+counted_from_0 e = cc
 
 -- it isn't made up for by what stands
 by_what_stands : is_accepted pump large (large_size ∷ no_e1 [] ∷ []) ≢ true
 by_what_stands e = cc
 
 -- steps 1 and 2 exchanged: a step cites earlier ones alone
-exchanged : first_unaccepted pump large (no_e1 (2 ∷ []) ∷ large_size ∷ no_e2 (2 ∷ []) ∷ step (Is 1 (Text 5)) (Rule 2) (1 ∷ 3 ∷ []) ∷ []) ≡ Some 1
+exchanged : first_unaccepted pump large
+    (no_e1 (2 ∷ []) ∷ large_size ∷ no_e2 (2 ∷ []) ∷ step (Is 1 (Text 5)) (Rule 2) (1 ∷ 3 ∷ []) ∷ []) ≡ Some 1
 exchanged = refl
 
 -- nor itself
@@ -54,10 +59,12 @@ set_otherwise : is_accepted pump (users (Some (Text 1) ∷ [])) why_motor ≢ tr
 set_otherwise e = cc
 
 -- a premise that the giver doesn't read: the user's value reads its slot alone, the table no flow
-user_reads : first_unaccepted pump (users (Some (Text 2) ∷ None ∷ Some (whole 5) ∷ [])) (by_user 2 (whole 5) ∷ step (Is 0 (Text 2)) User (1 ∷ []) ∷ []) ≡ Some 2
+user_reads : first_unaccepted pump (users (Some (Text 2) ∷ None ∷ Some (whole 5) ∷ []))
+    (by_user 2 (whole 5) ∷ step (Is 0 (Text 2)) User (1 ∷ []) ∷ []) ≡ Some 2
 user_reads = refl
 
-table_reads : is_accepted pump (users (Some (Text 2) ∷ None ∷ Some (whole 5) ∷ [])) (large_size ∷ by_user 2 (whole 5) ∷ no_e1 (1 ∷ 2 ∷ []) ∷ []) ≢ true
+table_reads : is_accepted pump (users (Some (Text 2) ∷ None ∷ Some (whole 5) ∷ []))
+    (large_size ∷ by_user 2 (whole 5) ∷ no_e1 (1 ∷ 2 ∷ []) ∷ []) ≢ true
 table_reads e = cc
 
 -- number 0 is that the root is here, and always allowed
@@ -98,7 +105,8 @@ no_steps_large e = cc
 motor_chain : is_trimmed_chain why_motor ≡ true
 motor_chain = refl
 
-one_in_vain : is_trimmed_chain (large_size ∷ no_e1 (1 ∷ []) ∷ no_e2 (1 ∷ []) ∷ step (Is 1 (Text 5)) (Rule 2) (2 ∷ []) ∷ []) ≡ false
+one_in_vain : is_trimmed_chain
+    (large_size ∷ no_e1 (1 ∷ []) ∷ no_e2 (1 ∷ []) ∷ step (Is 1 (Text 5)) (Rule 2) (2 ∷ []) ∷ []) ≡ false
 one_in_vain = refl
 
 two_ends : is_trimmed_chain (large_size ∷ no_e1 (1 ∷ []) ∷ no_e2 (1 ∷ []) ∷ []) ≢ true

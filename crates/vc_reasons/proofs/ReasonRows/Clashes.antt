@@ -62,7 +62,8 @@ twice : refutes pump small_e3 (clash_of colliding (culprits.Rule 0) (1 ∷ 3 ∷
 twice = refl
 
 -- the steps must be accepted, and the premises be among them
-unaccepted : refutes pump small_e3 (clash_of (by_user 0 (Text 0) ∷ step (Out 0 0) (Rule 0) [] ∷ []) (culprits.Rule 0) (1 ∷ 2 ∷ [])) ≢ true
+unaccepted : refutes pump small_e3
+    (clash_of (by_user 0 (Text 0) ∷ step (Out 0 0) (Rule 0) [] ∷ []) (culprits.Rule 0) (1 ∷ 2 ∷ [])) ≢ true
 unaccepted e = cc
 
 past_the_end : refutes pump small_e3 (clash_of colliding (culprits.Rule 0) (1 ∷ 3 ∷ 5 ∷ [])) ≢ true
@@ -101,7 +102,8 @@ held : refutes paint (record { user = []; written = Some (record { mark = Held (
 held e = cc
 
 -- a statement reads its slot alone
-statement_reads : refutes paint (record outside { user = None ∷ Some (Text 3) ∷ [] }) (clash_of (by_user 1 (Text 3) ∷ []) (culprits.Written 1 0) (1 ∷ [])) ≢ true
+statement_reads : refutes paint (record outside { user = None ∷ Some (Text 3) ∷ [] })
+    (clash_of (by_user 1 (Text 3) ∷ []) (culprits.Written 1 0) (1 ∷ [])) ≢ true
 statement_reads e = cc
 
 -- a precondition is nobody whom steps refute
@@ -112,7 +114,9 @@ precondition e = cc
 trimmed : is_trimmed_clash (clash_of colliding (culprits.Rule 0) (1 ∷ 3 ∷ [])) ≡ false
 trimmed = refl
 
-trimmed_all : is_trimmed_clash (clash_of (by_user 0 (Text 0) ∷ by_user 1 (Text 5) ∷ step (Out 0 0) (Rule 0) (2 ∷ []) ∷ []) (culprits.Rule 0) (1 ∷ 3 ∷ [])) ≡ true
+trimmed_all : is_trimmed_clash
+    (clash_of (by_user 0 (Text 0) ∷ by_user 1 (Text 5) ∷ step (Out 0 0) (Rule 0) (2 ∷ []) ∷ []) (culprits.Rule 0)
+    (1 ∷ 3 ∷ [])) ≡ true
 trimmed_all = refl
 
 -- the last step of a clash isn't what it is for

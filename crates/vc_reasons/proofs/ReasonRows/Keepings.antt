@@ -1,5 +1,5 @@
 -- What is kept of logs of PUMP and PAINT.
-use Rattle.std.proofs.Common.{◌≡◌, ℕ, List, [], ◌∷◌, map, true, refl}
+use Rattle.std.proofs.Common.{◌≡◌, ℕ, List, [], ◌∷◌, ◌++◌, map, true, refl}
 use Rattle.std.specs.Prelude.{Option, None, Some, ◌≢◌}
 use Rattle.vc_value.specs.declared.value.Value.{Value}
 use Rattle.vc_value.specs.declared.value.Value.TheVariants.{Text}
@@ -11,7 +11,7 @@ use Rattle.vc_plan.specs.Sources.{Sources}
 use Rattle.vc_plan.proofs.PlanRows.Models.{pump, users, whole}
 use Rattle.vc_reasons.specs.Checking.{is_accepted}
 use Rattle.vc_reasons.specs.Keeping.{changed, kept_of}
-use Rattle.vc_reasons.proofs.ReasonRows.Steps.{step, by_user, large_size, no_e1, no_e2}
+use Rattle.vc_reasons.proofs.ReasonRows.Steps.{step, by_user, large_size, no_e1, why_motor}
 
 -- the size, what follows of it, and the flow
 abbrev chosen : Option Value → Option Value → Sources
@@ -24,7 +24,7 @@ abbrev flow : Step
 flow = by_user 2 (whole 5)
 
 abbrev log : List Step
-log = large_size ∷ no_e1 (1 ∷ []) ∷ no_e2 (1 ∷ []) ∷ step (Is 1 (Text 5)) (Rule 2) (2 ∷ 3 ∷ []) ∷ flow ∷ []
+log = why_motor ++ flow ∷ []
 
 accepted : is_accepted pump both log ≡ true
 accepted = refl
@@ -38,13 +38,15 @@ indirect : kept_of both (chosen None (Some (whole 5))) log ≢ step (Is 1 (Text 
 indirect e = cc
 
 -- the flow taken back, or set otherwise: the other steps, with new numbers where it came first
-without_flow : kept_of both (chosen (Some (Text 2)) None) log ≡ large_size ∷ no_e1 (1 ∷ []) ∷ no_e2 (1 ∷ []) ∷ step (Is 1 (Text 5)) (Rule 2) (2 ∷ 3 ∷ []) ∷ []
+without_flow : kept_of both (chosen (Some (Text 2)) None) log ≡ why_motor
 without_flow = refl
 
-renumbered : kept_of both (chosen (Some (Text 2)) (Some (whole 6))) (flow ∷ large_size ∷ no_e1 (0 ∷ 2 ∷ []) ∷ []) ≡ large_size ∷ no_e1 (0 ∷ 1 ∷ []) ∷ []
+renumbered : kept_of both (chosen (Some (Text 2)) (Some (whole 6)))
+    (flow ∷ large_size ∷ no_e1 (0 ∷ 2 ∷ []) ∷ []) ≡ large_size ∷ no_e1 (0 ∷ 1 ∷ []) ∷ []
 renumbered = refl
 
-as_before : map (λ s. s.premises) (kept_of both (chosen (Some (Text 2)) None) (flow ∷ large_size ∷ no_e1 (2 ∷ []) ∷ [])) ≢ [] ∷ (2 ∷ []) ∷ []
+as_before : map (λ s. s.premises) (kept_of both (chosen (Some (Text 2)) None) (flow ∷ large_size ∷ no_e1 (2 ∷ []) ∷ []))
+    ≢ [] ∷ (2 ∷ []) ∷ []
 as_before e = cc
 
 -- nothing changed, nothing goes
@@ -60,7 +62,8 @@ none_changed e = cc
 
 -- a value that a statement wrote, by another statement now: its step goes, and the user's of the same variable stays
 abbrev written : Value → ℕ → Sources
-written a statement = record { user = Some (Text 2) ∷ []; written = Some (record { mark = Held a; procedure = 1; statement = statement }) ∷ [] }
+written a statement =
+    record { user = Some (Text 2) ∷ []; written = Some (record { mark = Held a; procedure = 1; statement = statement }) ∷ [] }
 
 abbrev green : Step
 green = step (Is 0 (Text 2)) (Written 1 0) []
@@ -72,5 +75,6 @@ value_alone : kept_of (written (Text 2) 0) (written (Text 2) 1) (green ∷ []) �
 value_alone e = cc
 
 -- whoever gives the same value: a step by the user goes when the user's value goes
-user_gone : kept_of (written (Text 2) 0) (record (written (Text 2) 0) { user = [] }) (green ∷ by_user 0 (Text 2) ∷ []) ≡ green ∷ []
+user_gone : kept_of (written (Text 2) 0) (record (written (Text 2) 0) { user = [] })
+    (green ∷ by_user 0 (Text 2) ∷ []) ≡ green ∷ []
 user_gone = refl

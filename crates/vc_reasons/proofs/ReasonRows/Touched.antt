@@ -5,6 +5,7 @@ use Rattle.vc_value.specs.declared.value.Value.TheVariants.{Text}
 use Rattle.vc_plan.specs.declared.conditions.Condition.TheVariants.{Always, Compared}
 use Rattle.vc_plan.specs.declared.conditions.Relation.TheVariants.{Equal, AtMost}
 use Rattle.vc_plan.specs.declared.plans.Plan.{Plan}
+use Rattle.vc_plan.specs.declared.plans.Slot.{Slot}
 use Rattle.vc_plan.specs.declared.rules.Kind.TheVariants.{Compare, Line}
 use Rattle.vc_plan.specs.declared.terms.Term.TheVariants.{Literal, Read}
 use Rattle.vc_plan.specs.Gives.{by_rule, by_user}
@@ -45,10 +46,14 @@ compare_writes = refl
 writes_what_it_reads : giver_writes compares (by_rule 0) ≢ var_at 0 ∷ var_at 1 ∷ []
 writes_what_it_reads e = cc
 
--- a line's rule reads the parent and its condition, and writes the slot
-abbrev lined : Plan
-lined = record compares { slots = root ∷ record { parent = Some 0; depth = 1; object = 0; line = 0 } ∷ []; rules = own_rule 1 (Line 1) ∷ [] }
+-- a slot in the root, and the rule of its line
+abbrev component : Slot
+component = record { parent = Some 0; depth = 1; object = 0; line = 0 }
 
+abbrev lined : Plan
+lined = record compares { slots = root ∷ component ∷ []; rules = own_rule 1 (Line 1) ∷ [] }
+
+-- it reads the parent and its condition, and writes the slot
 line_reads : giver_reads lined (by_rule 0) ≡ slot_at 0 ∷ var_at 2 ∷ []
 line_reads = refl
 
@@ -61,6 +66,9 @@ line_reads_itself e = cc
 -- the sizes of the flow, of the size and of the slot
 sizes : (size_of pump (var_at 2) ≡ 2) × (size_of pump (var_at 0) ≡ 4) × (size_of pump (slot_at 0) ≡ 1)
 sizes = (refl, refl, refl)
+
+value_too : size_of pump (var_at 2) ≢ 1
+value_too e = cc
 
 -- the size reaches the motor, and the flow itself alone; the slot all
 size_reaches : reach_of pump (var_at 0 ∷ []) ≡ var_at 1 ∷ var_at 0 ∷ []
