@@ -1,5 +1,5 @@
 -- Laws of accepted lists of steps.
-use Rattle.std.proofs.Common.{◌≡◌, ℕ, zero, suc, ◌<◌, Bool, true, false, cond, ◌&&◌, List, [], ◌∷◌, ◌++◌, length, refl, subst, inl, inr, arith, length-append}
+use Rattle.std.proofs.Common.{◌≡◌, ℕ, zero, suc, ◌<◌, Bool, true, false, cond, ◌&&◌, List, [], ◌∷◌, ◌++◌, length, map, refl, sym, ◌∙◌, ap, subst, inl, inr, arith, length-append}
 use Rattle.std.specs.Prelude.{Option, None, Some, is_none, nat_lt, slice_get}
 use Rattle.std.specs.List.{list_all}
 use Rattle.std.proofs.lemmas.Bool.{and_parts, and_from, lt-ltb}
@@ -46,6 +46,38 @@ accepted_parts {A = A} form follows earlier step steps e =
     let q : (atoms : List A) × (cited earlier (form.premises step) ≡ Some atoms) × (follows step atoms ≡ true)
     = passed (follows step) (cited earlier (form.premises step)) p.0 in
     record { atoms = q.0; cites = q.1; from = q.2; later = p.1 }
+
+-- each step of an accepted list follows from something
+pub accepted_at : {S A : Type 0} (form : StepForm S A) (follows : S → List A → Bool) (earlier : List A) (steps : List S) (i : ℕ)
+    (step : S)
+    → accepted form follows earlier steps ≡ true → slice_get steps i ≡ Some step → (atoms : List A) × (follows step atoms ≡ true)
+accepted_at form follows earlier [] i step e g = absurd (cc)
+accepted_at form follows earlier (first ∷ steps) zero step e g =
+    let p = accepted_parts form follows earlier first steps e in
+    let is : first ≡ step = cc in
+    (p.atoms, subst (λ s. follows s p.atoms ≡ true) is p.from)
+accepted_at form follows earlier (first ∷ steps) (suc i) step e g =
+    let p = accepted_parts form follows earlier first steps e in
+    accepted_at form follows (earlier ++ form.conclusion first ∷ []) steps i step p.later g
+
+-- what is cited has a place
+pub cited_at : {A : Type 0} (earlier : List A) (numbers : List ℕ) (cites : List A) (a : A) → cited earlier numbers ≡ Some cites
+    → IsIn a cites → (i : ℕ) × (slice_get earlier i ≡ Some a)
+cited_at earlier [] cites a e i = let none : [] ≡ cites = cc in absurd (subst (IsIn a) (sym none) i)
+cited_at earlier (zero ∷ numbers) cites a e i = cited_at earlier numbers cites a e i
+cited_at earlier (suc n ∷ numbers) cites a e i =
+    let r = all_there (slice_get earlier n) (cited earlier numbers) cites e in
+    elim (subst (IsIn a) r.4 i) [
+      | inl q ↦ (n, r.2 ∙ ap Some (sym q))
+      | inr k ↦ cited_at earlier numbers r.1 a r.3 k
+    ]
+
+-- an element of a mapped list, by its place
+pub get_mapped : {X Y : Type 0} (f : X → Y) (xs : List X) (i : ℕ) (y : Y) → slice_get (map f xs) i ≡ Some y
+    → (x : X) × (slice_get xs i ≡ Some x) × (f x ≡ y)
+get_mapped f [] i y e = absurd (cc)
+get_mapped f (x ∷ xs) zero y e = (x, refl, cc)
+get_mapped f (x ∷ xs) (suc i) y e = get_mapped f xs i y e
 
 -- no step is refused exactly where all are accepted
 pub accepted_unrefused : {S A : Type 0} (form : StepForm S A) (follows : S → List A → Bool) (earlier : List A) (steps : List S)

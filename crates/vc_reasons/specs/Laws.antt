@@ -1,5 +1,5 @@
 -- Laws over the definitions of reasons, of what is kept and of what rules read and write.
-use Rattle.std.specs.Prelude.{◌≡◌, true, List, ◌++◌, is_none}
+use Rattle.std.specs.Prelude.{◌≡◌, ℕ, true, List, ◌++◌, is_none, slice_get}
 use Rattle.std.specs.List.{IsDistinct}
 use Rattle.vc_base.specs.Kept.{IsLeft}
 use Rattle.vc_base.specs.Rounds.{broken, settled, atoms_of}
@@ -7,6 +7,8 @@ use Rattle.vc_base.specs.Sets.{has, Within}
 use Rattle.vc_base.specs.Spreading.{IsSpread}
 use Rattle.vc_plan.specs.declared.atoms.Atom.{Atom}
 use Rattle.vc_plan.specs.declared.atoms.Clash.{Clash}
+use Rattle.vc_plan.specs.declared.atoms.Culprit.{Culprit}
+use Rattle.vc_plan.specs.declared.atoms.Culprit.TheVariants.{Rule, Written, Hidden, HiddenSet}
 use Rattle.vc_plan.specs.declared.atoms.Step.{Step}
 use Rattle.vc_plan.specs.declared.plans.Plan.{Plan}
 use Rattle.vc_plan.specs.Clear.{is_clear}
@@ -14,10 +16,10 @@ use Rattle.vc_plan.specs.Gives.{Giver, gives}
 use Rattle.vc_plan.specs.Laws.{IsClosed}
 use Rattle.vc_plan.specs.Seen.{same_atom, seen_of}
 use Rattle.vc_plan.specs.Settle.{base, settlement_of}
-use Rattle.vc_plan.specs.Sources.{Sources}
-use Rattle.vc_reasons.specs.Checking.{concluded, first_unaccepted, is_accepted, is_whole, set_with, step_form}
+use Rattle.vc_plan.specs.Sources.{Sources, entry_of}
+use Rattle.vc_reasons.specs.Checking.{concluded, first_unaccepted, is_accepted, is_by, is_whole, set_with, step_form}
 use Rattle.vc_reasons.specs.Keeping.{is_gone, kept_of}
-use Rattle.vc_reasons.specs.Refuting.{refutes}
+use Rattle.vc_reasons.specs.Refuting.{is_of_constraint, refutes}
 use Rattle.vc_reasons.specs.Things.{Thing, same_thing, has_thing, thing_of, giver_reads, giver_writes}
 use Rattle.vc_reasons.specs.Work.{links_of, reach_of}
 
@@ -43,6 +45,18 @@ WholeSettles = (plan : Plan) (sources : Sources) (steps : List Step) → is_whol
 abbrev pub RefutingBreaks : Type 0
 RefutingBreaks =
     (plan : Plan) (sources : Sources) (clash : Clash) → refutes plan sources clash ≡ true → settlement_of plan sources ≡ broken
+
+-- the culprit is a constraint's rule of the plan, or a statement that wrote an entry of the sources
+abbrev pub IsGuilty : Plan → Sources → Culprit → Type 0
+IsGuilty plan sources (Rule r) = is_of_constraint (slice_get plan.rules r) ≡ true
+IsGuilty plan sources (Written procedure statement) = (v : ℕ) × (is_by procedure statement (entry_of sources v) ≡ true)
+IsGuilty plan sources (Hidden dependency v) = ⊥
+IsGuilty plan sources (HiddenSet dependency set) = ⊥
+
+-- so is the culprit of a clash that refutes: never the user, nor the rule of a last grain or of a line
+abbrev pub RefutingBlames : Type 0
+RefutingBlames =
+    (plan : Plan) (sources : Sources) (clash : Clash) → refutes plan sources clash ≡ true → IsGuilty plan sources clash.culprit
 
 -- what is kept of a list that was accepted is accepted with the new sources
 abbrev pub KeptIsAccepted : Type 0

@@ -1,6 +1,6 @@
 //! Laws of reasons, each the contract of a function that does nothing.
 
-ghost use Rattle.vc_reasons.specs.Laws.{AcceptedUnrefused, ConclusionsStand, WholeSettles, RefutingBreaks, KeptIsAccepted, KeptIsLeft, GivesLocally, GivesWhatItWrites, ReachIsLeast};
+ghost use Rattle.vc_reasons.specs.Laws.{AcceptedUnrefused, ConclusionsStand, WholeSettles, RefutingBreaks, RefutingBlames, KeptIsAccepted, KeptIsLeft, GivesLocally, GivesWhatItWrites, ReachIsLeast};
 
 /// A list of steps is accepted exactly where no step is refused.
 pub fn accepted_is_unrefused()
@@ -17,9 +17,11 @@ pub fn whole_lists_settle()
     ensures { WholeSettles }
 {}
 
-/// Where a clash refutes the sources, settling with them is broken.
+/// Where a clash refutes the sources, settling with them is broken, and its culprit is a constraint's rule or a statement
+/// that wrote one of them.
 pub fn refuting_breaks()
-    ensures { RefutingBreaks }
+    ensures breaks { RefutingBreaks }
+    ensures blames { RefutingBlames }
 {}
 
 /// What is kept of an accepted list is accepted with the new sources, and is what the least set of dropped steps leaves.
