@@ -84,6 +84,13 @@ no_rule e = cc
 not_written : is_accepted pump large (step (Is 0 (Text 2)) (Written 0 0) [] ∷ []) ≢ true
 not_written e = cc
 
+-- what an origin can never conclude
+out_by_user : is_accepted pump large (step (Out 0 0) User [] ∷ []) ≢ true
+out_by_user e = cc
+
+out_by_last : is_accepted pump large (large_size ∷ no_e1 (1 ∷ []) ∷ step (Out 1 1) (Rule 2) (2 ∷ []) ∷ []) ≢ true
+out_by_last e = cc
+
 -- the chain isn't a whole list: that the size is neither S nor M follows too
 motor_whole : is_whole pump large why_motor ≡ false
 motor_whole = refl

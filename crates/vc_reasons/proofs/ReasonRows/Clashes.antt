@@ -1,14 +1,19 @@
 -- Which clashes show that sources of PUMP contradict each other.
-use Rattle.std.proofs.Common.{◌≡◌, List, [], ◌∷◌, true, false, refl}
+use Rattle.std.proofs.Common.{◌≡◌, List, [], ◌∷◌, ◌++◌, true, false, refl}
 use Rattle.std.specs.Prelude.{None, Some, ◌≢◌}
+use Rattle.vc_value.specs.declared.table_header.Domain.TheVariants.{Texts}
 use Rattle.vc_value.specs.declared.value.Value.TheVariants.{Text}
 use Rattle.vc_plan.specs.declared.atoms.Atom.TheVariants.{Out, Is}
 use Rattle.vc_plan.specs.declared.atoms.Culprit.TheVariants as culprits
 use Rattle.vc_plan.specs.declared.atoms.Mark.TheVariants.{Held, Outside}
 use Rattle.vc_plan.specs.declared.atoms.Origin.TheVariants.{Rule}
 use Rattle.vc_plan.specs.declared.atoms.Step.{Step}
+use Rattle.vc_plan.specs.declared.plans.Plan.{Plan}
+use Rattle.vc_plan.specs.declared.rules.Kind.TheVariants.{Among}
+use Rattle.vc_plan.specs.declared.rules.Restriction.TheVariants.{Against}
+use Rattle.vc_plan.specs.declared.conditions.Relation.TheVariants.{Equal}
 use Rattle.vc_plan.specs.Sources.{Sources}
-use Rattle.vc_plan.proofs.PlanRows.Models.{pump, users, whole}
+use Rattle.vc_plan.proofs.PlanRows.Models.{empty, root, open_var, rule, pump, users, whole}
 use Rattle.vc_plan.proofs.StageRows.Paints.{paint}
 use Rattle.vc_reasons.specs.Refuting.{is_trimmed_clash, refutes}
 use Rattle.vc_reasons.proofs.ReasonRows.Steps.{step, by_user, clash_of, large_size, no_e1, no_e2}
@@ -60,6 +65,32 @@ needless_first e = cc
 -- one cited twice is one
 twice : refutes pump small_e3 (clash_of colliding (culprits.Rule 0) (1 ∷ 3 ∷ 3 ∷ [])) ≡ true
 twice = refl
+
+-- and two steps of one conclusion count as one
+two_of_one : refutes pump small_e3
+    (clash_of (colliding ++ step (Out 0 0) (Rule 0) (2 ∷ []) ∷ []) (culprits.Rule 0) (1 ∷ 3 ∷ 5 ∷ [])) ≡ true
+two_of_one = refl
+
+-- where a variable has one grain, that it is out collides with the slot alone, and no value is needed
+abbrev single : Plan
+single = record empty {
+  domains = Texts (0 ∷ []) ∷ [];
+  slots = root ∷ [];
+  vars = open_var 0 ∷ [];
+  rules = rule 0 (0 ∷ []) (Among 0 (Against Equal (Text 1))) ∷ [];
+}
+
+abbrev its_value : Sources
+its_value = users (Some (Text 0) ∷ [])
+
+abbrev out_and_value : List Step
+out_and_value = by_user 0 (Text 0) ∷ step (Out 0 0) (Rule 0) [] ∷ []
+
+out_alone : refutes single its_value (clash_of out_and_value (culprits.Rule 0) (2 ∷ [])) ≡ true
+out_alone = refl
+
+with_value : refutes single its_value (clash_of out_and_value (culprits.Rule 0) (1 ∷ 2 ∷ [])) ≢ true
+with_value e = cc
 
 -- the steps must be accepted, and the premises be among them
 unaccepted : refutes pump small_e3
