@@ -78,8 +78,8 @@ follows plan sources step premises =
 abbrev pub is_accepted : Plan → Sources → List Step → Bool
 is_accepted plan sources steps = accepted step_form (follows plan sources) [] steps
 
-abbrev pub first_unaccepted : Plan → Sources → List Step → Option ℕ
-first_unaccepted plan sources steps = first_refused step_form (follows plan sources) [] steps
+abbrev pub first_refused_step : Plan → Sources → List Step → Option ℕ
+first_refused_step plan sources steps = first_refused step_form (follows plan sources) [] steps
 
 -- what the steps conclude
 abbrev pub concluded : List Step → List Atom
@@ -101,3 +101,13 @@ is_whole plan sources steps =
 -- whether each step but the last is a premise of a later one
 abbrev pub is_trimmed_chain : List Step → Bool
 is_trimmed_chain steps = is_trimmed step_form steps
+
+-- whether the last step concludes the atom
+abbrev pub ends_with : Atom → List Step → Bool
+ends_with atom [] = false
+ends_with atom (step ∷ []) = same_atom step.conclusion atom
+ends_with atom (step ∷ (next ∷ more)) = ends_with atom (next ∷ more)
+
+-- whether the steps are a chain of reasons for the atom: accepted, none in vain, and the last concludes it
+abbrev pub is_chain_for : Plan → Sources → Atom → List Step → Bool
+is_chain_for plan sources atom steps = (is_accepted plan sources steps && is_trimmed_chain steps) && ends_with atom steps

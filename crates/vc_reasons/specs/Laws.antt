@@ -17,7 +17,7 @@ use Rattle.vc_plan.specs.Laws.{IsClosed}
 use Rattle.vc_plan.specs.Seen.{same_atom, seen_of}
 use Rattle.vc_plan.specs.Settle.{base, settlement_of}
 use Rattle.vc_plan.specs.Sources.{Sources, entry_of}
-use Rattle.vc_reasons.specs.Checking.{concluded, first_unaccepted, is_accepted, is_by, is_whole, set_with, step_form}
+use Rattle.vc_reasons.specs.Checking.{concluded, first_refused_step, is_accepted, is_by, is_chain_for, is_whole, set_with, step_form}
 use Rattle.vc_reasons.specs.Keeping.{is_gone, kept_of}
 use Rattle.vc_reasons.specs.Refuting.{is_of_constraint, refutes}
 use Rattle.vc_reasons.specs.Things.{Thing, same_thing, has_thing, thing_of, giver_reads, giver_writes}
@@ -27,13 +27,18 @@ use Rattle.vc_reasons.specs.Work.{links_of, reach_of}
 abbrev pub AcceptedUnrefused : Type 0
 AcceptedUnrefused =
     (plan : Plan) (sources : Sources) (steps : List Step)
-    → is_accepted plan sources steps ≡ is_none (first_unaccepted plan sources steps)
+    → is_accepted plan sources steps ≡ is_none (first_refused_step plan sources steps)
 
 -- what an accepted list concludes stands in every closed set in which the root is here
 abbrev pub ConclusionsStand : Type 0
 ConclusionsStand = (plan : Plan) (sources : Sources) (steps : List Step) (closed : List Atom)
     → is_accepted plan sources steps ≡ true → IsClosed plan sources closed → Within same_atom base closed
     → Within same_atom (concluded steps) closed
+
+-- an atom that has a chain stands where settling ends
+abbrev pub ChainsStand : Type 0
+ChainsStand = (plan : Plan) (sources : Sources) (atom : Atom) (steps : List Step) (set : List Atom)
+    → is_chain_for plan sources atom steps ≡ true → settlement_of plan sources ≡ settled set → has same_atom set atom ≡ true
 
 -- a whole list concludes just what settling ends at
 abbrev pub WholeSettles : Type 0

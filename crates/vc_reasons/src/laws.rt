@@ -1,15 +1,17 @@
 //! Laws of reasons, each the contract of a function that does nothing.
 
-ghost use Rattle.vc_reasons.specs.Laws.{AcceptedUnrefused, ConclusionsStand, WholeSettles, RefutingBreaks, RefutingBlames, KeptIsAccepted, KeptIsLeft, GivesLocally, GivesWhatItWrites, ReachIsLeast};
+ghost use Rattle.vc_reasons.specs.Laws.{AcceptedUnrefused, ChainsStand, ConclusionsStand, WholeSettles, RefutingBreaks, RefutingBlames, KeptIsAccepted, KeptIsLeft, GivesLocally, GivesWhatItWrites, ReachIsLeast};
 
 /// A list of steps is accepted exactly where no step is refused.
 pub fn accepted_is_unrefused()
     ensures { AcceptedUnrefused }
 {}
 
-/// What an accepted list concludes stands in every closed set: so two steps can't hold each other up.
+/// What an accepted list concludes stands in every closed set, so two steps can't hold each other up; and what has a chain
+/// of reasons stands where settling ends.
 pub fn conclusions_stand()
-    ensures { ConclusionsStand }
+    ensures closed { ConclusionsStand }
+    ensures chains { ChainsStand }
 {}
 
 /// A whole list concludes just what settling ends at.

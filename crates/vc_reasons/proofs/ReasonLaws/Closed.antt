@@ -1,14 +1,15 @@
 -- What accepted and whole lists conclude, against closed sets.
-use Rattle.std.proofs.Common.{◌≡◌, ◌<◌, Bool, true, ◌&&◌, List, [], ◌∷◌, length, ◌∙◌, ap, inl, inr}
+use Rattle.std.proofs.Common.{◌≡◌, ◌<◌, Bool, true, ◌&&◌, List, [], ◌∷◌, length, ◌∙◌, ap, inl, inr, subst}
 use Rattle.std.specs.List.{list_all}
 use Rattle.std.proofs.lemmas.Bool.{and_parts}
 use Rattle.vc_base.specs.Rounds.{Given, clash, atoms, is_clash, atoms_of, settled, some_clash}
 use Rattle.vc_base.specs.Sets.{has, Within}
 use Rattle.vc_base.proofs.ChainLaws as chains
 use Rattle.vc_base.proofs.Counting as counting
-use Rattle.vc_base.proofs.SetLaws.{same_test, told, has_either, has_front}
+use Rattle.vc_base.proofs.SetLaws.{same_test, told, has_either, has_first, has_front, has_more}
 use Rattle.vc_base.proofs.Settling as settling
 use Rattle.vc_plan.specs.declared.atoms.Atom.{Atom}
+use Rattle.vc_plan.specs.declared.atoms.Step.{Step}
 use Rattle.vc_plan.specs.declared.plans.Plan.{Plan}
 use Rattle.vc_plan.specs.Clear.{is_clear}
 use Rattle.vc_plan.specs.Domains.{atom_count}
@@ -20,9 +21,9 @@ use Rattle.vc_plan.specs.Sources.{Sources}
 use Rattle.vc_plan.proofs.PlanLaws.Atoms.{atom_exact, atom_itself}
 use Rattle.vc_plan.proofs.PlanLaws.Givers.{system_laws}
 use Rattle.vc_plan.proofs.PlanLaws.Rounds.{rounds_suffice, settles_below_closed, settles_least}
-use Rattle.vc_reasons.specs.Checking.{concluded, follows, is_accepted, is_silent, set_with, step_form}
-use Rattle.vc_reasons.specs.Laws.{AcceptedUnrefused, ConclusionsStand, WholeSettles}
-use Rattle.vc_reasons.proofs.ReasonLaws.Givers.{is_given, rooted}
+use Rattle.vc_reasons.specs.Checking.{ends_with, is_trimmed_chain, concluded, follows, is_accepted, is_silent, set_with, step_form}
+use Rattle.vc_reasons.specs.Laws.{AcceptedUnrefused, ChainsStand, ConclusionsStand, WholeSettles}
+use Rattle.vc_reasons.proofs.ReasonLaws.Givers.{following, is_given, rooted}
 
 pub accepted_unrefused : AcceptedUnrefused
 accepted_unrefused plan sources steps = chains.accepted_unrefused step_form (follows plan sources) [] steps
@@ -105,3 +106,31 @@ whole_settles plan sources steps e =
       λ a. same_test (has same_atom end.0 a) (has same_atom set a) (settles_least plan sources end.0 set end.1 closed root a)
           (all_stand plan end.0 (concluded steps) s.root (conclusions_stand plan sources steps end.0 p.0 s.closed s.root) a),
     )
+
+-- the last conclusion is one
+ends_concluded : (atom : Atom) (steps : List Step) → ends_with atom steps ≡ true → has same_atom (concluded steps) atom ≡ true
+ends_concluded atom [] e = absurd (cc)
+ends_concluded atom (step ∷ []) e =
+    let is : step.conclusion ≡ atom = atom_exact step.conclusion atom e in
+    subst (λ a. has same_atom (step.conclusion ∷ []) a ≡ true) is (has_first same_atom atom_exact atom_itself step.conclusion [])
+ends_concluded atom (step ∷ (next ∷ more)) e =
+    has_more same_atom atom_exact atom_itself step.conclusion (concluded (next ∷ more)) atom (ends_concluded atom (next ∷ more) e)
+
+-- a list that ends with something has a first step, at whose premises the root is
+ended_rooted : (plan : Plan) (sources : Sources) (atom : Atom) (steps : List Step) → is_accepted plan sources steps ≡ true
+    → ends_with atom steps ≡ true → 0 < length plan.slots
+ended_rooted plan sources atom [] e h = absurd (cc)
+ended_rooted plan sources atom (step ∷ steps) e h =
+    let p = chains.accepted_parts step_form (follows plan sources) [] step steps e in
+    let f = following plan sources step p.atoms p.from in
+    rooted plan p.atoms f.clear
+
+pub chains_stand : ChainsStand
+chains_stand plan sources atom steps set e ends =
+    let accepted = is_accepted plan sources steps in
+    let trimmed = is_trimmed_chain steps in
+    let p : ((accepted && trimmed) ≡ true) × (ends_with atom steps ≡ true)
+    = and_parts (accepted && trimmed) (ends_with atom steps) e in
+    let q : (accepted ≡ true) × (trimmed ≡ true) = and_parts accepted trimmed p.0 in
+    let s : Settled plan sources set = settled_closed plan sources set (ended_rooted plan sources atom steps q.0 p.1) ends in
+    conclusions_stand plan sources steps set q.0 s.closed s.root atom (ends_concluded atom steps p.1)

@@ -6,7 +6,7 @@ use Rattle.vc_plan.specs.declared.atoms.Atom.TheVariants.{Here, Out, Is}
 use Rattle.vc_plan.specs.declared.atoms.Origin.TheVariants.{Rule, User, Written}
 use Rattle.vc_plan.specs.Sources.{Sources}
 use Rattle.vc_plan.proofs.PlanRows.Models.{pump, users, whole}
-use Rattle.vc_reasons.specs.Checking.{first_unaccepted, is_accepted, is_trimmed_chain, is_whole}
+use Rattle.vc_reasons.specs.Checking.{first_refused_step, is_accepted, is_chain_for, is_trimmed_chain, is_whole}
 use Rattle.vc_reasons.proofs.ReasonRows.Steps.{step, by_user, large_size, no_e1, no_e2, why_motor, mirror}
 
 abbrev large : Sources
@@ -16,15 +16,15 @@ large = users (Some (Text 2) ∷ [])
 motor : is_accepted pump large why_motor ≡ true
 motor = refl
 
-motor_unrefused : first_unaccepted pump large why_motor ≡ None
+motor_unrefused : first_refused_step pump large why_motor ≡ None
 motor_unrefused = refl
 
 -- the premise taken out of step 2: E1 doesn't follow from nothing
-out_of_step_2 : first_unaccepted pump large
+out_of_step_2 : first_refused_step pump large
     (large_size ∷ no_e1 [] ∷ no_e2 (1 ∷ []) ∷ step (Is 1 (Text 5)) (Rule 2) (2 ∷ 3 ∷ []) ∷ []) ≡ Some 2
 out_of_step_2 = refl
 
-counted_from_0 : first_unaccepted pump large (large_size ∷ no_e1 [] ∷ []) ≢ Some 1
+counted_from_0 : first_refused_step pump large (large_size ∷ no_e1 [] ∷ []) ≢ Some 1
 counted_from_0 e = cc
 
 -- it isn't made up for by what stands
@@ -32,7 +32,7 @@ by_what_stands : is_accepted pump large (large_size ∷ no_e1 [] ∷ []) ≢ tru
 by_what_stands e = cc
 
 -- steps 1 and 2 exchanged: a step cites earlier ones alone
-exchanged : first_unaccepted pump large
+exchanged : first_refused_step pump large
     (no_e1 (2 ∷ []) ∷ large_size ∷ no_e2 (2 ∷ []) ∷ step (Is 1 (Text 5)) (Rule 2) (1 ∷ 3 ∷ []) ∷ []) ≡ Some 1
 exchanged = refl
 
@@ -41,25 +41,25 @@ itself : is_accepted pump large (large_size ∷ no_e1 (2 ∷ []) ∷ []) ≢ tru
 itself e = cc
 
 -- two steps that cite each other
-circle : first_unaccepted mirror (users []) (step (Out 0 0) (Rule 0) (2 ∷ []) ∷ step (Out 1 0) (Rule 0) (1 ∷ []) ∷ []) ≡ Some 1
+circle : first_refused_step mirror (users []) (step (Out 0 0) (Rule 0) (2 ∷ []) ∷ step (Out 1 0) (Rule 0) (1 ∷ []) ∷ []) ≡ Some 1
 circle = refl
 
 circle_accepted : is_accepted mirror (users []) (step (Out 0 0) (Rule 0) (2 ∷ []) ∷ step (Out 1 0) (Rule 0) (1 ∷ []) ∷ []) ≢ true
 circle_accepted e = cc
 
 -- the second of them follows from the first
-after_first : first_unaccepted mirror (users []) (step (Out 1 0) (Rule 0) [] ∷ step (Out 0 0) (Rule 0) (1 ∷ []) ∷ []) ≡ Some 1
+after_first : first_refused_step mirror (users []) (step (Out 1 0) (Rule 0) [] ∷ step (Out 0 0) (Rule 0) (1 ∷ []) ∷ []) ≡ Some 1
 after_first = refl
 
 -- what the user didn't set, or not so
-unset : first_unaccepted pump (users []) why_motor ≡ Some 1
+unset : first_refused_step pump (users []) why_motor ≡ Some 1
 unset = refl
 
 set_otherwise : is_accepted pump (users (Some (Text 1) ∷ [])) why_motor ≢ true
 set_otherwise e = cc
 
 -- a premise that the giver doesn't read: the user's value reads its slot alone, the table no flow
-user_reads : first_unaccepted pump (users (Some (Text 2) ∷ None ∷ Some (whole 5) ∷ []))
+user_reads : first_refused_step pump (users (Some (Text 2) ∷ None ∷ Some (whole 5) ∷ []))
     (by_user 2 (whole 5) ∷ step (Is 0 (Text 2)) User (1 ∷ []) ∷ []) ≡ Some 2
 user_reads = refl
 
@@ -75,7 +75,7 @@ root_concluded : is_accepted pump large (step (Here 0) User [] ∷ []) ≢ true
 root_concluded e = cc
 
 -- a rule of another number, and a statement that wrote nothing
-other_rule : first_unaccepted pump large (large_size ∷ step (Out 1 0) (Rule 1) (1 ∷ []) ∷ []) ≡ Some 2
+other_rule : first_refused_step pump large (large_size ∷ step (Out 1 0) (Rule 1) (1 ∷ []) ∷ []) ≡ Some 2
 other_rule = refl
 
 no_rule : is_accepted pump large (large_size ∷ step (Out 1 0) (Rule 9) (1 ∷ []) ∷ []) ≢ true
@@ -118,3 +118,16 @@ one_in_vain = refl
 
 two_ends : is_trimmed_chain (large_size ∷ no_e1 (1 ∷ []) ∷ no_e2 (1 ∷ []) ∷ []) ≢ true
 two_ends e = cc
+
+-- it is a chain for the motor's value, and for nothing that it concludes on the way
+motor_reason : is_chain_for pump large (Is 1 (Text 5)) why_motor ≡ true
+motor_reason = refl
+
+on_the_way : is_chain_for pump large (Out 1 1) why_motor ≢ true
+on_the_way e = cc
+
+no_e1_reason : is_chain_for pump large (Out 1 0) (large_size ∷ no_e1 (1 ∷ []) ∷ []) ≡ true
+no_e1_reason = refl
+
+reason_in_vain : is_chain_for pump large (Out 1 0) (large_size ∷ no_e2 (1 ∷ []) ∷ no_e1 (1 ∷ []) ∷ []) ≢ true
+reason_in_vain e = cc
