@@ -95,6 +95,17 @@ module _ {A O : Type 0} (system : System A O) (laws : Laws system) where
             }
       ]
 
+  -- what rounds began with stands in the set that they end at
+  pub settled_holds : (n : ℕ) (S R : List A) → settle system n S ≡ settled R → Within system.same S R
+  settled_holds zero S R e =
+      elim (some_clash system S) as (λ b. cond b broken (settled S) ≡ settled R → Within system.same S R) [
+        | true ↦ λ q. absurd (cc)
+        | false ↦ λ q. let same : S ≡ R = cc in λ a h. subst (λ set. has system.same set a ≡ true) same h
+      ] e
+  settled_holds (suc n) S R e =
+      let r : Ran n S R = ran n S R e in
+      λ a h. settled_holds n (next_round system S) R r.rest a (with_all_left system.same laws.exact laws.itself S (all_given system S) a h)
+
   -- where no clear set without doubles has more atoms than rounds are run from a base that isn't empty, they end closed
   pub enough_rounds : (n : ℕ) (base R : List A) → system.is_clear base ≡ true → IsDistinct system.same base → 0 < length base
       → ((T : List A) → system.is_clear T ≡ true → IsDistinct system.same T → length T ≤ n)

@@ -37,7 +37,7 @@ with procedures = record empty {
   guards = record { at = Var 2; value = Some (OneText 5); dependency = 0; condition = 1 } ∷ [];
 }
 
-abbrev paint : Plan
+abbrev pub paint : Plan
 paint = with (always 0 (says (SetDefault 0 0) 0 ∷ []) ∷ always 0 (says (Assign 0 1) 2 ∷ []) ∷ [])
 
 abbrev color : Option Value → Users

@@ -1,0 +1,9 @@
+-- Laws of reasons, of what is kept and of what rules read and write.
+pub mod Agreeing
+pub mod Closed
+pub mod Givers
+pub mod Keeping
+pub mod Local
+pub mod Reaching
+pub mod Refuting
+pub mod Writing

@@ -1,0 +1,19 @@
+//! Each law called once: a law that asked for anything couldn't be.
+
+use crate::laws::{
+    accepted_is_unrefused, conclusions_stand, giving_is_local, kept_is_accepted, reach_is_least,
+    refuting_breaks, whole_lists_settle,
+};
+use std::test::Fail;
+
+#[test]
+fn laws_ask_for_nothing(_rt: HostRuntime) -> Result<(), Fail> {
+    accepted_is_unrefused();
+    conclusions_stand();
+    whole_lists_settle();
+    refuting_breaks();
+    kept_is_accepted();
+    giving_is_local();
+    reach_is_least();
+    Ok(())
+}
