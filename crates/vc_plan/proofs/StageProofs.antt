@@ -3,6 +3,7 @@ pub mod BillLists
 pub mod Brought
 pub mod Decided
 pub mod Items
+pub mod LastStage
 pub mod Levels
 pub mod Nested
 pub mod Own

@@ -10,7 +10,7 @@ use Rattle.vc_plan.specs.declared.plans.Slot.{Slot}
 use Rattle.vc_plan.specs.declared.shown.BillLine.{BillLine}
 use Rattle.vc_plan.specs.Bills.{below, bill_from, bill_line, bill_of, component_of, lines_of, own_bill}
 use Rattle.vc_plan.specs.Entries.{Entries, written_at}
-use Rattle.vc_plan.specs.Evaluate.{Users, evaluation_of, holds}
+use Rattle.vc_plan.specs.Evaluate.{Users, evaluation_of, holds, last_set, reached, sources_of}
 use Rattle.vc_plan.specs.LookUps.{writes_own}
 use Rattle.vc_plan.specs.Orders.{are_in_order}
 use Rattle.vc_plan.specs.Readings.{Reading}
@@ -114,3 +114,8 @@ BillsHaveTakenLines = (plan : Plan) → IsValid plan → (seen : Seen) (reading 
 abbrev pub ParentsAreHere : Type 0
 ParentsAreHere = (plan : Plan) → IsValid plan → (sources : Sources) (set : List Atom) → settlement_of plan sources ≡ settled set
     → IsUpward plan (seen_of set)
+
+-- what is read at the end is where the last stage settles, by the user's values and all that was written
+abbrev pub LastStageSettles : Type 0
+LastStageSettles = (plan : Plan) (users : Users) (sets : List (List Atom)) (entries : Entries)
+    → evaluation_of plan users ≡ reached sets entries → settlement_of plan (sources_of users entries) ≡ settled (last_set plan sets)

@@ -1,6 +1,6 @@
 //! Laws of stages and bills, each the contract of a function that does nothing.
 
-ghost use Rattle.vc_plan.specs.StageLaws.{UsersDecide, StagesWriteTheirOwn, SumsWriteTheirOwn, ItemsAscend, ComponentsAreTakenWhereHere, ParentsComeFirst, ComponentsFollow, OwnLinesInOrder, LevelsSuffice, BillsHaveTakenLines, ParentsAreHere};
+ghost use Rattle.vc_plan.specs.StageLaws.{UsersDecide, StagesWriteTheirOwn, SumsWriteTheirOwn, ItemsAscend, ComponentsAreTakenWhereHere, ParentsComeFirst, ComponentsFollow, OwnLinesInOrder, LevelsSuffice, BillsHaveTakenLines, ParentsAreHere, LastStageSettles};
 
 /// What the user chose decides the evaluation.
 pub fn users_decide()
@@ -41,4 +41,9 @@ pub fn bills_are_in_preorder()
 /// Where settling ends for a valid plan, the root is here, and each slot that is here has its parent here.
 pub fn parents_are_here()
     ensures { ParentsAreHere }
+{}
+
+/// What is read at the end of an evaluation is where its last stage settles.
+pub fn last_stage_settles()
+    ensures { LastStageSettles }
 {}
