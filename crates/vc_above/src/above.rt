@@ -34,7 +34,6 @@ pub struct Uses {
 }
 
 /// What the lines above a line have told.
-#[derive(Drop)]
 pub struct Above {
     /// A line counts.
     pub counted: bool,
@@ -44,6 +43,25 @@ pub struct Above {
     pub dependencies: Dependencies,
     pub standing: Standing,
     pub uses: Uses,
+}
+
+// By hand, as the derived one takes the check minutes wherever facts are dropped.
+impl Drop for Above {
+    fn drop(self) {
+        let Above {
+            counted: _,
+            head: _,
+            root: _,
+            declared,
+            dependencies,
+            standing,
+            uses,
+        } = self;
+        drop(declared);
+        drop(dependencies);
+        drop(standing);
+        drop(uses);
+    }
 }
 
 impl Standing {
