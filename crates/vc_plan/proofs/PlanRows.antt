@@ -2,6 +2,7 @@
 pub mod BrokenLists
 pub mod BrokenProcedures
 pub mod BrokenRules
+pub mod BrokenScopes
 pub mod BrokenSizes
 pub mod BrokenThings
 pub mod BrokenTyping

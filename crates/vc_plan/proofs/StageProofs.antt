@@ -10,5 +10,6 @@ pub mod Own
 pub mod OwnLines
 pub mod Owners
 pub mod Parents
+pub mod ShownLines
 pub mod TakenLines
 pub mod Upward

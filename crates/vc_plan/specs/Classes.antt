@@ -1,6 +1,6 @@
 -- The classes of objects: which variables and sets a slot has, and in which order they and what stands at them come.
 use Rattle.std.specs.Prelude.{ℕ, suc, Bool, true, false, not, ◌&&◌, ◌||◌, ◌==◌, nat_lt, List, [], ◌∷◌, map, slice_get, Option, None, Some}
-use Rattle.std.specs.List.{filter, list_all, list_any, position_or_len}
+use Rattle.std.specs.List.{filter, list_any, position_or_len}
 use Rattle.vc_value.specs.declared.table_header.Domain.{Domain}
 use Rattle.vc_plan.specs.declared.conditions.Piece.{Piece}
 use Rattle.vc_plan.specs.declared.conditions.Piece.TheVariants.{OneText}
@@ -16,7 +16,7 @@ use Rattle.vc_plan.specs.declared.procedures.Procedure.{Procedure}
 use Rattle.vc_plan.specs.declared.procedures.Trigger.{Trigger}
 use Rattle.vc_plan.specs.declared.procedures.Trigger.TheVariants.{Anyway, ValueIn, TextIn}
 use Rattle.vc_plan.specs.Lists.{list_of, list_place}
-use Rattle.vc_plan.specs.Orders.{is_number, same_numbers}
+use Rattle.vc_plan.specs.Orders.{same_numbers}
 use Rattle.vc_plan.specs.Showing.{slot_of_named}
 
 -- the class of an object, and of a slot's object

@@ -4,7 +4,7 @@ use Rattle.std.specs.List.{filter, list_all, list_any}
 use Rattle.vc_base.specs.Rounds.{settled}
 use Rattle.vc_value.specs.declared.value.Value.{Value}
 use Rattle.vc_plan.specs.declared.atoms.Atom.{Atom}
-use Rattle.vc_plan.specs.declared.plans.Line as bill
+use Rattle.vc_plan.specs.declared.plans.Line as lines
 use Rattle.vc_plan.specs.declared.plans.Plan.{Plan}
 use Rattle.vc_plan.specs.declared.plans.Slot.{Slot}
 use Rattle.vc_plan.specs.declared.shown.BillLine.{BillLine}
@@ -17,6 +17,7 @@ use Rattle.vc_plan.specs.Readings.{Reading}
 use Rattle.vc_plan.specs.RuleShapes.{is_at}
 use Rattle.vc_plan.specs.Seen.{Seen, seen_of}
 use Rattle.vc_plan.specs.Settle.{settlement_of}
+use Rattle.vc_plan.specs.Shown.{bill, reading_of}
 use Rattle.vc_plan.specs.Sources.{Sources}
 use Rattle.vc_plan.specs.Valid.{IsValid}
 use Rattle.vc_plan.specs.Writes.{depth_of, depth_writes, instances_at, summing_instances, summing_writes}
@@ -52,7 +53,7 @@ ItemsAscend = (plan : Plan) (seen : Seen) (reading : Reading) (i : ℕ) → are_
 
 -- a configurable line is taken exactly where its slot is here
 abbrev pub ComponentsAreTakenWhereHere : Type 0
-ComponentsAreTakenWhereHere = (plan : Plan) (seen : Seen) (reading : Reading) (n j : ℕ) (line : bill.Line)
+ComponentsAreTakenWhereHere = (plan : Plan) (seen : Seen) (reading : Reading) (n j : ℕ) (line : lines.Line)
     → slice_get plan.lines n ≡ Some line → component_of plan n ≡ Some j → list_any (λ m. m == n) (lines_of plan seen reading line.slot) ≡ seen.here j
 
 -- in a valid plan each slot comes after its parent
@@ -119,3 +120,10 @@ ParentsAreHere = (plan : Plan) → IsValid plan → (sources : Sources) (set : L
 abbrev pub LastStageSettles : Type 0
 LastStageSettles = (plan : Plan) (users : Users) (sets : List (List Atom)) (entries : Entries)
     → evaluation_of plan users ≡ reached sets entries → settlement_of plan (sources_of users entries) ≡ settled (last_set plan sets)
+
+-- so the bill that is shown of a valid plan has of each slot the lines that it takes at the last stage, if it is here
+abbrev pub BillsShowTakenLines : Type 0
+BillsShowTakenLines = (plan : Plan) → IsValid plan → (users : Users) (sets : List (List Atom)) (entries : Entries)
+    → evaluation_of plan users ≡ reached sets entries → (i : ℕ) → i < length plan.slots
+    → let seen = seen_of (last_set plan sets) in
+    filter (λ row. row.slot == i) (bill plan users) ≡ taken_lines plan seen (reading_of plan users seen) i

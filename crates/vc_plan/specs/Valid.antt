@@ -25,6 +25,7 @@ use Rattle.vc_plan.specs.Slots.{is_root, is_below, follows_in_preorder, is_item_
 use Rattle.vc_plan.specs.RuleShapes.{stays_at_its_slots, is_numbered, has_one_last, has_its_lines, are_one_rule, are_one_line, are_with_and_without, asks_by_right, columns_once, is_not_among}
 use Rattle.vc_plan.specs.LookUps.{writes_own, action_proper, keys_apart, trigger_listed, guard_listed}
 use Rattle.vc_plan.specs.Outside.{conditions_outside, terms_outside}
+use Rattle.vc_plan.specs.Scopes.{reads_own, guard_own, requirement_own, operation_own, line_own, rule_own}
 use Rattle.vc_plan.specs.Spelling.{is_upper_name, is_material, is_unit, is_text, is_graphic}
 use Rattle.vc_plan.specs.Typing.{is_numeric, condition_typed, kind_typed, statement_typed}
 use Rattle.vc_plan.specs.Monotone.{has_part_sum, condition_sums, is_for_nets}
@@ -147,6 +148,13 @@ pub record IsValid (plan : Plan) : Type 0 where
   -- procedures write at their own slot, and look up by all keys
   pub own_writes : list_all (writes_own plan) plan.procedures ≡ true
   pub look_ups : each_statement plan (λ statement. action_proper plan statement.action) ≡ true
+  -- all but constraints read what can be named where they stand: the slot, its parent and the root; a line its owner and the root
+  pub procedure_reads : list_all (reads_own plan) plan.procedures ≡ true
+  pub guard_reads : list_all (guard_own plan) plan.guards ≡ true
+  pub requirement_reads : list_all (requirement_own plan) plan.requirements ≡ true
+  pub operation_reads : list_all (operation_own plan) plan.operations ≡ true
+  pub line_reads : list_all (line_own plan) plan.lines ≡ true
+  pub component_reads : list_all (rule_own plan) plan.rules ≡ true
   -- what stands at a value stands at one of its list
   pub triggers : list_all (λ procedure. trigger_listed plan procedure.slot procedure.trigger) plan.procedures ≡ true
   pub guards : list_all (guard_listed plan) plan.guards ≡ true

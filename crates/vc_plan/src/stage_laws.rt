@@ -1,6 +1,6 @@
 //! Laws of stages and bills, each the contract of a function that does nothing.
 
-ghost use Rattle.vc_plan.specs.StageLaws.{UsersDecide, StagesWriteTheirOwn, SumsWriteTheirOwn, ItemsAscend, ComponentsAreTakenWhereHere, ParentsComeFirst, ComponentsFollow, OwnLinesInOrder, LevelsSuffice, BillsHaveTakenLines, ParentsAreHere, LastStageSettles};
+ghost use Rattle.vc_plan.specs.StageLaws.{UsersDecide, StagesWriteTheirOwn, SumsWriteTheirOwn, ItemsAscend, ComponentsAreTakenWhereHere, ParentsComeFirst, ComponentsFollow, OwnLinesInOrder, LevelsSuffice, BillsHaveTakenLines, ParentsAreHere, LastStageSettles, BillsShowTakenLines};
 
 /// What the user chose decides the evaluation.
 pub fn users_decide()
@@ -36,6 +36,7 @@ pub fn bills_are_in_preorder()
     ensures own { OwnLinesInOrder }
     ensures levels { LevelsSuffice }
     ensures taken { BillsHaveTakenLines }
+    ensures shown { BillsShowTakenLines }
 {}
 
 /// Where settling ends for a valid plan, the root is here, and each slot that is here has its parent here.

@@ -1,5 +1,5 @@
 -- Plans that break one fact alone: what slots of one object have alike, lists, and the domains cut from them.
-use Rattle.std.proofs.Common.{◌≡◌, ℕ, pos, List, [], ◌∷◌, true, false, refl}
+use Rattle.std.proofs.Common.{◌≡◌, pos, List, [], ◌∷◌, true, refl}
 use Rattle.std.specs.Prelude.{codes, Box}
 use Rattle.std.specs.declared.alloc.Global.{Global}
 use Rattle.vc_value.specs.Grains.{interval}

@@ -1,8 +1,7 @@
 -- Plans that break one fact alone: what procedures write and look up, what stands at values, and orders.
-use Rattle.std.proofs.Common.{◌≡◌, ℕ, List, [], ◌∷◌, true, false, refl}
+use Rattle.std.proofs.Common.{◌≡◌, ℕ, List, [], ◌∷◌, true, refl}
 use Rattle.std.specs.Prelude.{None, Some, codes, Box}
 use Rattle.std.specs.declared.alloc.Global.{Global}
-use Rattle.vc_value.specs.declared.table_header.Domain.TheVariants.{Texts, Nums}
 use Rattle.vc_value.specs.declared.value.Value.TheVariants.{Text}
 use Rattle.vc_plan.specs.declared.conditions.Piece.{Piece}
 use Rattle.vc_plan.specs.declared.conditions.Piece.TheVariants.{OneText, Stretch}
@@ -14,7 +13,6 @@ use Rattle.vc_plan.specs.declared.procedures.Action.TheVariants.{Assign, SetDefa
 use Rattle.vc_plan.specs.declared.procedures.Procedure.{Procedure}
 use Rattle.vc_plan.specs.declared.procedures.Trigger.{Trigger}
 use Rattle.vc_plan.specs.declared.procedures.Trigger.TheVariants.{ValueIn, TextIn}
-use Rattle.vc_plan.specs.declared.terms.Term.TheVariants.{Read}
 use Rattle.vc_plan.proofs.PlanRows.Facts.{Breaks, broken}
 use Rattle.vc_plan.proofs.PlanRows.Models.{from_to}
 use Rattle.vc_plan.proofs.PlanRows.SmallModels.{box, cutting, key, fills, looking, keyed, keyed_table}

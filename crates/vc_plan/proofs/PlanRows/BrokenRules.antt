@@ -1,6 +1,6 @@
 -- Plans that break one fact alone: which rules there are, and what each is of.
-use Rattle.std.proofs.Common.{◌≡◌, ℕ, List, [], ◌∷◌, ◌++◌, true, false, refl}
-use Rattle.std.specs.Prelude.{None, Some, codes, Box}
+use Rattle.std.proofs.Common.{◌≡◌, ℕ, List, [], ◌∷◌, ◌++◌, refl}
+use Rattle.std.specs.Prelude.{None, codes, Box}
 use Rattle.std.specs.declared.alloc.Global.{Global}
 use Rattle.vc_value.specs.declared.value.Value.TheVariants.{Text}
 use Rattle.vc_plan.specs.declared.conditions.Relation.TheVariants.{Equal, AtMost}

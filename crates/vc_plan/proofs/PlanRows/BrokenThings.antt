@@ -1,20 +1,18 @@
 -- Plans that break one fact alone: numbers of things that aren't there, and slots and classes that aren't those of the objects.
-use Rattle.std.proofs.Common.{◌≡◌, ℕ, List, [], ◌∷◌, true, false, refl}
-use Rattle.std.specs.Prelude.{None, Some, codes}
+use Rattle.std.proofs.Common.{◌≡◌, [], ◌∷◌, false, refl}
+use Rattle.std.specs.Prelude.{None, codes}
 use Rattle.vc_value.specs.declared.table_header.Domain.TheVariants.{Texts, Nums}
 use Rattle.vc_value.specs.declared.value.Value.TheVariants.{Text}
 use Rattle.vc_plan.specs.declared.conditions.Condition.TheVariants.{Always, Compared, Specified}
 use Rattle.vc_plan.specs.declared.conditions.Relation.TheVariants.{Equal}
-use Rattle.vc_plan.specs.declared.plans.Guard.{Guard}
 use Rattle.vc_plan.specs.declared.plans.Named.TheVariants.{Var, Set}
-use Rattle.vc_plan.specs.declared.plans.Plan.{Plan}
 use Rattle.vc_plan.specs.declared.procedures.Action.TheVariants.{Assign}
 use Rattle.vc_plan.specs.declared.rules.Kind.TheVariants.{Among}
 use Rattle.vc_plan.specs.declared.rules.Restriction.TheVariants.{Against}
 use Rattle.vc_plan.specs.declared.terms.Term.TheVariants.{Literal, Read}
 use Rattle.vc_plan.proofs.PlanRows.Facts.{Breaks, broken}
-use Rattle.vc_plan.proofs.PlanRows.Models.{root, open_var, fixed_var, rule, of, last, from_to}
-use Rattle.vc_plan.proofs.PlanRows.SmallModels.{bare, box, lid, options_at, screw, cutting, deep, part_of}
+use Rattle.vc_plan.proofs.PlanRows.Models.{root, open_var, fixed_var, rule, last, from_to}
+use Rattle.vc_plan.proofs.PlanRows.SmallModels.{bare, box, options_at, screw, cutting, deep, part_of}
 use Rattle.vc_plan.proofs.PlanRows.WholeModels.{listed, object, piece_line, profile, stripe, whole_ring, whole_paint, whole_machine, whole_gear}
 use Rattle.vc_plan.proofs.StageRows.StageModels.{says}
 
@@ -186,7 +184,10 @@ both = refl
 
 -- the second slot's variable, and its set, before the first's
 power_first : Breaks (codes "vars_by_slot")
-    (record whole_machine { vars = record { slot = 1; characteristic = 1; domain = 1; restrictable = false } ∷ fixed_var 0 ∷ [] })
+    (record whole_machine {
+      vars = record { slot = 1; characteristic = 1; domain = 1; restrictable = false } ∷ fixed_var 0 ∷ [];
+      conditions = Always ∷ Compared Equal (Read 1) (Literal (Text 0)) ∷ [];
+    })
 power_first = refl
 
 second_lid_first : Breaks (codes "sets_by_slot") (record box { sets = options_at 2 1 ∷ options_at 1 1 ∷ [] })

@@ -1,6 +1,6 @@
 -- Plans that break one fact alone: texts and numbers, what nets may ask, sums over parts, and sizes of numbers.
-use Rattle.std.proofs.Common.{◌≡◌, ℕ, List, [], ◌∷◌, ◌++◌, true, false, refl}
-use Rattle.std.specs.Prelude.{None, Some, codes, Box}
+use Rattle.std.proofs.Common.{◌≡◌, [], ◌∷◌, refl}
+use Rattle.std.specs.Prelude.{None, codes, Box}
 use Rattle.std.specs.declared.alloc.Global.{Global}
 use Rattle.vc_value.specs.declared.value.Value.TheVariants.{Text}
 use Rattle.vc_plan.specs.declared.conditions.Condition.{Condition}
@@ -14,14 +14,14 @@ use Rattle.vc_plan.specs.declared.rules.Kind.{Kind}
 use Rattle.vc_plan.specs.declared.rules.Kind.TheVariants.{Among, Compare, Equate, ByTable, Line}
 use Rattle.vc_plan.specs.declared.rules.Operand.TheVariants.{Constant}
 use Rattle.vc_plan.specs.declared.rules.Restriction.TheVariants.{Against, OneOf}
-use Rattle.vc_plan.specs.declared.terms.Function.TheVariants.{Abs, Floor}
+use Rattle.vc_plan.specs.declared.terms.Function.TheVariants.{Abs}
 use Rattle.vc_plan.specs.declared.terms.Operator.TheVariants.{Plus, Times, Over}
 use Rattle.vc_plan.specs.declared.terms.Term.{Term}
 use Rattle.vc_plan.specs.declared.terms.Term.TheVariants.{Literal, Read, PartSum, PartCount, Applied', Joined'}
 use Rattle.vc_plan.proofs.PlanRows.Facts.{Breaks, broken}
-use Rattle.vc_plan.proofs.PlanRows.Models.{rule, of, own_rule, last, column, whole, from_to}
-use Rattle.vc_plan.proofs.PlanRows.SmallModels.{bare, box, cutting, key, fills, looking}
-use Rattle.vc_plan.proofs.PlanRows.WholeModels.{piece_line, profile, whole_ring, whole_paint, whole_machine, whole_gear}
+use Rattle.vc_plan.proofs.PlanRows.Models.{root, rule, of, own_rule, last, column, whole, from_to}
+use Rattle.vc_plan.proofs.PlanRows.SmallModels.{bare, cutting, key, fills, looking, part_of}
+use Rattle.vc_plan.proofs.PlanRows.WholeModels.{object, piece_line, profile, whole_ring, whole_paint, whole_machine, whole_gear}
 use Rattle.vc_plan.proofs.StageRows.StageModels.{says}
 
 -- RING with one more condition
@@ -120,21 +120,24 @@ with_value = refl
 with_another : (p : Box (Unit {0}) Global) → broken (if (Not' p (Compared Equal (Read 0) (Literal (Text 1))))) ≡ []
 with_another p = refl
 
--- a component that asks for options
-abbrev if_box : Condition → Plan
-if_box c = record box {
-  conditions = Always ∷ c ∷ [];
-  rules = last 0 ∷ last 1 ∷ own_rule 0 (Line 1) ∷ of 0 1 (own_rule 1 (Line 2)) ∷ [];
+-- PAINT with a cap, which asks for options
+abbrev capped : Condition → Plan
+capped c = record whole_paint {
+  objects = object (codes "PAINT") (0 ∷ 1 ∷ 2 ∷ 3 ∷ []) ∷ object (codes "CAP") [] ∷ [];
+  slots = root ∷ part_of 0 1 1 0 ∷ [];
+  conditions = Always ∷ Compared Equal (Read 1) (Literal (Text 4)) ∷ Compared Equal (Read 1) (Literal (Text 3)) ∷ c ∷ [];
+  rules = last 0 ∷ last 1 ∷ last 2 ∷ of 3 1 (own_rule 3 (Line 1)) ∷ [];
+  lines = piece_line 10 (codes "CAP") 2 [] ∷ [];
 }
 
-by_option : Breaks (codes "nets") (if_box (Holds 0 0))
+by_option : Breaks (codes "nets") (capped (Holds 0 7))
 by_option = refl
 
-by_any_option : Breaks (codes "nets") (if_box (Filled 0))
+by_any_option : Breaks (codes "nets") (capped (Filled 0))
 by_any_option = refl
 
-by_length : broken (if_box (Specified 0)) ≡ []
-by_length = refl
+by_color : broken (capped (Specified 0)) ≡ []
+by_color = refl
 
 -- GEAR with a precondition, a requirement, an operation and a line that count parts; a statement may
 abbrev many_parts : Condition

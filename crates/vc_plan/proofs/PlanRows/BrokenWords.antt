@@ -10,8 +10,8 @@ use Rattle.vc_plan.specs.declared.plans.Plan.{Plan}
 use Rattle.vc_plan.specs.declared.plans.Table.{Table}
 use Rattle.vc_plan.specs.Valid.{IsValid}
 use Rattle.vc_plan.proofs.PlanRows.Facts.{Breaks, broken}
-use Rattle.vc_plan.proofs.PlanRows.SmallModels.{bare, box, cutting}
-use Rattle.vc_plan.proofs.PlanRows.WholeModels.{listed, object, piece_line, whole_paint, whole_ring}
+use Rattle.vc_plan.proofs.PlanRows.SmallModels.{bare, cutting}
+use Rattle.vc_plan.proofs.PlanRows.WholeModels.{listed, object, piece_line, whole_paint}
 
 -- the name of a plan: none, in lower case, with a digit first, with a hyphen, and of 31 letters
 abbrev named : List ℕ → Plan

@@ -1,5 +1,5 @@
 -- The facts of a valid plan as tests with their names, and which of them a plan breaks.
-use Rattle.std.proofs.Common.{◌≡◌, ℕ, zero, suc, Bool, true, false, cond, ◌&&◌, ◌||◌, List, [], ◌∷◌, length, drop, refl, sym, ◌∙◌}
+use Rattle.std.proofs.Common.{◌≡◌, ℕ, zero, suc, Bool, true, false, cond, ◌&&◌, List, [], ◌∷◌, length, drop, refl, sym, ◌∙◌}
 use Rattle.std.proofs.Common.{arith, subst}
 use Rattle.std.proofs.lemmas.Bool.{and_parts, ltb-true}
 use Rattle.std.proofs.lemmas.Str.{IsUtf8-from_ascii}
@@ -11,7 +11,7 @@ use Rattle.vc_plan.specs.Alike.{are_of_one_domain, sets_of_one_domain, is_proper
 use Rattle.vc_plan.specs.Bounds.{cell_bound}
 use Rattle.vc_plan.specs.Classes.{has_sets, has_its_vars, has_its_sets, are_procedures_in_order, are_guards_in_order}
 use Rattle.vc_plan.specs.Cuts.{is_cut}
-use Rattle.vc_plan.specs.Domains.{numbers_below, grains_in, texts_in, count_of, atom_count}
+use Rattle.vc_plan.specs.Domains.{numbers_below, count_of, atom_count}
 use Rattle.vc_plan.specs.Lists.{has_its_list, has_its_texts, are_listed}
 use Rattle.vc_plan.specs.PartSums.{sums_numbers, condition_sums_numbers}
 use Rattle.vc_plan.specs.Ranges.{characteristic_there, object_there, slot_there, var_there, set_there, domain_there, condition_there, term_there}
@@ -23,7 +23,8 @@ use Rattle.vc_plan.specs.Slots.{is_root, is_below, follows_in_preorder, is_item_
 use Rattle.vc_plan.specs.RuleShapes.{stays_at_its_slots, is_numbered, has_one_last, has_its_lines, are_one_rule, are_one_line, are_with_and_without, asks_by_right, columns_once, is_not_among}
 use Rattle.vc_plan.specs.LookUps.{writes_own, action_proper, keys_apart, trigger_listed, guard_listed}
 use Rattle.vc_plan.specs.Outside.{conditions_outside, terms_outside}
-use Rattle.vc_plan.specs.Spelling.{is_upper_name, is_material, is_unit, is_text, is_graphic}
+use Rattle.vc_plan.specs.Scopes.{reads_own, guard_own, requirement_own, operation_own, line_own, rule_own}
+use Rattle.vc_plan.specs.Spelling.{is_upper_name, is_material, is_unit, is_text}
 use Rattle.vc_plan.specs.Typing.{is_numeric, condition_typed, kind_typed, statement_typed}
 use Rattle.vc_plan.specs.Monotone.{has_part_sum, condition_sums, is_for_nets}
 use Rattle.vc_plan.specs.Sizes.{is_small, condition_small}
@@ -111,6 +112,12 @@ facts plan =
     ∷ fact (codes "conditions_small") (list_all (condition_small plan) plan.conditions)
     ∷ fact (codes "own_writes") (list_all (writes_own plan) plan.procedures)
     ∷ fact (codes "look_ups") (each_statement plan (λ statement. action_proper plan statement.action))
+    ∷ fact (codes "procedure_reads") (list_all (reads_own plan) plan.procedures)
+    ∷ fact (codes "guard_reads") (list_all (guard_own plan) plan.guards)
+    ∷ fact (codes "requirement_reads") (list_all (requirement_own plan) plan.requirements)
+    ∷ fact (codes "operation_reads") (list_all (operation_own plan) plan.operations)
+    ∷ fact (codes "line_reads") (list_all (line_own plan) plan.lines)
+    ∷ fact (codes "component_reads") (list_all (rule_own plan) plan.rules)
     ∷ fact (codes "triggers") (list_all (λ procedure. trigger_listed plan procedure.slot procedure.trigger) plan.procedures)
     ∷ fact (codes "guards") (list_all (guard_listed plan) plan.guards)
     ∷ fact (codes "lines_in_order") (are_in_order is_line_before plan.lines)

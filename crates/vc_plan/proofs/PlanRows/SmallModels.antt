@@ -1,6 +1,6 @@
 -- Small valid plans, for facts that the models of the rows don't touch.
 use Rattle.std.proofs.Common.{ℕ, ◌+◌, List, [], ◌∷◌, ◌++◌, map, true, false, refl}
-use Rattle.std.specs.Prelude.{None, Some, codes}
+use Rattle.std.specs.Prelude.{Some, codes}
 use Rattle.vc_value.specs.declared.table_header.Domain.TheVariants.{Texts, Nums}
 use Rattle.vc_value.specs.declared.value.Value.{Value}
 use Rattle.vc_value.specs.declared.value.Value.TheVariants.{Text}

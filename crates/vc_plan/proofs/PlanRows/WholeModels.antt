@@ -1,6 +1,6 @@
 -- The models of the rows whole: with their names, texts, lists and classes.
 use Rattle.std.proofs.Common.{ℕ, List, [], ◌∷◌, true, false}
-use Rattle.std.specs.Prelude.{Option, None, Some, codes, Box}
+use Rattle.std.specs.Prelude.{None, Some, codes, Box}
 use Rattle.std.specs.declared.alloc.Global.{Global}
 use Rattle.vc_value.specs.declared.table_header.Domain.{Domain}
 use Rattle.vc_value.specs.declared.table_header.Domain.TheVariants.{Texts, Nums}

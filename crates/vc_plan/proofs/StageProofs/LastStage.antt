@@ -4,7 +4,7 @@ use Rattle.vc_base.specs.Rounds.{Settlement, broken, settled}
 use Rattle.vc_plan.specs.declared.atoms.Atom.{Atom}
 use Rattle.vc_plan.specs.declared.plans.Plan.{Plan}
 use Rattle.vc_plan.specs.Entries.{Entries, no_entries}
-use Rattle.vc_plan.specs.Evaluate.{Evaluated, Users, between, broken_at, if_settled, reached, sources_of, stages_from}
+use Rattle.vc_plan.specs.Evaluate.{Users, between, broken_at, if_settled, reached, sources_of, stages_from}
 use Rattle.vc_plan.specs.Settle.{settlement_of}
 use Rattle.vc_plan.specs.StageLaws.{LastStageSettles}
 use Rattle.vc_plan.specs.Writes.{last_stage, set_at}

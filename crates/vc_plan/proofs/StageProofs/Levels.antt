@@ -1,12 +1,12 @@
 -- The lines of an instance, and that more levels than slots add nothing to its bill.
-use Rattle.std.proofs.Common.{◌≡◌, ℕ, zero, suc, ◌+◌, ◌<◌, ◌≤◌, Bool, true, false, cond, ◌&&◌, List, [], ◌∷◌, ◌++◌, length, refl, sym, ap, ◌∙◌, arith}
+use Rattle.std.proofs.Common.{◌≡◌, ℕ, zero, suc, ◌+◌, ◌<◌, ◌≤◌, Bool, true, false, cond, List, [], ◌∷◌, ◌++◌, length, refl, ap, ◌∙◌, arith}
 use Rattle.std.proofs.lemmas.Bool.{and_parts, and_from, eqb-true}
 use Rattle.std.specs.Prelude.{Option, None, Some, slice_get, ◌==◌}
 use Rattle.std.specs.List.{filter, flat_map, list_all}
 use Rattle.vc_plan.specs.declared.plans.Line.{Line}
 use Rattle.vc_plan.specs.declared.plans.Plan.{Plan}
 use Rattle.vc_plan.specs.declared.shown.BillLine.{BillLine}
-use Rattle.vc_plan.specs.Bills.{below, bill_from, bill_line, component_of, is_line_of, lines_of, own_bill, takes_line}
+use Rattle.vc_plan.specs.Bills.{below, bill_from, bill_line, component_of, is_line_of, lines_of, takes_line}
 use Rattle.vc_plan.specs.Domains.{numbers_below}
 use Rattle.vc_plan.specs.Readings.{Reading}
 use Rattle.vc_plan.specs.Seen.{Seen}

@@ -1,5 +1,5 @@
 -- An instance's bill has its own lines at its level, and deeper ones else.
-use Rattle.std.proofs.Common.{◌≡◌, ℕ, zero, suc, ◌+◌, ◌<◌, ◌≤◌, Bool, true, false, cond, ◌&&◌, List, [], ◌∷◌, ◌++◌, length, map, refl, sym, ap, ◌∙◌, arith}
+use Rattle.std.proofs.Common.{◌≡◌, ℕ, zero, suc, ◌+◌, ◌<◌, ◌≤◌, Bool, true, false, cond, List, [], ◌∷◌, ◌++◌, length, map, refl, ap, ◌∙◌, arith}
 use Rattle.std.proofs.lemmas.Bool.{and_parts, and_from, eqb-true, eq-eqb, le-leb, leb-true}
 use Rattle.std.proofs.lemmas.List.Elements.{filter-append}
 use Rattle.std.specs.Prelude.{Option, None, Some, nat_le, ◌==◌}
@@ -7,10 +7,10 @@ use Rattle.std.specs.List.{filter, flat_map, list_all}
 use Rattle.vc_value.proofs.CutLemmas.{all_append}
 use Rattle.vc_plan.specs.declared.plans.Plan.{Plan}
 use Rattle.vc_plan.specs.declared.shown.BillLine.{BillLine}
-use Rattle.vc_plan.specs.Bills.{below, bill_from, bill_line, component_of, lines_of, own_bill}
+use Rattle.vc_plan.specs.Bills.{below, bill_from, bill_line, component_of, lines_of}
 use Rattle.vc_plan.specs.Readings.{Reading}
 use Rattle.vc_plan.specs.Seen.{Seen}
-use Rattle.vc_plan.specs.StageLaws.{HasOwnLines, OwnLinesInOrder}
+use Rattle.vc_plan.specs.StageLaws.{OwnLinesInOrder}
 use Rattle.vc_plan.proofs.PlanLaws.Lists.{all_grows}
 
 -- no row stands above the level

@@ -1,5 +1,5 @@
 -- Which slot a line's component is: the one that stands for it, and no other.
-use Rattle.std.proofs.Common.{◌≡◌, ℕ, zero, suc, ◌+◌, ◌<◌, ◌≤◌, Bool, true, false, not, cond, ◌&&◌, ◌||◌, List, [], ◌∷◌, length, refl, sym, ap, ◌∙◌, arith}
+use Rattle.std.proofs.Common.{◌≡◌, ℕ, zero, suc, ◌+◌, ◌<◌, ◌≤◌, Bool, true, false, not, cond, ◌||◌, List, [], ◌∷◌, length, refl, sym, ap, ◌∙◌, arith}
 use Rattle.std.proofs.lemmas.Bool.{and_parts, and_from, eqb-true, eq-eqb, ltb-true}
 use Rattle.std.specs.Prelude.{Option, None, Some, is_some, nat_lt, slice_get, ◌==◌}
 use Rattle.std.specs.List.{find, list_all, list_any, range_with_len}
@@ -11,7 +11,7 @@ use Rattle.vc_plan.specs.Domains.{numbers_below}
 use Rattle.vc_plan.specs.Orders.{are_in_order, is_number, same_number_if}
 use Rattle.vc_plan.specs.Readings.{Reading}
 use Rattle.vc_plan.specs.Seen.{Seen}
-use Rattle.vc_plan.specs.Slots.{depth_in, is_below, is_item_before, slot_of_line, stands_for}
+use Rattle.vc_plan.specs.Slots.{depth_in, is_below, is_item_before, slot_of_line}
 use Rattle.vc_plan.specs.Valid.{IsValid}
 use Rattle.vc_plan.proofs.StageProofs.Items.{within}
 use Rattle.vc_plan.proofs.StageProofs.Levels.{takes}

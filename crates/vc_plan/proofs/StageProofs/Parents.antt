@@ -1,5 +1,5 @@
 -- Slots come after their parents, and a component's slot after its owner's.
-use Rattle.std.proofs.Common.{◌≡◌, ℕ, zero, suc, ◌+◌, ◌<◌, ◌≤◌, Bool, true, false, not, cond, ◌&&◌, List, [], ◌∷◌, length, drop, refl, sym, ap, ◌∙◌, arith}
+use Rattle.std.proofs.Common.{◌≡◌, ℕ, zero, suc, ◌+◌, ◌<◌, ◌≤◌, Bool, true, false, not, cond, List, [], ◌∷◌, length, drop, refl, sym, ap, ◌∙◌, arith}
 use Rattle.std.proofs.Common.{inl, inr}
 use Rattle.std.proofs.lemmas.Bool.{and_parts, and_from, eq-eqb, eqb-true, le-leb, leb-true, or_cases}
 use Rattle.std.specs.Prelude.{Option, None, Some, is_some, nat_le, slice_get, ◌==◌}
@@ -11,7 +11,7 @@ use Rattle.vc_plan.specs.Bills.{component_of, is_for_line}
 use Rattle.vc_plan.specs.Domains.{numbers_below}
 use Rattle.vc_plan.specs.Orders.{is_number}
 use Rattle.vc_plan.specs.Seen.{parent_in}
-use Rattle.vc_plan.specs.Slots.{depth_in, follows_in_preorder, is_below, is_root, lineage, slot_of_line, stands_for}
+use Rattle.vc_plan.specs.Slots.{depth_in, follows_in_preorder, is_below, is_root, lineage, slot_of_line}
 use Rattle.vc_plan.specs.StageLaws.{ParentsComeFirst}
 use Rattle.vc_plan.specs.Valid.{IsValid}
 use Rattle.vc_plan.proofs.StageProofs.Items.{within}

@@ -1,9 +1,9 @@
 -- A slot comes to be here by a Line alone, and so where its parent is here.
-use Rattle.std.proofs.Common.{◌≡◌, inl, inr, ℕ, zero, suc, Bool, true, false, not, cond, ◌&&◌, List, [], ◌∷◌, ◌++◌, map, refl, sym, ap, subst, ◌∙◌, arith}
+use Rattle.std.proofs.Common.{◌≡◌, inl, inr, ℕ, zero, suc, Bool, true, false, not, cond, ◌&&◌, List, [], ◌∷◌, map, refl, sym, ap, subst, ◌∙◌, arith}
 use Rattle.std.proofs.lemmas.Bool.{eqb-true, or_cases, or_left, or_right}
 use Rattle.std.specs.Prelude.{Option, None, Some, is_none, min, slice_get, ◌==◌}
 use Rattle.std.specs.List.{filter, list_all, list_any}
-use Rattle.vc_base.specs.Rounds.{Given, clash, atoms, atoms_of, System, Settlement, broken, settled, all_given, next_round, settle, some_clash}
+use Rattle.vc_base.specs.Rounds.{Given, clash, atoms, atoms_of, broken, settled, all_given, next_round, settle, some_clash}
 use Rattle.vc_base.specs.Sets.{has}
 use Rattle.vc_base.proofs.SetLaws.{with_all_cases, with_all_left}
 use Rattle.vc_base.proofs.Settling as settling
@@ -13,7 +13,6 @@ use Rattle.vc_plan.specs.declared.atoms.Atom.{Atom}
 use Rattle.vc_plan.specs.declared.atoms.Atom.TheVariants.{Here, Out, Is}
 use Rattle.vc_plan.specs.declared.atoms.Mark.{Mark}
 use Rattle.vc_plan.specs.declared.atoms.Mark.TheVariants.{Held, Outside}
-use Rattle.vc_plan.specs.declared.conditions.Kleene.{Kleene}
 use Rattle.vc_plan.specs.declared.conditions.Piece.{Piece}
 use Rattle.vc_plan.specs.declared.conditions.Relation.{Relation}
 use Rattle.vc_plan.specs.declared.plans.Plan.{Plan}
@@ -33,10 +32,10 @@ use Rattle.vc_plan.specs.Truth.{compared, value_at}
 use Rattle.vc_plan.proofs.PlanLaws.Givers.{system_laws}
 use Rattle.vc_plan.specs.Restrictions.{allows, among, compare, confined, decimals_in_side, differ, equal_to, equate, failing, is_inferred, left_with, lone, lone_inferred, of_remaining, related, rounded_value}
 use Rattle.vc_plan.specs.Seen.{Seen, is_here, is_parent_here, is_slot_here, parent_in, same_atom, says, seen_of}
-use Rattle.vc_plan.specs.Settle.{base, settlement_of, system_of}
+use Rattle.vc_plan.specs.Settle.{base, system_of}
 use Rattle.vc_plan.specs.Slots.{is_root}
 use Rattle.vc_plan.specs.Sources.{Entry, Sources, entry_of, user_of}
-use Rattle.vc_plan.specs.StageLaws.{IsUpward, ParentsAreHere}
+use Rattle.vc_plan.specs.StageLaws.{ParentsAreHere}
 use Rattle.vc_plan.specs.Valid.{IsValid}
 use Rattle.vc_plan.specs.TableRows.{agreed, by_table, columns_of, first_cell, for_variable, is_possible_in, missing_grains, narrowed, rows_for, rows_of, value_if}
 use Rattle.vc_plan.proofs.PlanLaws.Atoms.{atom_exact, atom_itself}

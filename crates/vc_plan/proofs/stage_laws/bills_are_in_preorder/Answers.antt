@@ -1,3 +1,4 @@
+use Rattle.vc_plan.proofs.StageProofs.ShownLines.{bills_show_taken_lines}
 use Rattle.vc_plan.proofs.StageProofs.TakenLines.{bills_have_taken_lines}
 use Rattle.vc_plan.proofs.StageProofs.Nested.{components_follow}
 use Rattle.vc_plan.proofs.StageProofs.OwnLines.{own_lines_in_order}
@@ -15,3 +16,6 @@ returns-clause-levels c = levels_suffice
 
 pub returns-clause-taken : goal.returns-clause-taken
 returns-clause-taken c = bills_have_taken_lines
+
+pub returns-clause-shown : goal.returns-clause-shown
+returns-clause-shown c = bills_show_taken_lines
