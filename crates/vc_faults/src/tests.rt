@@ -13,12 +13,11 @@ fn fault_of(alloc: Global, text: &str) -> Result<Option<(ModelKind, usize)>, All
     let lines = classify(alloc, text)?;
     let mut facts = Gathered::new(alloc);
     let mut trees = Listed::new(alloc);
-    let mut number = 0;
     let mut rest = lines.as_slice();
-    while let [line, after @ ..] = rest {
-        if number < 1_000 {
-            number += 1;
-        }
+    for number in 1..1_000 {
+        let Some((line, after)) = rest.split_first() else {
+            return Ok(None);
+        };
         match pass(alloc, &mut facts, &mut trees, line, after)? {
             Some(kind) => return Ok(Some((kind, number))),
             None => rest = after,
