@@ -1,0 +1,156 @@
+//! Tells what each model text on stdin is read as. A text stands behind a line `=== FORM TITLE`; its form says how the lines
+//! below make the text.
+#![tactic(auto)]
+
+mod showing;
+
+use crate::showing::shown;
+use std::alloc::{AllocError, Global};
+use std::io;
+use vc_model::reader::read_model;
+use vc_model::{ModelFault, ModelKind};
+use vc_value::Word;
+
+/// How lines make a text.
+#[derive(Clone, Copy)]
+enum Form {
+    /// Each line ends with LF.
+    Plain,
+    /// Each line ends with CR LF.
+    Crlf,
+    /// LF stands between the lines, and nothing behind the last.
+    Unended,
+    /// Each line ends with LF, and then comes a byte that UTF-8 never has.
+    Spoiled,
+    /// Each line ends with LF, and each front of the lines is a text.
+    Cuts,
+    /// Each line ends with LF, and what is read is shown whole.
+    Shown,
+}
+
+fn form_of(word: &str) -> Form {
+    match word {
+        "crlf" => Form::Crlf,
+        "unended" => Form::Unended,
+        "spoiled" => Form::Spoiled,
+        "cuts" => Form::Cuts,
+        "shown" => Form::Shown,
+        _ => Form::Plain,
+    }
+}
+
+/// A text with what it shows.
+#[derive(Drop)]
+struct Case {
+    form: Form,
+    title: Word,
+    text: Word,
+}
+
+impl Case {
+    fn headed(alloc: Global, heading: &str) -> Result<Case, AllocError> {
+        let (form, title) = heading.split_once(' ').unwrap_or(("plain", heading));
+        Ok(Case {
+            form: form_of(form),
+            title: Word::from_bytes(alloc, title.as_bytes())?,
+            text: Word::new(alloc),
+        })
+    }
+
+    fn add(&mut self, line: &str) -> Result<(), AllocError> {
+        if matches!(self.form, Form::Unended) && !self.text.bytes().is_empty() {
+            self.text.append(b"\n")?;
+        }
+        self.text.append(line.as_bytes())?;
+        match self.form {
+            Form::Crlf => self.text.append(b"\r\n"),
+            Form::Unended => Ok(()),
+            Form::Plain | Form::Spoiled | Form::Cuts | Form::Shown => self.text.append(b"\n"),
+        }
+    }
+
+    /// What the text is read as, once it has all its lines.
+    fn result(&mut self, alloc: Global) -> Result<String, AllocError> {
+        match self.form {
+            Form::Spoiled => self.text.append(&[0xFF])?,
+            Form::Shown => return shown_reading(alloc, self.text.bytes()),
+            _ => {}
+        }
+        reading_of(alloc, self.text.bytes())
+    }
+}
+
+fn reading_of(alloc: Global, text: &[u8]) -> Result<String, AllocError> {
+    match read_model(alloc, text) {
+        Ok(model) => format!(in alloc;
+            "read: characteristics {}, texts {}, dependencies {}, objects {}",
+            model.characteristics.len(),
+            model.texts.len(),
+            model.dependencies.len(),
+            model.objects.len()
+        ),
+        Err(ModelFault::Bad { kind, line }) => format!(in alloc;
+            "{} {:?} at {}",
+            number_of(kind),
+            kind,
+            line
+        ),
+        Err(ModelFault::OutOfMemory) => format!(in alloc; "no memory"),
+    }
+}
+
+fn shown_reading(alloc: Global, text: &[u8]) -> Result<String, AllocError> {
+    match read_model(alloc, text) {
+        Ok(model) => shown(alloc, &model),
+        Err(_) => format!(in alloc; "refused"),
+    }
+}
+
+fn number_of(kind: ModelKind) -> u8 {
+    match kind {
+        ModelKind::NotText => 1,
+        ModelKind::LineTooLong => 2,
+        ModelKind::NotALine => 3,
+        ModelKind::Misplaced => 4,
+        ModelKind::BadName => 5,
+        ModelKind::Twice => 6,
+        ModelKind::Unknown => 7,
+        ModelKind::BadValue => 8,
+        ModelKind::Syntax => 9,
+        ModelKind::WrongDependency => 10,
+        ModelKind::Action => 11,
+        ModelKind::NoValues => 12,
+        ModelKind::TooMany => 13,
+        ModelKind::NoRoot => 14,
+        ModelKind::MultipleRestrictable => 15,
+    }
+}
+
+fn title_of(case: &Case) -> &str {
+    std::str::from_utf8(case.title.bytes()).unwrap_or("?")
+}
+
+fn main(rt: HostRuntime) -> io::Result<()> {
+    let mut case: Option<Case> = None;
+    for line in rt.lines(rt.alloc()) {
+        let line = line?;
+        if let Some(heading) = line.as_str().strip_prefix("=== ") {
+            if let Some(done) = &mut case {
+                let result = done.result(rt.alloc())?;
+                println!(rt; "{}: {result}", title_of(done))?;
+            }
+            case = Some(Case::headed(rt.alloc(), heading)?);
+        } else if let Some(open) = &mut case {
+            open.add(line.as_str())?;
+            if matches!(open.form, Form::Cuts) {
+                let result = reading_of(rt.alloc(), open.text.bytes())?;
+                println!(rt; "{}, cut here: {result}", title_of(open))?;
+            }
+        }
+    }
+    if let Some(done) = &mut case {
+        let result = done.result(rt.alloc())?;
+        println!(rt; "{}: {result}", title_of(done))?;
+    }
+    Ok(())
+}
