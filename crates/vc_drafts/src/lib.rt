@@ -3,3 +3,5 @@
 
 pub mod drafts;
 mod stack;
+#[cfg(test)]
+mod tests;
