@@ -1,13 +1,13 @@
 //! All that a model has, as text: numbers stand where the model has numbers, dependencies as their canonical texts.
 
 use std::alloc::{AllocError, Global};
-use vc_lines::BlockKind;
-use vc_parts::{
+use vc_model_lines::BlockKind;
+use vc_model_parts::{
     BillItem, Characteristic, Class, Component, Model, NamedDependency, Net, NumberValue, Object,
     Operation, Table, TextValue, Values,
 };
-use vc_print::dependencies::print_dependency;
-use vc_terms::tree::Dependency;
+use vc_syntax_print::dependencies::print_dependency;
+use vc_syntax_terms::tree::Dependency;
 use vc_value::{Dec, Listed, Word};
 
 /// Text that grows line by line.

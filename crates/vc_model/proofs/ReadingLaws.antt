@@ -1,19 +1,19 @@
 -- A text spells one model at most, and has a fault exactly where it spells none.
 use Rattle.std.proofs.Common.{◌≡◌, ◌↔◌, ℕ, Bool, true, false, ◌+◌, ◌<◌, ◌⊎◌, inl, inr, List, [], Option, Some, None, Result, Ok, Err, IsUtf8, IfOk, refl, sym, ap, subst, ◌∙◌, arith}
-use Rattle.vc_lines.specs.declared.line.Line.{Line}
-use Rattle.vc_lines.specs.Classified.{lines_of}
-use Rattle.vc_faults.specs.declared.fault.ModelKind.{ModelKind}
-use Rattle.vc_faults.specs.declared.fault.ModelKind.TheVariants.{NotText}
-use Rattle.vc_faults.specs.declared.fault.ModelFault.{ModelFault}
-use Rattle.vc_faults.specs.declared.fault.ModelFault.TheVariants.{Bad, OutOfMemory}
-use Rattle.vc_above.specs.Above.{above}
-use Rattle.vc_above.specs.declared.above.Above.{Above}
-use Rattle.vc_faults.specs.First.{IsFirstFault, HasNoFault, backwards, kind_of}
-use Rattle.vc_faults.proofs.FirstLaws.{Fault, first_fault, no_fault, is_first}
-use Rattle.vc_parts.specs.declared.parts.Model.{Model}
-use Rattle.vc_drafts.specs.Drafts.{SeenDraft, draft_of, model_in}
-use Rattle.vc_drafts.specs.Models.{model_by, model_of}
-use Rattle.vc_drafts.specs.Seen.{SeenModel, seen_model}
+use Rattle.vc_model_lines.specs.declared.line.Line.{Line}
+use Rattle.vc_model_lines.specs.Classified.{lines_of}
+use Rattle.vc_model_faults.specs.declared.fault.ModelKind.{ModelKind}
+use Rattle.vc_model_faults.specs.declared.fault.ModelKind.TheVariants.{NotText}
+use Rattle.vc_model_faults.specs.declared.fault.ModelFault.{ModelFault}
+use Rattle.vc_model_faults.specs.declared.fault.ModelFault.TheVariants.{Bad, OutOfMemory}
+use Rattle.vc_model_scope.specs.Above.{above}
+use Rattle.vc_model_scope.specs.declared.above.Above.{Above}
+use Rattle.vc_model_faults.specs.First.{IsFirstFault, HasNoFault, backwards, kind_of}
+use Rattle.vc_model_faults.proofs.FirstLaws.{Fault, first_fault, no_fault, is_first}
+use Rattle.vc_model_parts.specs.declared.parts.Model.{Model}
+use Rattle.vc_model_drafts.specs.Drafts.{SeenDraft, draft_of, model_in}
+use Rattle.vc_model_drafts.specs.Models.{model_by, model_of}
+use Rattle.vc_model_drafts.specs.Seen.{SeenModel, seen_model}
 use Rattle.vc_model.specs.Spelled as s
 use Rattle.vc_model.specs.Spelled.{Spells, IsFault, Answers, HasFault, SpellsNone}
 use Rattle.std.specs.Str.{is_utf8}

@@ -1,14 +1,14 @@
 -- Which model a text spells, and which fault it has.
 use Rattle.std.specs.Prelude.{◌≡◌, ℕ, List, IsUtf8, Result, Ok, Err}
-use Rattle.vc_faults.specs.declared.fault.ModelKind.{ModelKind}
-use Rattle.vc_faults.specs.declared.fault.ModelKind.TheVariants.{NotText}
-use Rattle.vc_faults.specs.declared.fault.ModelFault.{ModelFault}
-use Rattle.vc_faults.specs.declared.fault.ModelFault.TheVariants.{Bad, OutOfMemory}
-use Rattle.vc_faults.specs.First.{IsFirstFault, HasNoFault}
-use Rattle.vc_lines.specs.Classified.{lines_of}
-use Rattle.vc_parts.specs.declared.parts.Model.{Model}
-use Rattle.vc_drafts.specs.Seen.{SeenModel, seen_model}
-use Rattle.vc_drafts.specs.Models.{model_of}
+use Rattle.vc_model_faults.specs.declared.fault.ModelKind.{ModelKind}
+use Rattle.vc_model_faults.specs.declared.fault.ModelKind.TheVariants.{NotText}
+use Rattle.vc_model_faults.specs.declared.fault.ModelFault.{ModelFault}
+use Rattle.vc_model_faults.specs.declared.fault.ModelFault.TheVariants.{Bad, OutOfMemory}
+use Rattle.vc_model_faults.specs.First.{IsFirstFault, HasNoFault}
+use Rattle.vc_model_lines.specs.Classified.{lines_of}
+use Rattle.vc_model_parts.specs.declared.parts.Model.{Model}
+use Rattle.vc_model_drafts.specs.Seen.{SeenModel, seen_model}
+use Rattle.vc_model_drafts.specs.Models.{model_of}
 
 -- no line of the text has a fault, and the lines describe the model
 pub record Spells (text : List ℕ) (model : SeenModel) : Type 0 where

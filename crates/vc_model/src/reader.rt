@@ -1,22 +1,22 @@
 //! Reads a text as the model that it spells, or tells its first fault.
 
 ghost use Rattle.std.specs.Prelude.{◌≡◌, ℕ, ◌-◌, ◌^◌, ◌<◌, [], length, IfOk, Ok, Err};
-ghost use Rattle.vc_above.specs.Above.{above};
-ghost use Rattle.vc_faults.specs.First.{backwards, trees_of, IsFirstFault, HasNoFault};
-ghost use Rattle.vc_faults.specs.Trees.{seen_trees};
-ghost use Rattle.vc_faults.specs.declared.fault.ModelKind.{ModelKind as Kinds};
-ghost use Rattle.vc_lines.specs.Classified.{lines_of};
-ghost use Rattle.vc_drafts.specs.Models.{model_of};
-ghost use Rattle.vc_drafts.specs.Seen.{SeenModel, seen_model};
+ghost use Rattle.vc_model_scope.specs.Above.{above};
+ghost use Rattle.vc_model_faults.specs.First.{backwards, trees_of, IsFirstFault, HasNoFault};
+ghost use Rattle.vc_model_faults.specs.Trees.{seen_trees};
+ghost use Rattle.vc_model_faults.specs.declared.fault.ModelKind.{ModelKind as Kinds};
+ghost use Rattle.vc_model_lines.specs.Classified.{lines_of};
+ghost use Rattle.vc_model_drafts.specs.Models.{model_of};
+ghost use Rattle.vc_model_drafts.specs.Seen.{SeenModel, seen_model};
 ghost use Rattle.vc_model.specs.Spelled.{Spells, IsFault, Answers};
 
 use std::alloc::{AllocError, Global};
 use std::str::from_utf8;
-use vc_drafts::drafts::drafted;
-use vc_faults::fault::{ModelFault, ModelKind};
-use vc_first_fault::{Sound, checked};
-use vc_lines::{Line, classify};
-use vc_parts::Model;
+use vc_model_drafts::drafts::drafted;
+use vc_model_faults::fault::{ModelFault, ModelKind};
+use vc_model_first_fault::{Sound, checked};
+use vc_model_lines::{Line, classify};
+use vc_model_parts::Model;
 use vc_value::Listed;
 
 // The model that lines without a fault describe, by what they have told.

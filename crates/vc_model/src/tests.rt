@@ -3,8 +3,8 @@
 use crate::laws::a_text_has_a_fault_or_spells_a_model;
 use crate::reader::read_model;
 use std::test::Fail;
-use vc_faults::fault::{ModelFault, ModelKind};
-use vc_parts::{Characteristic, Model, Values};
+use vc_model_faults::fault::{ModelFault, ModelKind};
+use vc_model_parts::{Characteristic, Model, Values};
 
 const MACHINE: &str =
     "MODEL M VERSION 7\nSELECTION S\nA = 'X'\nEND\nCHAR A 1 RESTRICTABLE\nVALUE 'Y'\nVALUE 'X'\nCLASS K\nHAS A\nOBJECT O CLASS K\nLINE 0010 BOLT PC : 2\nUSES S\nROOT O\n";

@@ -1,30 +1,30 @@
 -- What the grammar of constraints says, is read.
 use Rattle.std.proofs.Common.{◌≡◌, ℕ, ◌≤◌, List, [], ◌∷◌, ◌++◌, length, cond, Option, Some, None, ap, ◌∙◌, append_assoc, length-append, arith}
-use Rattle.vc_tokens.specs.declared.token.Token.{Token}
-use Rattle.vc_tokens.specs.declared.token.Sign.TheVariants as signs
-use Rattle.vc_tokens.specs.declared.token.Reserved.TheVariants as words
-use Rattle.vc_terms.specs.declared.tree.TextLeaf.{TextLeaf}
-use Rattle.vc_terms.specs.declared.tree.Operand.{Operand}
-use Rattle.vc_terms.specs.declared.tree.ObjectKind.{ObjectKind}
-use Rattle.vc_terms.specs.declared.tree.ObjectKind.TheVariants as kinds
-use Rattle.vc_terms.specs.declared.tree.Alias.{Alias}
-use Rattle.vc_terms.specs.declared.tree.Object.{Object}
-use Rattle.vc_terms.specs.Leaves.{is_sign, is_word, after_sign, after_word, named, any_named}
-use Rattle.vc_terms.specs.Reading.{Reader, then, either, or_else, made, leaving, leaving_as, closed, listed}
-use Rattle.vc_terms.specs.TermReading.{product_operator_in, sum_operator_in, operand}
-use Rattle.vc_terms.specs.ConditionReading.{text_ahead, condition}
+use Rattle.vc_syntax_tokens.specs.declared.token.Token.{Token}
+use Rattle.vc_syntax_tokens.specs.declared.token.Sign.TheVariants as signs
+use Rattle.vc_syntax_tokens.specs.declared.token.Reserved.TheVariants as words
+use Rattle.vc_syntax_terms.specs.declared.tree.TextLeaf.{TextLeaf}
+use Rattle.vc_syntax_terms.specs.declared.tree.Operand.{Operand}
+use Rattle.vc_syntax_terms.specs.declared.tree.ObjectKind.{ObjectKind}
+use Rattle.vc_syntax_terms.specs.declared.tree.ObjectKind.TheVariants as kinds
+use Rattle.vc_syntax_terms.specs.declared.tree.Alias.{Alias}
+use Rattle.vc_syntax_terms.specs.declared.tree.Object.{Object}
+use Rattle.vc_syntax_terms.specs.Leaves.{is_sign, is_word, after_sign, after_word, named, any_named}
+use Rattle.vc_syntax_terms.specs.Reading.{Reader, then, either, or_else, made, leaving, leaving_as, closed, listed}
+use Rattle.vc_syntax_terms.specs.TermReading.{product_operator_in, sum_operator_in, operand}
+use Rattle.vc_syntax_terms.specs.ConditionReading.{text_ahead, condition}
 use Rattle.vc_syntax.specs.StatementReading.{restriction}
 use Rattle.vc_syntax.specs.ConstraintReading.{after_class_type, class_type, material_word, class_kind, material_number, material_kind, object_kind, with_alias, with_object, alias, aliases, object, section, object_section, condition_section, restriction_section, inference_section, with_constraint, constraint}
-use Rattle.vc_terms.specs.Trees.{Condition, Restriction, Constraint}
-use Rattle.vc_terms.specs.TermGrammar.{IsSign, IsWord, IsText, IsOperand}
-use Rattle.vc_terms.specs.ConditionGrammar.{IsListed}
+use Rattle.vc_syntax_terms.specs.Trees.{Condition, Restriction, Constraint}
+use Rattle.vc_syntax_terms.specs.TermGrammar.{IsSign, IsWord, IsText, IsOperand}
+use Rattle.vc_syntax_terms.specs.ConditionGrammar.{IsListed}
 use Rattle.vc_syntax.specs.StatementGrammar.{IsRestriction}
 use Rattle.vc_syntax.specs.ConstraintGrammar as grammar
 use Rattle.vc_syntax.specs.ConstraintGrammar.{IsClassType, IsObjectKind, IsAlias, IsWhere, IsObject, IsSection, IsObjectSection, IsConditionSection, IsRestrictionSection, IsInferenceSection, IsConstraint}
-use Rattle.vc_terms.proofs.TokenLaws.{after_sign_again, after_word_again, named_again, any_named_again}
-use Rattle.vc_terms.proofs.Lists.{reads_whole_list}
-use Rattle.vc_terms.proofs.TermCompleteness.{EndsName, closed_again, reads_operand}
-use Rattle.vc_terms.proofs.ConditionCompleteness.{text_ahead_again, variable_ahead_again}
+use Rattle.vc_syntax_terms.proofs.TokenLaws.{after_sign_again, after_word_again, named_again, any_named_again}
+use Rattle.vc_syntax_terms.proofs.Lists.{reads_whole_list}
+use Rattle.vc_syntax_terms.proofs.TermCompleteness.{EndsName, closed_again, reads_operand}
+use Rattle.vc_syntax_terms.proofs.ConditionCompleteness.{text_ahead_again, variable_ahead_again}
 use Rattle.vc_syntax.proofs.StatementSoundness.{restriction_shortens}
 use Rattle.vc_syntax.proofs.StatementCompleteness.{EndsStatement, comma_ends, reads_whole_condition, reads_restriction}
 use Rattle.vc_syntax.proofs.ConstraintSoundness.{alias_shortens, object_shortens, operand_shortens}

@@ -1,32 +1,32 @@
 -- What is read as a constraint, the grammar says.
 use Rattle.std.proofs.Common.{◌≡◌, ℕ, List, [], ◌∷◌, ◌++◌, true, Option, Some, None, inl, inr, refl, sym, ap, subst, ◌∙◌, append_assoc}
-use Rattle.vc_tokens.specs.declared.token.Token.{Token}
-use Rattle.vc_tokens.specs.declared.token.Sign.TheVariants as signs
-use Rattle.vc_tokens.specs.declared.token.Reserved.TheVariants as words
-use Rattle.vc_terms.specs.declared.tree.NameLeaf.{NameLeaf}
-use Rattle.vc_terms.specs.declared.tree.TextLeaf.{TextLeaf}
-use Rattle.vc_terms.specs.declared.tree.Operand.{Operand}
-use Rattle.vc_terms.specs.declared.tree.ObjectKind.{ObjectKind}
-use Rattle.vc_terms.specs.declared.tree.ObjectKind.TheVariants as kinds
-use Rattle.vc_terms.specs.declared.tree.Alias.{Alias}
-use Rattle.vc_terms.specs.declared.tree.Object.{Object}
-use Rattle.vc_terms.specs.Leaves.{after_sign, after_word, named, any_named}
-use Rattle.vc_terms.specs.Reading.{Reader, then, made, leaving_as, closed, listed}
-use Rattle.vc_terms.specs.TermReading.{operand}
-use Rattle.vc_terms.specs.ConditionReading.{text_ahead, variable_ahead, condition}
+use Rattle.vc_syntax_tokens.specs.declared.token.Token.{Token}
+use Rattle.vc_syntax_tokens.specs.declared.token.Sign.TheVariants as signs
+use Rattle.vc_syntax_tokens.specs.declared.token.Reserved.TheVariants as words
+use Rattle.vc_syntax_terms.specs.declared.tree.NameLeaf.{NameLeaf}
+use Rattle.vc_syntax_terms.specs.declared.tree.TextLeaf.{TextLeaf}
+use Rattle.vc_syntax_terms.specs.declared.tree.Operand.{Operand}
+use Rattle.vc_syntax_terms.specs.declared.tree.ObjectKind.{ObjectKind}
+use Rattle.vc_syntax_terms.specs.declared.tree.ObjectKind.TheVariants as kinds
+use Rattle.vc_syntax_terms.specs.declared.tree.Alias.{Alias}
+use Rattle.vc_syntax_terms.specs.declared.tree.Object.{Object}
+use Rattle.vc_syntax_terms.specs.Leaves.{after_sign, after_word, named, any_named}
+use Rattle.vc_syntax_terms.specs.Reading.{Reader, then, made, leaving_as, closed, listed}
+use Rattle.vc_syntax_terms.specs.TermReading.{operand}
+use Rattle.vc_syntax_terms.specs.ConditionReading.{text_ahead, variable_ahead, condition}
 use Rattle.vc_syntax.specs.StatementReading.{restriction}
 use Rattle.vc_syntax.specs.ConstraintReading.{is_class_type, after_class_type, class_type, material_word, class_kind, material_number, material_kind, object_kind, with_alias, with_object, alias, aliases, object, section, object_section, condition_section, restriction_word, restriction_section, inference_section, with_constraint, constraint}
-use Rattle.vc_terms.specs.Trees.{Condition, Restriction, Constraint}
-use Rattle.vc_terms.specs.TermGrammar.{IsSign, IsWord, IsName, IsAnyName, IsVariable, IsText, IsOperand}
-use Rattle.vc_terms.specs.ConditionGrammar.{IsListed, IsCondition}
+use Rattle.vc_syntax_terms.specs.Trees.{Condition, Restriction, Constraint}
+use Rattle.vc_syntax_terms.specs.TermGrammar.{IsSign, IsWord, IsName, IsAnyName, IsVariable, IsText, IsOperand}
+use Rattle.vc_syntax_terms.specs.ConditionGrammar.{IsListed, IsCondition}
 use Rattle.vc_syntax.specs.StatementGrammar.{IsRestriction}
 use Rattle.vc_syntax.specs.ConstraintGrammar as grammar
 use Rattle.vc_syntax.specs.ConstraintGrammar.{IsClassType, IsObjectKind, IsAlias, IsWhere, IsObject, IsSection, IsObjectSection, IsConditionSection, IsRestrictionSection, IsInferenceSection, IsConstraint}
-use Rattle.vc_terms.proofs.Chains.{Took, IsSound, Shortens, sound_shortens, then_some, map_some, either_some}
-use Rattle.vc_terms.proofs.TokenLaws.{cond_some, after_sign_is, after_word_is, named_is, any_named_is}
-use Rattle.vc_terms.proofs.Lists.{listed_is}
-use Rattle.vc_terms.proofs.TermSoundness.{operand_is}
-use Rattle.vc_terms.proofs.ConditionSoundness.{or_else_some, text_ahead_is, variable_ahead_is, condition_is}
+use Rattle.vc_syntax_terms.proofs.Chains.{Took, IsSound, Shortens, sound_shortens, then_some, map_some, either_some}
+use Rattle.vc_syntax_terms.proofs.TokenLaws.{cond_some, after_sign_is, after_word_is, named_is, any_named_is}
+use Rattle.vc_syntax_terms.proofs.Lists.{listed_is}
+use Rattle.vc_syntax_terms.proofs.TermSoundness.{operand_is}
+use Rattle.vc_syntax_terms.proofs.ConditionSoundness.{or_else_some, text_ahead_is, variable_ahead_is, condition_is}
 use Rattle.vc_syntax.proofs.StatementSoundness.{restriction_is}
 
 after_class_type_is : (ts rest : List Token) → after_class_type ts ≡ Some rest → (t : Token) × (ts ≡ t ∷ rest) × IsClassType t

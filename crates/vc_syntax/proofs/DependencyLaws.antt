@@ -1,33 +1,33 @@
 -- What is read as a whole dependency is just what the grammar says.
 use Rattle.std.proofs.Common.{◌≡◌, ℕ, List, [], ◌∷◌, ◌++◌, length, Bool, true, cond, Option, Some, None, option_map, refl, sym, ap, subst, ◌∙◌, length-append, arith}
-use Rattle.vc_tokens.specs.declared.token.Token.{Token}
-use Rattle.vc_tokens.specs.declared.token.Sign.TheVariants as signs
-use Rattle.vc_tokens.specs.declared.fault.Kind.{Kind}
-use Rattle.vc_tokens.specs.declared.fault.Kind.TheVariants as kinds
-use Rattle.vc_terms.specs.Leaves.{after_sign}
-use Rattle.vc_terms.specs.Reading.{Gives, listed}
-use Rattle.vc_terms.specs.TermReading.{sum}
-use Rattle.vc_terms.specs.ConditionReading.{condition}
+use Rattle.vc_syntax_tokens.specs.declared.token.Token.{Token}
+use Rattle.vc_syntax_tokens.specs.declared.token.Sign.TheVariants as signs
+use Rattle.vc_syntax_tokens.specs.declared.fault.Kind.{Kind}
+use Rattle.vc_syntax_tokens.specs.declared.fault.Kind.TheVariants as kinds
+use Rattle.vc_syntax_terms.specs.Leaves.{after_sign}
+use Rattle.vc_syntax_terms.specs.Reading.{Gives, listed}
+use Rattle.vc_syntax_terms.specs.TermReading.{sum}
+use Rattle.vc_syntax_terms.specs.ConditionReading.{condition}
 use Rattle.vc_syntax.specs.StatementReading.{statement}
 use Rattle.vc_syntax.specs.ConstraintReading.{constraint}
 use Rattle.vc_syntax.specs.DependencyReading.{is_end, without_period, is_stop, up_to, dependency}
-use Rattle.vc_terms.specs.Trees as trees
-use Rattle.vc_terms.specs.Trees.{Term, Condition, Statement, Constraint, Dependency, dependency_of}
-use Rattle.vc_terms.specs.declared.tree.Dependency.{Dependency as StoredDependency}
-use Rattle.vc_terms.specs.declared.reading.ReadFault.{ReadFault}
+use Rattle.vc_syntax_terms.specs.Trees as trees
+use Rattle.vc_syntax_terms.specs.Trees.{Term, Condition, Statement, Constraint, Dependency, dependency_of}
+use Rattle.vc_syntax_terms.specs.declared.tree.Dependency.{Dependency as StoredDependency}
+use Rattle.vc_syntax_terms.specs.declared.reading.ReadFault.{ReadFault}
 use Rattle.std.specs.Prelude.{IfOk, Result, Ok, Err}
-use Rattle.vc_terms.specs.TermGrammar.{IsSign, IsSum}
-use Rattle.vc_terms.specs.ConditionGrammar.{IsListed, IsCondition}
+use Rattle.vc_syntax_terms.specs.TermGrammar.{IsSign, IsSum}
+use Rattle.vc_syntax_terms.specs.ConditionGrammar.{IsListed, IsCondition}
 use Rattle.vc_syntax.specs.StatementGrammar.{IsStatement}
 use Rattle.vc_syntax.specs.ConstraintGrammar.{IsConstraint}
 use Rattle.vc_syntax.specs.DependencyGrammar as grammar
 use Rattle.vc_syntax.specs.DependencyGrammar.{IsStop, IsDependency}
-use Rattle.vc_terms.proofs.Chains.{Took, then_some, map_some}
-use Rattle.vc_terms.proofs.TokenLaws.{cond_some, after_sign_is, after_sign_again}
-use Rattle.vc_terms.proofs.Lists.{listed_is, reads_whole_list}
-use Rattle.vc_terms.proofs.TermSoundness.{sum_is}
-use Rattle.vc_terms.proofs.ConditionSoundness.{condition_is}
-use Rattle.vc_terms.proofs.ConditionCompleteness.{reads_whole_sum}
+use Rattle.vc_syntax_terms.proofs.Chains.{Took, then_some, map_some}
+use Rattle.vc_syntax_terms.proofs.TokenLaws.{cond_some, after_sign_is, after_sign_again}
+use Rattle.vc_syntax_terms.proofs.Lists.{listed_is, reads_whole_list}
+use Rattle.vc_syntax_terms.proofs.TermSoundness.{sum_is}
+use Rattle.vc_syntax_terms.proofs.ConditionSoundness.{condition_is}
+use Rattle.vc_syntax_terms.proofs.ConditionCompleteness.{reads_whole_sum}
 use Rattle.vc_syntax.proofs.StatementSoundness.{statement_is, statement_shortens}
 use Rattle.vc_syntax.proofs.StatementCompleteness.{EndsStatement, comma_ends, reads_whole_condition, reads_statement}
 use Rattle.vc_syntax.proofs.ConstraintSoundness.{constraint_is}

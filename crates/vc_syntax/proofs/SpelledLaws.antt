@@ -1,21 +1,21 @@
 -- What a text is found to be is what it spells, or its fault.
 use Rattle.std.proofs.Common.{◌≡◌, ℕ, Bool, true, false, cond, List, length, refl, sym, ap, subst, ◌∙◌, Option, Some, None, Result, Ok, Err}
-use Rattle.vc_tokens.specs.declared.token.Token.{Token}
-use Rattle.vc_terms.specs.declared.tree.Dependency.{Dependency as StoredDependency}
-use Rattle.vc_tokens.specs.declared.fault.Kind.{Kind}
-use Rattle.vc_tokens.specs.declared.fault.SyntaxKind.{SyntaxKind}
-use Rattle.vc_tokens.specs.declared.fault.SyntaxKind.TheVariants as faults
-use Rattle.vc_tokens.specs.declared.fault.SyntaxFault.{SyntaxFault}
-use Rattle.vc_tokens.specs.declared.fault.SyntaxFault.TheVariants.{Bad, OutOfMemory}
+use Rattle.vc_syntax_tokens.specs.declared.token.Token.{Token}
+use Rattle.vc_syntax_terms.specs.declared.tree.Dependency.{Dependency as StoredDependency}
+use Rattle.vc_syntax_tokens.specs.declared.fault.Kind.{Kind}
+use Rattle.vc_syntax_tokens.specs.declared.fault.SyntaxKind.{SyntaxKind}
+use Rattle.vc_syntax_tokens.specs.declared.fault.SyntaxKind.TheVariants as faults
+use Rattle.vc_syntax_tokens.specs.declared.fault.SyntaxFault.{SyntaxFault}
+use Rattle.vc_syntax_tokens.specs.declared.fault.SyntaxFault.TheVariants.{Bad, OutOfMemory}
 use Rattle.std.specs.Result.{IfOk, IsErrOf}
 use Rattle.vc_syntax.specs.DependencyGrammar.{IsDependency}
 use Rattle.vc_syntax.specs.DependencyReading.{dependency}
 use Rattle.vc_syntax.specs.DependencyTexts.{Answers, spelled, judged, judged_if, dependency_in}
-use Rattle.vc_tokens.specs.Limits.{is_too_long, is_too_deep}
+use Rattle.vc_syntax_tokens.specs.Limits.{is_too_long, is_too_deep}
 use Rattle.vc_syntax.specs.Spelled as s
 use Rattle.vc_syntax.specs.Spelled.{Spells, IsFault}
-use Rattle.vc_tokens.specs.Tokens.{tokens_of}
-use Rattle.vc_terms.specs.Trees.{Dependency, dependency_of}
+use Rattle.vc_syntax_tokens.specs.Tokens.{tokens_of}
+use Rattle.vc_syntax_terms.specs.Trees.{Dependency, dependency_of}
 use Rattle.vc_syntax.proofs.DependencyLaws.{dependency_is, reads_dependency}
 
 -- what is found, with how it was found

@@ -1,27 +1,27 @@
 -- What the grammar of statements and restrictions says, is read.
 use Rattle.std.proofs.Common.{◌≡◌, ℕ, ◌≤◌, List, [], ◌∷◌, ◌++◌, length, cond, Option, Some, None, refl, ap, ◌∙◌, append_assoc, length-append, arith}
-use Rattle.vc_tokens.specs.declared.token.Token.{Token}
-use Rattle.vc_tokens.specs.declared.token.Lexeme.{Lexeme}
-use Rattle.vc_tokens.specs.declared.token.Lexeme.TheVariants as lexemes
-use Rattle.vc_tokens.specs.declared.token.Sign.TheVariants as signs
-use Rattle.vc_tokens.specs.declared.token.Reserved.TheVariants as words
-use Rattle.vc_terms.specs.declared.tree.NameLeaf.{NameLeaf}
-use Rattle.vc_terms.specs.Leaves.{is_sign, is_word, after_sign, after_word}
-use Rattle.vc_terms.specs.Reading.{then, either, made, leaving, leaving_as, closed, grouped, word, listed}
-use Rattle.vc_terms.specs.TermReading.{product_operator_in, sum_operator_in, sum}
-use Rattle.vc_terms.specs.ConditionReading.{any, relation, conjunction, condition}
+use Rattle.vc_syntax_tokens.specs.declared.token.Token.{Token}
+use Rattle.vc_syntax_tokens.specs.declared.token.Lexeme.{Lexeme}
+use Rattle.vc_syntax_tokens.specs.declared.token.Lexeme.TheVariants as lexemes
+use Rattle.vc_syntax_tokens.specs.declared.token.Sign.TheVariants as signs
+use Rattle.vc_syntax_tokens.specs.declared.token.Reserved.TheVariants as words
+use Rattle.vc_syntax_terms.specs.declared.tree.NameLeaf.{NameLeaf}
+use Rattle.vc_syntax_terms.specs.Leaves.{is_sign, is_word, after_sign, after_word}
+use Rattle.vc_syntax_terms.specs.Reading.{then, either, made, leaving, leaving_as, closed, grouped, word, listed}
+use Rattle.vc_syntax_terms.specs.TermReading.{product_operator_in, sum_operator_in, sum}
+use Rattle.vc_syntax_terms.specs.ConditionReading.{any, relation, conjunction, condition}
 use Rattle.vc_syntax.specs.StatementReading.{bind, call, state, demand, binding, table_call, defaulted, action_in, action, condition_if, statement, demand_in, demanded, restriction}
-use Rattle.vc_terms.specs.Trees as trees
-use Rattle.vc_terms.specs.Trees.{Term, Relation, Condition, Binding, TableCall, Action, Statement, Demand, Restriction}
-use Rattle.vc_terms.specs.TermGrammar.{IsSign, IsAnyName, IsSelfAndName, IsSum}
-use Rattle.vc_terms.specs.ConditionGrammar.{IsListed, IsCondition}
+use Rattle.vc_syntax_terms.specs.Trees as trees
+use Rattle.vc_syntax_terms.specs.Trees.{Term, Relation, Condition, Binding, TableCall, Action, Statement, Demand, Restriction}
+use Rattle.vc_syntax_terms.specs.TermGrammar.{IsSign, IsAnyName, IsSelfAndName, IsSum}
+use Rattle.vc_syntax_terms.specs.ConditionGrammar.{IsListed, IsCondition}
 use Rattle.vc_syntax.specs.StatementGrammar as grammar
 use Rattle.vc_syntax.specs.StatementGrammar.{IsBinding, IsTable, IsAction, IsIf, IsStatement, IsDemand, IsRestriction}
-use Rattle.vc_terms.proofs.Chains.{chained_stops}
-use Rattle.vc_terms.proofs.TokenLaws.{after_sign_again, after_word_again, named_again, any_named_again}
-use Rattle.vc_terms.proofs.Lists.{reads_whole_list}
-use Rattle.vc_terms.proofs.TermCompleteness.{closed_again, close_ends, dotted_again, reads_self_and_name}
-use Rattle.vc_terms.proofs.ConditionCompleteness.{EndsTerm, reads_whole_sum, word_ends, word_no_relation, relation_again, reads_condition}
+use Rattle.vc_syntax_terms.proofs.Chains.{chained_stops}
+use Rattle.vc_syntax_terms.proofs.TokenLaws.{after_sign_again, after_word_again, named_again, any_named_again}
+use Rattle.vc_syntax_terms.proofs.Lists.{reads_whole_list}
+use Rattle.vc_syntax_terms.proofs.TermCompleteness.{closed_again, close_ends, dotted_again, reads_self_and_name}
+use Rattle.vc_syntax_terms.proofs.ConditionCompleteness.{EndsTerm, reads_whole_sum, word_ends, word_no_relation, relation_again, reads_condition}
 use Rattle.vc_syntax.proofs.StatementSoundness.{binding_shortens}
 
 -- nothing follows that goes on with a condition, and no IF

@@ -1,28 +1,28 @@
 -- What is read as a statement or a restriction, the grammar says.
 use Rattle.std.proofs.Common.{◌≡◌, ℕ, List, [], ◌∷◌, ◌++◌, Option, Some, None, inl, inr, refl, sym, ap, subst, ◌∙◌, append_assoc}
-use Rattle.vc_tokens.specs.declared.token.Token.{Token}
-use Rattle.vc_tokens.specs.declared.token.Lexeme.{Lexeme}
-use Rattle.vc_tokens.specs.declared.token.Lexeme.TheVariants as lexemes
-use Rattle.vc_tokens.specs.declared.token.Sign.TheVariants as signs
-use Rattle.vc_tokens.specs.declared.token.Dollar.TheVariants as dollars
-use Rattle.vc_tokens.specs.declared.token.Reserved.TheVariants as words
-use Rattle.vc_terms.specs.declared.tree.NameLeaf.{NameLeaf}
-use Rattle.vc_terms.specs.Leaves.{after_sign, after_word, named, any_named}
-use Rattle.vc_terms.specs.Reading.{then, made, closed, grouped, listed}
-use Rattle.vc_terms.specs.TermReading.{dotted, self_and_name, sum}
-use Rattle.vc_terms.specs.ConditionReading.{relation, condition}
+use Rattle.vc_syntax_tokens.specs.declared.token.Token.{Token}
+use Rattle.vc_syntax_tokens.specs.declared.token.Lexeme.{Lexeme}
+use Rattle.vc_syntax_tokens.specs.declared.token.Lexeme.TheVariants as lexemes
+use Rattle.vc_syntax_tokens.specs.declared.token.Sign.TheVariants as signs
+use Rattle.vc_syntax_tokens.specs.declared.token.Dollar.TheVariants as dollars
+use Rattle.vc_syntax_tokens.specs.declared.token.Reserved.TheVariants as words
+use Rattle.vc_syntax_terms.specs.declared.tree.NameLeaf.{NameLeaf}
+use Rattle.vc_syntax_terms.specs.Leaves.{after_sign, after_word, named, any_named}
+use Rattle.vc_syntax_terms.specs.Reading.{then, made, closed, grouped, listed}
+use Rattle.vc_syntax_terms.specs.TermReading.{dotted, self_and_name, sum}
+use Rattle.vc_syntax_terms.specs.ConditionReading.{relation, condition}
 use Rattle.vc_syntax.specs.StatementReading.{bind, call, state, demand, binding, table_call, assignment, defaulted, action_in, action, condition_if, statement, demand_in, demanded, restriction}
-use Rattle.vc_terms.specs.Trees as trees
-use Rattle.vc_terms.specs.Trees.{Term, Relation, Condition, Binding, TableCall, Action, Statement, Demand, Restriction}
-use Rattle.vc_terms.specs.TermGrammar.{IsSign, IsWord, IsDollar, IsName, IsAnyName, IsSelfAndName, IsSum}
-use Rattle.vc_terms.specs.ConditionGrammar.{IsListed, IsRelation, IsCondition}
+use Rattle.vc_syntax_terms.specs.Trees as trees
+use Rattle.vc_syntax_terms.specs.Trees.{Term, Relation, Condition, Binding, TableCall, Action, Statement, Demand, Restriction}
+use Rattle.vc_syntax_terms.specs.TermGrammar.{IsSign, IsWord, IsDollar, IsName, IsAnyName, IsSelfAndName, IsSum}
+use Rattle.vc_syntax_terms.specs.ConditionGrammar.{IsListed, IsRelation, IsCondition}
 use Rattle.vc_syntax.specs.StatementGrammar as grammar
 use Rattle.vc_syntax.specs.StatementGrammar.{IsBinding, IsTable, IsAction, IsIf, IsStatement, IsDemand, IsRestriction}
-use Rattle.vc_terms.proofs.Chains.{Took, IsSound, Shortens, sound_shortens, then_some, map_some, either_some}
-use Rattle.vc_terms.proofs.TokenLaws.{after_sign_is, after_word_is, named_is, any_named_is}
-use Rattle.vc_terms.proofs.Lists.{listed_is}
-use Rattle.vc_terms.proofs.TermSoundness.{made_is, closed_is, dotted_is, self_and_name_is, sum_is}
-use Rattle.vc_terms.proofs.ConditionSoundness.{relation_is, condition_is}
+use Rattle.vc_syntax_terms.proofs.Chains.{Took, IsSound, Shortens, sound_shortens, then_some, map_some, either_some}
+use Rattle.vc_syntax_terms.proofs.TokenLaws.{after_sign_is, after_word_is, named_is, any_named_is}
+use Rattle.vc_syntax_terms.proofs.Lists.{listed_is}
+use Rattle.vc_syntax_terms.proofs.TermSoundness.{made_is, closed_is, dotted_is, self_and_name_is, sum_is}
+use Rattle.vc_syntax_terms.proofs.ConditionSoundness.{relation_is, condition_is}
 
 pub binding_is : (left : ℕ) → IsSound (binding left) IsBinding
 binding_is left ts found e = let P : Binding × List Token → Type 0 = λ x. Took IsBinding ts x in

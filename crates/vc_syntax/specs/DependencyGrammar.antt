@@ -1,15 +1,15 @@
 -- The grammar of whole dependencies, a constructor for each kind.
 use Rattle.std.specs.Prelude.{List, [], ◌∷◌, ◌++◌}
-use Rattle.vc_tokens.specs.declared.token.Token.{Token}
-use Rattle.vc_tokens.specs.declared.token.Sign.TheVariants as signs
-use Rattle.vc_tokens.specs.declared.fault.Kind.{Kind}
-use Rattle.vc_tokens.specs.declared.fault.Kind.TheVariants as kinds
-use Rattle.vc_terms.specs.TermGrammar.{IsSign, IsSum}
-use Rattle.vc_terms.specs.ConditionGrammar.{IsListed, IsCondition}
+use Rattle.vc_syntax_tokens.specs.declared.token.Token.{Token}
+use Rattle.vc_syntax_tokens.specs.declared.token.Sign.TheVariants as signs
+use Rattle.vc_syntax_tokens.specs.declared.fault.Kind.{Kind}
+use Rattle.vc_syntax_tokens.specs.declared.fault.Kind.TheVariants as kinds
+use Rattle.vc_syntax_terms.specs.TermGrammar.{IsSign, IsSum}
+use Rattle.vc_syntax_terms.specs.ConditionGrammar.{IsListed, IsCondition}
 use Rattle.vc_syntax.specs.StatementGrammar.{IsStatement}
 use Rattle.vc_syntax.specs.ConstraintGrammar.{IsConstraint}
-use Rattle.vc_terms.specs.Trees as trees
-use Rattle.vc_terms.specs.Trees.{Term, Condition, Statement, Constraint, Dependency}
+use Rattle.vc_syntax_terms.specs.Trees as trees
+use Rattle.vc_syntax_terms.specs.Trees.{Term, Condition, Statement, Constraint, Dependency}
 
 -- [period]
 pub data IsStop : List Token → Type 0 where

@@ -1,17 +1,17 @@
 -- How a dependency of a kind is read, from all of its tokens.
 use Rattle.std.specs.Prelude.{ℕ, List, [], ◌∷◌, Bool, true, false, Option, Some, None, option_map, cond}
-use Rattle.vc_tokens.specs.declared.token.Token.{Token}
-use Rattle.vc_tokens.specs.declared.token.Sign.TheVariants as signs
-use Rattle.vc_tokens.specs.declared.fault.Kind.{Kind}
-use Rattle.vc_tokens.specs.declared.fault.Kind.TheVariants as kinds
-use Rattle.vc_terms.specs.Leaves.{after_sign}
-use Rattle.vc_terms.specs.Reading.{then, listed}
-use Rattle.vc_terms.specs.TermReading.{sum}
-use Rattle.vc_terms.specs.ConditionReading.{condition}
+use Rattle.vc_syntax_tokens.specs.declared.token.Token.{Token}
+use Rattle.vc_syntax_tokens.specs.declared.token.Sign.TheVariants as signs
+use Rattle.vc_syntax_tokens.specs.declared.fault.Kind.{Kind}
+use Rattle.vc_syntax_tokens.specs.declared.fault.Kind.TheVariants as kinds
+use Rattle.vc_syntax_terms.specs.Leaves.{after_sign}
+use Rattle.vc_syntax_terms.specs.Reading.{then, listed}
+use Rattle.vc_syntax_terms.specs.TermReading.{sum}
+use Rattle.vc_syntax_terms.specs.ConditionReading.{condition}
 use Rattle.vc_syntax.specs.StatementReading.{statement}
 use Rattle.vc_syntax.specs.ConstraintReading.{constraint}
-use Rattle.vc_terms.specs.Trees as trees
-use Rattle.vc_terms.specs.Trees.{Dependency}
+use Rattle.vc_syntax_terms.specs.Trees as trees
+use Rattle.vc_syntax_terms.specs.Trees.{Dependency}
 
 abbrev pub is_end : List Token → Bool
 is_end [] = true

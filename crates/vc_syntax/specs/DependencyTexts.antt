@@ -1,14 +1,14 @@
 -- What a text is as a dependency: its tree, or its fault.
 use Rattle.std.specs.Prelude.{◌≡◌, ℕ, List, length, cond, Option, Some, None, Result, Ok, Err}
-use Rattle.vc_tokens.specs.declared.token.Token.{Token}
-use Rattle.vc_tokens.specs.declared.fault.Kind.{Kind}
-use Rattle.vc_tokens.specs.declared.fault.SyntaxKind.TheVariants as faults
-use Rattle.vc_tokens.specs.declared.fault.SyntaxFault.{SyntaxFault}
-use Rattle.vc_tokens.specs.declared.fault.SyntaxFault.TheVariants.{Bad, OutOfMemory}
+use Rattle.vc_syntax_tokens.specs.declared.token.Token.{Token}
+use Rattle.vc_syntax_tokens.specs.declared.fault.Kind.{Kind}
+use Rattle.vc_syntax_tokens.specs.declared.fault.SyntaxKind.TheVariants as faults
+use Rattle.vc_syntax_tokens.specs.declared.fault.SyntaxFault.{SyntaxFault}
+use Rattle.vc_syntax_tokens.specs.declared.fault.SyntaxFault.TheVariants.{Bad, OutOfMemory}
 use Rattle.vc_syntax.specs.DependencyReading.{dependency}
-use Rattle.vc_tokens.specs.Limits.{is_too_long, is_too_deep}
-use Rattle.vc_tokens.specs.Tokens.{tokens_of}
-use Rattle.vc_terms.specs.Trees.{Dependency}
+use Rattle.vc_syntax_tokens.specs.Limits.{is_too_long, is_too_deep}
+use Rattle.vc_syntax_tokens.specs.Tokens.{tokens_of}
+use Rattle.vc_syntax_terms.specs.Trees.{Dependency}
 
 abbrev pub spelled : Option Dependency → Result Dependency SyntaxFault
 spelled None = Err (Bad faults.NotADependency 0)

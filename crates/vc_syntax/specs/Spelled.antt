@@ -1,14 +1,14 @@
 -- Which tree a text spells as a dependency of a kind, and which fault it has.
 use Rattle.std.specs.Prelude.{◌≡◌, ℕ, true, false, List, Ok, Err}
-use Rattle.vc_tokens.specs.declared.token.Token.{Token}
-use Rattle.vc_tokens.specs.declared.fault.Kind.{Kind}
-use Rattle.vc_tokens.specs.declared.fault.SyntaxKind.{SyntaxKind}
-use Rattle.vc_tokens.specs.declared.fault.SyntaxKind.TheVariants as faults
-use Rattle.vc_tokens.specs.declared.fault.SyntaxFault.TheVariants.{Bad}
+use Rattle.vc_syntax_tokens.specs.declared.token.Token.{Token}
+use Rattle.vc_syntax_tokens.specs.declared.fault.Kind.{Kind}
+use Rattle.vc_syntax_tokens.specs.declared.fault.SyntaxKind.{SyntaxKind}
+use Rattle.vc_syntax_tokens.specs.declared.fault.SyntaxKind.TheVariants as faults
+use Rattle.vc_syntax_tokens.specs.declared.fault.SyntaxFault.TheVariants.{Bad}
 use Rattle.vc_syntax.specs.DependencyGrammar.{IsDependency}
-use Rattle.vc_tokens.specs.Limits.{is_too_long, is_too_deep}
-use Rattle.vc_tokens.specs.Tokens.{tokens_of}
-use Rattle.vc_terms.specs.Trees.{Dependency}
+use Rattle.vc_syntax_tokens.specs.Limits.{is_too_long, is_too_deep}
+use Rattle.vc_syntax_tokens.specs.Tokens.{tokens_of}
+use Rattle.vc_syntax_terms.specs.Trees.{Dependency}
 
 -- the text is cut into tokens within the limits, and these spell the tree
 pub record Spells (kind : Kind) (text : List ℕ) (tree : Dependency) : Type 0 where

@@ -1,32 +1,32 @@
 //! Whole dependencies, read from all of their tokens.
 
 ghost use Rattle.std.specs.Prelude.{◌≡◌, ℕ, ◌<◌, ◌^◌, List, length, option_map, map, IfOk, Some, Ok, Err};
-ghost use Rattle.vc_terms.specs.Reading.{Gives, listed};
-ghost use Rattle.vc_terms.specs.TermReading as terms;
-ghost use Rattle.vc_terms.specs.ConditionReading as conditions;
+ghost use Rattle.vc_syntax_terms.specs.Reading.{Gives, listed};
+ghost use Rattle.vc_syntax_terms.specs.TermReading as terms;
+ghost use Rattle.vc_syntax_terms.specs.ConditionReading as conditions;
 ghost use Rattle.vc_syntax.specs.StatementReading as statements;
 ghost use Rattle.vc_syntax.specs.ConstraintReading as constraints;
 ghost use Rattle.vc_syntax.specs.DependencyReading as reads;
 ghost use Rattle.vc_syntax.specs.DependencyGrammar.{IsDependency};
 ghost use Rattle.vc_syntax.specs.DependencyTexts as texts;
 ghost use Rattle.vc_syntax.specs.Spelled.{Spells, IsFault};
-ghost use Rattle.vc_tokens.specs.declared.fault.Kind.{Kind};
-ghost use Rattle.vc_tokens.specs.declared.fault.SyntaxKind.{SyntaxKind};
-ghost use Rattle.vc_terms.specs.Trees as trees;
-ghost use Rattle.vc_terms.specs.Trees.{term_of, condition_of, statement_of, constraint_of, dependency_of};
-ghost use Rattle.vc_tokens.specs.declared.token.Sign.TheVariants as signs;
+ghost use Rattle.vc_syntax_tokens.specs.declared.fault.Kind.{Kind};
+ghost use Rattle.vc_syntax_tokens.specs.declared.fault.SyntaxKind.{SyntaxKind};
+ghost use Rattle.vc_syntax_terms.specs.Trees as trees;
+ghost use Rattle.vc_syntax_terms.specs.Trees.{term_of, condition_of, statement_of, constraint_of, dependency_of};
+ghost use Rattle.vc_syntax_tokens.specs.declared.token.Sign.TheVariants as signs;
 
 use crate::constraints::constraint;
 use crate::statements::statements;
 use std::alloc::Global;
-use vc_terms::conditions::condition;
-use vc_terms::reading::{ReadFault, sign_ahead};
-use vc_terms::terms::sum;
-use vc_terms::tree::{Condition, Constraint, Dependency, Statement, Term};
-use vc_tokens::fault::{Kind, SyntaxFault, SyntaxKind};
-use vc_tokens::lexing::tokens_of;
-use vc_tokens::limits::{is_too_deep, is_too_long};
-use vc_tokens::token::{Sign, Token};
+use vc_syntax_terms::conditions::condition;
+use vc_syntax_terms::reading::{ReadFault, sign_ahead};
+use vc_syntax_terms::terms::sum;
+use vc_syntax_terms::tree::{Condition, Constraint, Dependency, Statement, Term};
+use vc_syntax_tokens::fault::{Kind, SyntaxFault, SyntaxKind};
+use vc_syntax_tokens::lexing::tokens_of;
+use vc_syntax_tokens::limits::{is_too_deep, is_too_long};
+use vc_syntax_tokens::token::{Sign, Token};
 use vc_value::Listed;
 
 // Whether nothing stands there, or a period and nothing more.

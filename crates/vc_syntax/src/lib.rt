@@ -5,7 +5,7 @@ pub mod constraints;
 pub mod dependencies;
 pub mod statements;
 
-pub use vc_tokens::{Dollar, Kind, Lexeme, Reserved, Sign, SyntaxFault, SyntaxKind, Token};
+pub use vc_syntax_tokens::{Dollar, Kind, Lexeme, Reserved, Sign, SyntaxFault, SyntaxKind, Token};
 
 #[cfg(test)]
 mod reading_tests;

@@ -3,7 +3,7 @@
 use crate::dependencies::read_dependency;
 use std::alloc::{AllocError, Global};
 use std::test::Fail;
-use vc_tokens::fault::{Kind, SyntaxFault, SyntaxKind};
+use vc_syntax_tokens::fault::{Kind, SyntaxFault, SyntaxKind};
 
 const SPELLED: [(Kind, &str); 9] = [
     (Kind::Precondition, "size='L' and not specified Flow"),

@@ -1,7 +1,7 @@
 -- The model put together is the one that the lines describe.
 use Rattle.std.proofs.Common.{◌∙◌, ap, sym}
-use Rattle.vc_drafts.specs.Drafts.{seen_draft}
-use Rattle.vc_drafts.specs.Seen.{seen_model}
+use Rattle.vc_model_drafts.specs.Drafts.{seen_draft}
+use Rattle.vc_model_drafts.specs.Seen.{seen_model}
 use Rattle.vc_model.proofs.ReadingLaws.{described_is}
 use Rattle.vc_model.proofs.reader.described.Goals as goal
 

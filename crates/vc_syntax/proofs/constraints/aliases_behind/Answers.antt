@@ -1,7 +1,7 @@
 use Rattle.std.proofs.Common.{sym}
 use Rattle.vc_syntax.specs.ConstraintReading as reads
-use Rattle.vc_tokens.specs.declared.token.Sign.TheVariants as signs
-use Rattle.vc_terms.proofs.Lists.{listed_turn, listed_shorter}
+use Rattle.vc_syntax_tokens.specs.declared.token.Sign.TheVariants as signs
+use Rattle.vc_syntax_terms.proofs.Lists.{listed_turn, listed_shorter}
 use Rattle.vc_syntax.proofs.ConstraintSoundness.{alias_shortens}
 use Rattle.vc_syntax.proofs.constraints.aliases_behind.Goals as goal
 

@@ -1,7 +1,7 @@
 use Rattle.std.proofs.Common.{◌≡◌, length}
-use Rattle.vc_terms.specs.TermReading as terms
-use Rattle.vc_terms.specs.Reading.{append, single, sign, chained, listed}
-use Rattle.vc_tokens.specs.declared.token.Sign.TheVariants as signs
+use Rattle.vc_syntax_terms.specs.TermReading as terms
+use Rattle.vc_syntax_terms.specs.Reading.{append, single, sign, chained, listed}
+use Rattle.vc_syntax_tokens.specs.declared.token.Sign.TheVariants as signs
 use Rattle.vc_syntax.proofs.constraints.operands.Given as goal
 
 abbrev pub invariant-loop-after : goal.invariant-loop-after

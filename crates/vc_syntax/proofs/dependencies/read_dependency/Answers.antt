@@ -1,9 +1,9 @@
 -- What the text is found to be is what it spells, or its fault.
 use Rattle.std.proofs.Common.{Result, Ok, Err, subst}
-use Rattle.vc_tokens.specs.declared.fault.SyntaxFault.{SyntaxFault}
-use Rattle.vc_tokens.specs.declared.fault.SyntaxFault.TheVariants.{Bad}
+use Rattle.vc_syntax_tokens.specs.declared.fault.SyntaxFault.{SyntaxFault}
+use Rattle.vc_syntax_tokens.specs.declared.fault.SyntaxFault.TheVariants.{Bad}
 use Rattle.vc_syntax.specs.DependencyTexts.{Answers}
-use Rattle.vc_terms.specs.Trees.{Dependency, dependency_of}
+use Rattle.vc_syntax_terms.specs.Trees.{Dependency, dependency_of}
 use Rattle.vc_syntax.proofs.SpelledLaws.{answers_spell, answers_tell, spelled_is_found, fault_is_found}
 use Rattle.vc_syntax.proofs.dependencies.read_dependency.Goals as goal
 

@@ -1,8 +1,8 @@
 use Rattle.std.proofs.Common.{sym}
 use Rattle.vc_syntax.specs.StatementReading as reads
-use Rattle.vc_terms.specs.Trees.{binding_of}
-use Rattle.vc_tokens.specs.declared.token.Sign.TheVariants as signs
-use Rattle.vc_terms.proofs.Lists.{listed_turn_seen, listed_shorter}
+use Rattle.vc_syntax_terms.specs.Trees.{binding_of}
+use Rattle.vc_syntax_tokens.specs.declared.token.Sign.TheVariants as signs
+use Rattle.vc_syntax_terms.proofs.Lists.{listed_turn_seen, listed_shorter}
 use Rattle.vc_syntax.proofs.StatementSoundness.{binding_shortens}
 use Rattle.vc_syntax.proofs.statements.bindings.Goals as goal
 

@@ -1,0 +1,56 @@
+//! First faults of short texts, and the trees of a text without one.
+
+use crate::walk::checked;
+use std::alloc::Global;
+use std::test::Fail;
+use vc_model_faults::fault::{ModelFault, ModelKind};
+use vc_model_lines::classify;
+
+#[derive(Drop)]
+enum Outcome {
+    Sound(usize),
+    Bad(ModelKind, u32),
+    Other,
+}
+
+// How many trees a text without fault has, or its first fault.
+fn outcome_of(alloc: Global, text: &str) -> Outcome {
+    let Ok(lines) = classify(alloc, text) else {
+        return Outcome::Other;
+    };
+    let lines = lines.as_slice();
+    if lines.len() > 1_000 {
+        return Outcome::Other;
+    }
+    match checked(alloc, lines) {
+        Ok(sound) => Outcome::Sound(sound.trees.len()),
+        Err(ModelFault::Bad { kind, line }) => Outcome::Bad(kind, line),
+        Err(ModelFault::OutOfMemory) => Outcome::Other,
+    }
+}
+
+#[test]
+fn first_faults_are_told_at_their_lines(rt: HostRuntime) -> Result<(), Fail> {
+    for (text, kind, line) in [
+        ("", ModelKind::NoRoot, 1),
+        ("MODEL A VERSION 1", ModelKind::NoRoot, 2),
+        ("MODEL A VERSION 1\n* end\n", ModelKind::NoRoot, 3),
+        ("NET N\nFOO\n", ModelKind::Misplaced, 1),
+        ("MODEL A VERSION 1\nCHAR C 1\nFOO\n", ModelKind::NoValues, 2),
+        (
+            "MODEL A VERSION 1\nNET N\nNET N\nFOO\n",
+            ModelKind::Twice,
+            3,
+        ),
+    ] {
+        let told = outcome_of(rt.alloc(), text);
+        assert!(rt;
+            matches!(&told, Outcome::Bad(k, n) if *k == kind && *n == line),
+            "{text}"
+        );
+    }
+    let text = "MODEL A VERSION 1\nCLASS C\nPRECONDITION P\nX = 1\nEND\nOBJECT M CLASS C\nROOT M\n";
+    let told = outcome_of(rt.alloc(), text);
+    assert!(rt; matches!(&told, Outcome::Sound(1)));
+    Ok(())
+}

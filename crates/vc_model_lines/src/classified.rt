@@ -1,0 +1,120 @@
+//! The lines of a model text: each raw line as a line of its form.
+
+ghost use Rattle.std.specs.Prelude.{◌≡◌, map, IfOk};
+ghost use Rattle.std.specs.Str.Lines.{lines};
+ghost use Rattle.vc_model_lines.specs.Classified as classified;
+
+use crate::forms::form_of;
+use crate::keywords::keyword_of;
+use crate::line::{Keyword, Line};
+use crate::words::{first_word, is_word, trimmed, without_spaces_before, words};
+use std::alloc::{AllocError, Global};
+use vc_value::{Listed, Word};
+
+/// The most bytes that a line may have, spaces at its ends included.
+const LONGEST: usize = 1_000;
+
+fn is_long(raw: &[u8]) -> bool
+    ensures { result ≡ classified.is_long raw.now }
+{
+    raw.len() > LONGEST
+}
+
+fn is_skipped(line: &[u8]) -> bool
+    ensures { result ≡ classified.is_skipped line.now }
+{
+    match line {
+        [first, ..] => *first == b'*',
+        [] => true,
+    }
+}
+
+fn keyed_line(alloc: Global, line: &[u8], keyword: Option<Keyword>) -> Result<Line, AllocError>
+    ensures { IfOk result (λ form. form ≡ classified.keyed_line line.now keyword) }
+{
+    match keyword {
+        Some(keyword) => formed_line(alloc, line, keyword),
+        None => Ok(Line::NoForm(None)),
+    }
+}
+
+fn formed_line(alloc: Global, line: &[u8], keyword: Keyword) -> Result<Line, AllocError>
+    ensures { IfOk result (λ form. form ≡ classified.formed_line line.now keyword) }
+{
+    let words = words(alloc, line)?;
+    let form = match words.as_slice() {
+        [_, more @ ..] => form_of(alloc, keyword, line, more)?,
+        [] => form_of(alloc, keyword, line, &[])?,
+    };
+    match form {
+        Some(form) => Ok(form),
+        None => Ok(Line::NoForm(Some(keyword))),
+    }
+}
+
+fn outside_block(alloc: Global, raw: &[u8]) -> Result<Line, AllocError>
+    ensures { IfOk result (λ form. form ≡ classified.outside_block raw.now) }
+{
+    let line = without_spaces_before(raw);
+    if is_skipped(line) {
+        return Ok(Line::Skipped);
+    }
+    let keyword = keyword_of(first_word(line));
+    if is_long(raw) {
+        return Ok(Line::TooLong(keyword));
+    }
+    keyed_line(alloc, trimmed(raw), keyword)
+}
+
+fn inside_block(alloc: Global, raw: &[u8]) -> Result<Line, AllocError>
+    ensures { IfOk result (λ form. form ≡ classified.inside_block raw.now) }
+{
+    if is_long(raw) {
+        return Ok(Line::LongInner);
+    }
+    let line = trimmed(raw);
+    if is_word("END", line) {
+        return Ok(Line::End);
+    }
+    Ok(Line::Inner(Word::from_bytes(alloc, line)?))
+}
+
+fn line_of(alloc: Global, inside: bool, raw: &[u8]) -> Result<Line, AllocError>
+    ensures { IfOk result (λ form. form ≡ classified.line_of inside raw.now) }
+{
+    if inside {
+        inside_block(alloc, raw)
+    } else {
+        outside_block(alloc, raw)
+    }
+}
+
+/// Whether what follows the line stands in a block.
+pub fn is_in_block(line: &Line) -> bool
+    ensures { result ≡ classified.is_in_block line.now }
+{
+    matches!(line, Line::Block(_) | Line::Inner(_) | Line::LongInner)
+}
+
+fn raw_lines(alloc: Global, text: &str) -> Result<Vec<&str>, AllocError>
+    ensures { IfOk result (λ raw. map (λ line. line.now) raw.items ≡ lines text.now) }
+{
+    text.lines().collect(alloc)
+}
+
+/// The lines of the text, one for each raw line, in order.
+pub fn classify(alloc: Global, text: &str) -> Result<Listed<Line>, AllocError>
+    ensures { IfOk result (λ forms. forms ≡ classified.lines_of text.now) }
+{
+    let raw = raw_lines(alloc, text)?;
+    let mut forms = Listed::new(alloc);
+    let mut inside = false;
+    let mut rest = raw.as_slice();
+    while let [line, more @ ..] = rest {
+        let form = line_of(alloc, inside, line.as_bytes())?;
+        inside = is_in_block(&form);
+        forms.push(form)?;
+        rest = more;
+    }
+    Ok(forms)
+}

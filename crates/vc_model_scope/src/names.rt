@@ -1,0 +1,82 @@
+//! Names in the order in which they were met, each found without going over all of them.
+
+ghost use Rattle.std.specs.Prelude.{◌≡◌, ◌==◌, [], length, IfOk, OnOk};
+ghost use Rattle.vc_model_scope.specs.Names.{is_among, place_of, with_name};
+
+use indexmap::IndexSet;
+use std::alloc::{AllocError, Global};
+use std::marker::Model;
+use vc_value::{Listed, Word};
+
+/// Names, which a contract sees as their list; none stands twice.
+#[derive(Drop)]
+pub struct Names {
+    met: IndexSet<Vec<u8>>,
+}
+
+impl Model for Names {
+    ghost use Rattle.std.specs.Prelude.{List, ℕ, map};
+
+    ghost Value = { List (List ℕ) };
+
+    ghost view = { λ n. map (λ name. name.items) n.met.keys };
+}
+
+impl Names {
+    /// No names.
+    pub fn new(alloc: Global) -> Names
+        ensures { result ≡ [] }
+    {
+        Names {
+            met: IndexSet::new(alloc),
+        }
+    }
+
+    /// How many there are.
+    pub fn len(&self) -> usize
+        ensures { result ≡ length self.now }
+    {
+        self.met.len()
+    }
+
+    /// Whether there is none.
+    pub fn is_empty(&self) -> bool
+        ensures { result ≡ (length self.now == 0) }
+    {
+        self.len() == 0
+    }
+
+    /// Whether the name is one of them.
+    pub fn has(&self, name: &[u8]) -> bool
+        ensures { result ≡ is_among self.now name.now }
+    {
+        self.met.contains(name)
+    }
+
+    /// The name's number, counted from 0, if it is one of them.
+    pub fn place(&self, name: &[u8]) -> Option<usize>
+        ensures { result ≡ place_of self.now name.now }
+    {
+        self.met.get_index_of(name)
+    }
+
+    /// Puts a name last, unless it is there.
+    pub fn add(&mut self, alloc: Global, name: &[u8]) -> Result<(), AllocError>
+        ensures { OnOk result (self.new ≡ with_name self.old name.now) }
+    {
+        let key = Vec::from_slice(alloc, name)?;
+        self.met.insert_full(key)?;
+        Ok(())
+    }
+
+    /// The names as words.
+    pub fn words(&self, alloc: Global) -> Result<Listed<Word>, AllocError>
+        ensures { IfOk result (λ words. words ≡ self.now) }
+    {
+        let mut words = Listed::new(alloc);
+        for name in self.met.as_slice() {
+            words.push(Word::from_bytes(alloc, name.as_slice())?)?;
+        }
+        Ok(words)
+    }
+}

@@ -1,0 +1,44 @@
+//! Laws of reasons, each the contract of a function that does nothing.
+
+ghost use Rattle.vc_plan_reasons.specs.Laws.{AcceptedUnrefused, ChainsStand, ConclusionsStand, WholeSettles, RefutingBreaks, RefutingBlames, KeptIsAccepted, KeptIsLeft, GivesLocally, GivesWhatItWrites, ReachIsLeast};
+
+/// A list of steps is accepted exactly where no step is refused.
+pub fn accepted_is_unrefused()
+    ensures { AcceptedUnrefused }
+{}
+
+/// What an accepted list concludes stands in every closed set, so two steps can't hold each other up; and what has a chain
+/// of reasons stands where settling ends.
+pub fn conclusions_stand()
+    ensures closed { ConclusionsStand }
+    ensures chains { ChainsStand }
+{}
+
+/// A whole list concludes just what settling ends at.
+pub fn whole_lists_settle()
+    ensures { WholeSettles }
+{}
+
+/// Where a clash refutes the sources, settling with them is broken, and its culprit is a constraint's rule or a statement
+/// that wrote one of them.
+pub fn refuting_breaks()
+    ensures breaks { RefutingBreaks }
+    ensures blames { RefutingBlames }
+{}
+
+/// What is kept of an accepted list is accepted with the new sources, and is what the least set of dropped steps leaves.
+pub fn kept_is_accepted()
+    ensures accepted { KeptIsAccepted }
+    ensures least { KeptIsLeft }
+{}
+
+/// What a rule or source gives depends on what it reads and writes alone, and it gives atoms of what it writes.
+pub fn giving_is_local()
+    ensures reads { GivesLocally }
+    ensures writes { GivesWhatItWrites }
+{}
+
+/// What things reach is the least list with what rules write that read one of it.
+pub fn reach_is_least()
+    ensures { ReachIsLeast }
+{}

@@ -1,5 +1,0 @@
-use Rattle.vc_reasons.proofs.ReasonLaws.Closed.{accepted_unrefused}
-use Rattle.vc_reasons.proofs.laws.accepted_is_unrefused.Goals as goal
-
-pub returns : goal.returns
-returns c = accepted_unrefused

@@ -1,5 +1,0 @@
-use Rattle.vc_reasons.proofs.ReasonLaws.Reaching.{reach_is_least}
-use Rattle.vc_reasons.proofs.laws.reach_is_least.Goals as goal
-
-pub returns : goal.returns
-returns c = reach_is_least
