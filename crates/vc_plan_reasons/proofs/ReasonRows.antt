@@ -3,6 +3,7 @@ pub mod Below
 pub mod Chains
 pub mod Clashes
 pub mod Keepings
+pub mod Records
 pub mod Restrictions
 pub mod Statuses
 pub mod Steps

@@ -1,6 +1,7 @@
 //! Laws of reasons, each the contract of a function that does nothing.
 
-ghost use Rattle.vc_plan_reasons.specs.Laws.{AcceptedUnrefused, ChainsStand, ConclusionsStand, WholeSettles, RefutingBreaks, RefutingBlames, KeptIsAccepted, KeptIsLeft, GivesLocally, GivesWhatItWrites, ReachIsLeast};
+ghost use Rattle.vc_plan_reasons.specs.Fitting.{EvaluationsFit};
+ghost use Rattle.vc_plan_reasons.specs.Laws.{AcceptedUnrefused, ChainsStand, ConclusionsStand, WholeSettles, RefutingBreaks, RefutingBlames, KeptIsAccepted, KeptIsLeft, GivesLocally, GivesWhatItWrites, SaysLocally, RulesIgnoreSources, ReachIsLeast};
 
 /// A list of steps is accepted exactly where no step is refused.
 pub fn accepted_is_unrefused()
@@ -36,6 +37,17 @@ pub fn kept_is_accepted()
 pub fn giving_is_local()
     ensures reads { GivesLocally }
     ensures writes { GivesWhatItWrites }
+{}
+
+/// Where the user's values fit the plan, so do the sources at the end of an evaluation: of the broken stage, or of the last.
+pub fn evaluations_fit()
+    ensures { EvaluationsFit }
+{}
+
+/// What a rule or source says, whether it stands or not, depends on what it reads alone, and of a rule not on the sources.
+pub fn saying_is_local()
+    ensures reads { SaysLocally }
+    ensures sources { RulesIgnoreSources }
 {}
 
 /// What things reach is the least list with what rules write that read one of it.
