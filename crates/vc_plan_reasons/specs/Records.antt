@@ -1,6 +1,5 @@
 -- What a net keeps from one change of its sources to the next.
 use Rattle.std.specs.Prelude.{Bool, ◌&&◌, List}
-use Rattle.vc_plan.specs.declared.atoms.Atom.{Atom}
 use Rattle.vc_plan.specs.declared.atoms.Clash.{Clash}
 use Rattle.vc_plan.specs.declared.atoms.Step.{Step}
 use Rattle.vc_plan.specs.declared.plans.Plan.{Plan}

@@ -1,8 +1,8 @@
 //! Each law called once: a law that asked for anything couldn't be.
 
 use crate::laws::{
-    accepted_is_unrefused, conclusions_stand, evaluations_fit, giving_is_local, kept_is_accepted, reach_is_least,
-    refuting_breaks, saying_is_local, things_are_small, whole_lists_settle,
+    accepted_is_unrefused, conclusions_stand, evaluations_fit, giving_is_local, kept_is_accepted,
+    reach_is_least, refuting_breaks, saying_is_local, things_are_small, whole_lists_settle,
 };
 use std::test::Fail;
 

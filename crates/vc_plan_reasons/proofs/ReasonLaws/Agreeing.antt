@@ -3,7 +3,7 @@ use Rattle.std.proofs.Common.{◌≡◌, ℕ, true, not, ◌&&◌, List, [], ◌
 use Rattle.std.specs.Prelude.{Option, None, Some, option_map, slice_get}
 use Rattle.std.specs.List.{list_all}
 use Rattle.vc_base.specs.Sets.{has, Within}
-use Rattle.vc_base.proofs.SetLaws.{both, has_first, has_more}
+use Rattle.vc_base.proofs.SetLaws.{has_first, has_more}
 use Rattle.vc_value.specs.declared.value.Value.{Value}
 use Rattle.vc_plan.specs.declared.atoms.Atom.{Atom}
 use Rattle.vc_plan.specs.declared.atoms.Atom.TheVariants.{Here, Out, Is}
@@ -16,21 +16,16 @@ use Rattle.vc_plan.specs.declared.terms.Term.TheVariants.{Literal, Read, PartSum
 use Rattle.vc_plan.specs.Clear.{is_clear}
 use Rattle.vc_plan.specs.Kleene.{kleene_not, kleene_and, kleene_or}
 use Rattle.vc_plan.specs.Numbers.{applied, joined}
-use Rattle.vc_plan.specs.Pieces.{same_value}
 use Rattle.vc_plan.specs.Reads.{vars_in, vars_read, vars_of_term, vars_of_condition}
 use Rattle.vc_plan.specs.Readings.{net_reading}
 use Rattle.vc_plan.specs.Seen.{Seen, same_atom, seen_of, value_in, is_slot_here, is_left_by, is_left}
 use Rattle.vc_plan.specs.Truth.{number_of_value, value_of_number, number, term_value, compared, is_in, specified, truth, truth_at, value_at, truth_in, value_in_term}
 use Rattle.std.specs.Option.{option_to_list}
-use Rattle.std.proofs.lemmas.Bool.{and_cases, eq-eqb, not-false}
-use Rattle.vc_plan.proofs.PlanLaws.Atoms.{value_exact}
 use Rattle.vc_plan.proofs.PlanLaws.Extending.{one_value, value_has, value_read}
 use Rattle.vc_plan.proofs.PlanLaws.Facts.{Facts, facts}
 use Rattle.vc_plan_reasons.specs.Laws.{AreAlike}
 use Rattle.vc_plan_reasons.specs.Things.{Thing, slot_at, var_at, same_thing, has_thing}
 use Rattle.vc_plan_reasons.proofs.ReasonLaws.Reaching.{thing_exact, thing_itself}
-use Rattle.std.specs.Prelude.{◌==◌}
-use Rattle.std.proofs.Common.{inl, inr}
 
 -- two sets say the same of a variable, of variables, and of slots
 pub record SameVar (s t : Seen) (v : ℕ) : Type 0 where

@@ -1,20 +1,18 @@
 -- What is dropped of an accepted log is of things that the changed variables reach.
-use Rattle.std.proofs.Common.{◌≡◌, ℕ, zero, suc, ◌+◌, ◌<◌, Bool, true, false, cond, ◌&&◌, ◌||◌, ◌⊎◌, List, [], ◌∷◌, ◌++◌, length, map, refl, sym, ap, ◌∙◌, subst, inl, inr, arith, append_assoc, length-append}
-use Rattle.std.specs.Prelude.{Option, None, Some, slice_get, flat_map, nat_eq, nat_lt, ◌==◌}
-use Rattle.std.specs.List.{filter, list_all, list_any}
-use Rattle.std.specs.Option.{option_to_list}
-use Rattle.std.proofs.lemmas.Bool.{and_parts, eqb-true, ltb-true, or_cases}
+use Rattle.std.proofs.Common.{◌≡◌, ℕ, zero, suc, ◌<◌, Bool, true, false, cond, ◌&&◌, ◌||◌, ◌⊎◌, List, [], ◌∷◌, ◌++◌, length, map, refl, sym, ap, ◌∙◌, subst, inl, inr, arith, append_assoc, length-append}
+use Rattle.std.specs.Prelude.{Option, None, Some, slice_get, flat_map, nat_eq, ◌==◌}
+use Rattle.std.specs.List.{filter, list_any}
+use Rattle.std.proofs.lemmas.Bool.{and_parts, eqb-true, or_cases}
 use Rattle.vc_base.specs.Chains.{accepted, cited}
-use Rattle.vc_base.specs.Kept.{IsDropping, IsLeft, has_step, is_to_drop}
-use Rattle.vc_base.specs.Rounds.{Given, atoms_of}
+use Rattle.vc_base.specs.Kept.{IsDropping, has_step}
+use Rattle.vc_base.specs.Rounds.{atoms_of}
 use Rattle.vc_base.specs.Sets.{has, Within}
-use Rattle.vc_base.specs.Spreading.{IsSpread, reads_some, written_from}
+use Rattle.vc_base.specs.Spreading.{IsSpread, reads_some}
 use Rattle.vc_base.proofs.ChainLaws.{accepted_parts, all_there}
 use Rattle.vc_base.proofs.ListLaws.{number_exact, number_itself, range_has}
 use Rattle.vc_base.proofs.SetLaws.{all_at, filter_has, has_back, has_cases, has_first, has_front, has_more}
 use Rattle.vc_base.proofs.Settling.{IsIn, any_at}
 use Rattle.vc_plan.specs.declared.atoms.Atom.{Atom}
-use Rattle.vc_plan.specs.declared.atoms.Atom.TheVariants.{Here, Out, Is}
 use Rattle.vc_plan.specs.declared.atoms.Origin.{Origin}
 use Rattle.vc_plan.specs.declared.atoms.Origin.TheVariants.{Rule, User, Written}
 use Rattle.vc_plan.specs.declared.atoms.Step.{Step}
@@ -31,8 +29,8 @@ use Rattle.vc_plan.specs.Seen.{same_atom, seen_of}
 use Rattle.vc_plan.specs.Sources.{Sources, entry_of}
 use Rattle.vc_plan.specs.Valid.{IsValid}
 use Rattle.vc_plan.proofs.PlanLaws.Atoms.{atom_exact, atom_itself}
-use Rattle.vc_plan_reasons.specs.Checking.{are_of, concluded, follows, given_by, giver_from, giver_of, is_accepted, is_by, set_with, step_form, things_read, var_of}
-use Rattle.vc_plan_reasons.specs.Keeping.{changed, entry_differs, is_gone, kept_of, origin_differs, user_differs}
+use Rattle.vc_plan_reasons.specs.Checking.{are_of, concluded, follows, given_by, giver_from, giver_of, is_by, set_with, step_form, things_read, var_of}
+use Rattle.vc_plan_reasons.specs.Keeping.{changed, entry_differs, is_gone, origin_differs, user_differs}
 use Rattle.vc_plan_reasons.specs.Laws.{DroppedIsReached}
 use Rattle.vc_plan_reasons.specs.Things.{Thing, slot_at, var_at, same_thing, has_thing, thing_of, slots_of_var, slots_of_kind, vars_of_kind, rule_reads, rule_writes, kind_writes, reads_in, writes_in, giver_reads, giver_writes}
 use Rattle.vc_plan_reasons.specs.Work.{links_of, reach_of}
@@ -198,6 +196,7 @@ source_of old new (Written procedure statement) (Some v) giver is e = choice (is
     or_true : (b c : Bool) → c ≡ true → (b || c) ≡ true
     or_true true c q = refl
     or_true false c q = q
+
     choice : (b : Bool) → cond b (Some (by_entry v)) None ≡ Some giver → Source old new giver
     choice true k =
         let same : by_entry v ≡ giver = cc k in

@@ -1,5 +1,5 @@
 -- What statements write fits the plan, and so do the sources at the end of an evaluation.
-use Rattle.std.proofs.Common.{◌≡◌, ℕ, zero, suc, ◌+◌, Bool, true, false, cond, ◌&&◌, ◌||◌, List, [], ◌∷◌, ◌++◌, length, map, refl, ap, ◌∙◌, subst, arith}
+use Rattle.std.proofs.Common.{◌≡◌, ℕ, zero, suc, ◌+◌, Bool, true, false, ◌&&◌, ◌||◌, List, [], ◌∷◌, ◌++◌, length, map, refl, ap, ◌∙◌, subst, arith}
 use Rattle.std.specs.Prelude.{Option, reverse, flat_map, None, Some, option_map, slice_get, slice_set, slice_index_or, if◌then◌else◌, is_none, ◌==◌}
 use Rattle.std.specs.List.{find, list_all, list_any}
 use Rattle.std.proofs.lemmas.Bool.{and_parts, eq-eqb}
@@ -7,7 +7,6 @@ use Rattle.vc_base.specs.Rounds.{Settlement, broken, settled}
 use Rattle.vc_base.proofs.Settling.{any_at}
 use Rattle.vc_value.specs.declared.value.Value.{Value}
 use Rattle.vc_plan.specs.declared.atoms.Atom.{Atom}
-use Rattle.vc_plan.specs.declared.atoms.Mark.{Mark}
 use Rattle.vc_plan.specs.declared.atoms.Mark.TheVariants.{Held, Outside}
 use Rattle.vc_plan.specs.declared.conditions.Piece.{Piece}
 use Rattle.vc_plan.specs.declared.plans.Plan.{Plan}
@@ -20,7 +19,7 @@ use Rattle.vc_plan.specs.declared.procedures.Statement.{Statement}
 use Rattle.vc_plan.specs.Domains.{numbers_below, grains_of, decimals_of, count_of, is_grain_with, passes}
 use Rattle.vc_plan.specs.Entries.{Entries, Written, entry_in, is_soft, no_entries, sources_in, with_entry, written_at}
 use Rattle.vc_plan.specs.Evaluate.{Evaluated, Users, between, broken_at, evaluation_of, holds, if_settled, reached, sources_of, stages_from}
-use Rattle.vc_plan.specs.Fitting.{has_at_most, may_have_if, may_hold, users_fit}
+use Rattle.vc_plan.specs.Fitting.{has_at_most, may_have_if, may_hold}
 use Rattle.vc_plan.specs.Kleene.{is_true}
 use Rattle.vc_plan.specs.LookUps.{action_writes, named_by, writes_own}
 use Rattle.vc_plan.specs.Parts.{procedure_reading}
@@ -29,7 +28,6 @@ use Rattle.vc_plan.specs.Readings.{Reading}
 use Rattle.vc_plan.specs.RuleShapes.{is_at}
 use Rattle.vc_plan.specs.Seen.{Seen, is_left, seen_of}
 use Rattle.vc_plan.specs.Settle.{settlement_of}
-use Rattle.vc_plan.specs.Sources.{Entry, entry_of, user_of}
 use Rattle.vc_plan.specs.Statements.{Place, acted, all_stated, entered, fitted, has_keys, is_default_of, mark_of, stated, takes_default, with_cell, with_cells, with_default, with_hard, with_row, with_value, without_default}
 use Rattle.vc_plan.specs.TableRows.{has_left, rows_of}
 use Rattle.vc_plan.specs.Truth.{truth_at, value_at}
@@ -178,8 +176,10 @@ named_written plan place procedure statement (v ∷ vs) is here within at =
   where
     equal : (u : ℕ) → (u == u) ≡ true
     equal u = eq-eqb u u refl
+
     first : (u : ℕ) (us : List ℕ) → list_any (λ w. w == u) (u ∷ us) ≡ true
     first u us = ap (λ b. b || list_any (λ w. w == u) us) (equal u)
+
     more : (x u : ℕ) (us : List ℕ) → list_any (λ w. w == u) us ≡ true → list_any (λ w. w == u) (x ∷ us) ≡ true
     more x u us h = or_true (x == u) (list_any (λ w. w == u) us) h
       where

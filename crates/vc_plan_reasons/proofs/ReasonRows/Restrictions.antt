@@ -1,10 +1,7 @@
 -- What a rule of each kind reads and writes, and that a constraint's rule of each kind can be to blame.
 use Rattle.std.proofs.Common.{◌≡◌, ℕ, Bool, true, false, List, [], ◌∷◌, map, refl}
-use Rattle.std.specs.Prelude.{None, Some, ◌≢◌, Box}
+use Rattle.std.specs.Prelude.{Some, ◌≢◌, Box}
 use Rattle.std.specs.declared.alloc.Global.{Global}
-use Rattle.vc_value.specs.declared.value.Value.{Value}
-use Rattle.vc_value.specs.declared.value.Value.TheVariants.{Text}
-use Rattle.vc_plan.specs.declared.atoms.Atom.TheVariants.{Is}
 use Rattle.vc_plan.specs.declared.atoms.Culprit.TheVariants as culprits
 use Rattle.vc_plan.specs.declared.conditions.Condition.TheVariants.{Always, Compared, Specified, And'}
 use Rattle.vc_plan.specs.declared.conditions.Relation.TheVariants.{Equal, AtMost}
@@ -18,10 +15,9 @@ use Rattle.vc_plan.specs.declared.terms.Operator.TheVariants.{Plus}
 use Rattle.vc_plan.specs.declared.terms.Term.TheVariants.{Literal, Read, Joined'}
 use Rattle.vc_plan.specs.Gives.{by_rule}
 use Rattle.vc_plan.proofs.PlanRows.Models.{column, empty, fixed_pair, fixed_var, own_rule, root, rule, table_of, three_grains, users, whole}
-use Rattle.vc_plan_reasons.specs.Checking.{is_accepted}
 use Rattle.vc_plan_reasons.specs.Refuting.{is_of_constraint, refutes}
 use Rattle.vc_plan_reasons.specs.Things.{Thing, giver_reads, giver_writes, slot_at, var_at}
-use Rattle.vc_plan_reasons.specs.Work.{reach_of, work_of}
+use Rattle.vc_plan_reasons.specs.Work.{work_of}
 use Rattle.vc_plan_reasons.proofs.ReasonRows.Steps.{by_user, clash_of}
 
 -- slot 2 stands in slot 1; variables 0 to 2 are of slot 1, variable 3 of slot 2. The condition reads variables 3 and 0; term 0 is
