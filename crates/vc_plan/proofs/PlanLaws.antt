@@ -3,6 +3,7 @@ pub mod Answers
 pub mod Atoms
 pub mod Bound
 pub mod Counts
+pub mod Depths
 pub mod Extending
 pub mod Facts
 pub mod Givers

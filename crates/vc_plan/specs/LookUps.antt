@@ -25,15 +25,23 @@ use Rattle.vc_plan.specs.Orders.{are_apart, is_number}
 use Rattle.vc_plan.specs.RuleShapes.{is_at}
 use Rattle.vc_plan.specs.Showing.{slot_of_named}
 
--- the variables that an action writes
+-- the variables that an action names: those that it writes, and the one whose default it takes away
+abbrev pub named_by : Action → List ℕ
+named_by (Assign v term) = v ∷ []
+named_by (SetDefault v term) = v ∷ []
+named_by (DeleteDefault v term) = v ∷ []
+named_by (LookUp table keys filled) = map (λ column. column.var) filled
+
+-- those for which it can enter a term or a cell, in the order of its text; to take a default away enters nothing
 abbrev pub action_writes : Action → List ℕ
 action_writes (Assign v term) = v ∷ []
 action_writes (SetDefault v term) = v ∷ []
-action_writes (DeleteDefault v term) = v ∷ []
+action_writes (DeleteDefault v term) = []
 action_writes (LookUp table keys filled) = map (λ column. column.var) filled
 
+-- whether a procedure's statements name variables of its own slot alone, so that no entry of another's is made or taken away
 abbrev pub writes_own : Plan → Procedure → Bool
-writes_own plan procedure = list_all (λ statement. list_all (is_at plan (procedure.slot ∷ [])) (action_writes statement.action)) procedure.statements
+writes_own plan procedure = list_all (λ statement. list_all (is_at plan (procedure.slot ∷ [])) (named_by statement.action)) procedure.statements
 
 -- a value's procedure stands at a listed value of its own slot, and a value's precondition at a listed value
 abbrev pub is_value_of : Plan → ℕ → Named → Piece → Bool

@@ -1,5 +1,5 @@
 -- Plans that a model has: what every call may take for granted.
-use Rattle.std.specs.Prelude.{◌≡◌, ℕ, Bool, true, false, not, ◌&&◌, ◌||◌, ◌==◌, nat_lt, nat_le, List, drop, length, slice_get, Option, None, Some, IsUtf8}
+use Rattle.std.specs.Prelude.{◌≡◌, ℕ, ◌^◌, Bool, true, false, not, ◌&&◌, ◌||◌, ◌==◌, nat_lt, nat_le, List, drop, length, slice_get, Option, None, Some, IsUtf8}
 use Rattle.std.specs.List.{list_all}
 use Rattle.vc_value.specs.Words.{same_bytes}
 use Rattle.vc_plan.specs.declared.conditions.Condition.{Condition}
@@ -200,3 +200,6 @@ pub record IsValid (plan : Plan) : Type 0 where
   pub column_limit : list_all (λ table. nat_le (length table.columns) 20) plan.tables ≡ true
   pub line_limit : each_slot plan (λ i. nat_le (length (lines_at plan i)) 1_000) ≡ true
   pub operation_limit : each_slot plan (λ i. nat_le (length (operations_at plan i)) 1_000) ≡ true
+  -- what reasons name by numbers of 32 bits; that there are few rules is said above
+  pub procedure_limit : nat_lt (length plan.procedures) (2 ^ 32) ≡ true
+  pub statement_limit : list_all (λ procedure. nat_lt (length procedure.statements) (2 ^ 32)) plan.procedures ≡ true

@@ -74,6 +74,10 @@ greatest_depth (slot ∷ slots) = max slot.depth (greatest_depth slots)
 abbrev pub last_stage : Plan → ℕ
 last_stage plan = greatest_depth plan.slots + 2
 
+-- how many stages there are: they are numbered from 0
+abbrev pub stages : Plan → ℕ
+stages plan = last_stage plan + 1
+
 -- the summing procedures of a slot, or its others, in their order
 abbrev pub is_at : Plan → Bool → ℕ → Option Procedure → Bool
 is_at plan summing i None = false

@@ -1,9 +1,10 @@
-//! How many grains a variable has, and how many atoms a net.
+//! How many grains a variable has, how many atoms a net, and how many stages an evaluation.
 
 ghost use Rattle.std.specs.Prelude.{◌≡◌, ◌^◌, ◌<◌, length, slice_get, Some};
 ghost use Rattle.vc_plan.specs.Domains.{grains_in, domain_of, count_of, atom_count};
+ghost use Rattle.vc_plan.specs.Writes.{greatest_depth, stages};
 
-use crate::plans::Plan;
+use crate::plans::{Plan, Slot};
 use vc_value::Domain;
 
 /// How many grains the variable has; none where there is no such variable.
@@ -23,6 +24,26 @@ pub fn atom_count(plan: &Plan) -> u32
         count += grains_at(plan, var) + 1;
     }
     count as u32
+}
+
+/// How many stages an evaluation has: the user's, one for the procedures of each level of slots, and the one for sums.
+pub fn stages(plan: &Plan) -> u32
+    ensures { result ≡ stages plan.now }
+{
+    u32::from(greatest_depth(plan.slots.as_slice())) + 3
+}
+
+#[tactic(auto, using(crate::proofs::PlanLaws::Depths::deeper, crate::proofs::PlanLaws::Depths::none_deeper))]
+fn greatest_depth(slots: &[Slot]) -> u8
+    ensures { result ≡ greatest_depth slots.now }
+{
+    let mut greatest = 0;
+    let mut rest = slots;
+    while let [slot, more @ ..] = rest {
+        greatest = greatest.max(slot.depth);
+        rest = more;
+    }
+    greatest
 }
 
 fn grains_at(plan: &Plan, var: usize) -> usize

@@ -16,7 +16,7 @@ pub mod views;
 
 pub use atoms::{Atom, Clash, Culprit, Mark, Origin, Outcome, Step};
 pub use conditions::{Condition, Kleene, Piece, Relation};
-pub use counts::{atom_count, count_of};
+pub use counts::{atom_count, count_of, stages};
 pub use plans::{
     Characteristic, Guard, Line, Named, Object, Operation, Plan, Requirement, Selection, Slot,
     Table, TableColumn, TextSet, Var,

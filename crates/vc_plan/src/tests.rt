@@ -4,7 +4,7 @@ ghost use Rattle.std.specs.Prelude.{◌≡◌, ◌^◌, ◌<◌, false, [], ◌�
 ghost use Rattle.vc_value.specs.declared.table_header.Domain.TheVariants.{Texts};
 ghost use Rattle.vc_plan.specs.Domains.{atom_count};
 
-use crate::counts::{atom_count, count_of};
+use crate::counts::{atom_count, count_of, stages};
 use crate::plans::{Plan, Slot, Var};
 use std::alloc::{AllocError, Global};
 use std::test::Fail;
@@ -74,5 +74,6 @@ fn counts_a_lamp(rt: HostRuntime) -> Result<(), Fail> {
     assert_eq!(rt; count_of(&plan, 0), 3);
     assert_eq!(rt; count_of(&plan, 1), 0);
     assert_eq!(rt; atom_count(&plan), 5);
+    assert_eq!(rt; stages(&plan), 3);
     Ok(())
 }

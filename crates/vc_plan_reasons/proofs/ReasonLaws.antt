@@ -1,6 +1,9 @@
 -- Laws of reasons, of what is kept and of what rules read and write.
 pub mod Agreeing
 pub mod Closed
+pub mod Dropping
+pub mod Few
+pub mod Fitting
 pub mod Givers
 pub mod Keeping
 pub mod Local

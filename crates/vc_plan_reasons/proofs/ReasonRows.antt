@@ -1,7 +1,10 @@
 -- Worked rows of reasons, by computing. Beside what is so stands what would be so by a likely slip, and isn't.
+pub mod Below
 pub mod Chains
 pub mod Clashes
 pub mod Keepings
+pub mod Records
+pub mod Restrictions
 pub mod Statuses
 pub mod Steps
 pub mod Touched

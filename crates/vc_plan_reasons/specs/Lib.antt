@@ -1,7 +1,9 @@
 pub mod Blaming
 pub mod Checking
+pub mod Fitting
 pub mod Keeping
 pub mod Laws
+pub mod Records
 pub mod Refuting
 pub mod Things
 pub mod Work

@@ -1,6 +1,7 @@
 //! Laws of reasons, each the contract of a function that does nothing.
 
-ghost use Rattle.vc_plan_reasons.specs.Laws.{AcceptedUnrefused, ChainsStand, ConclusionsStand, WholeSettles, RefutingBreaks, RefutingBlames, KeptIsAccepted, KeptIsLeft, GivesLocally, GivesWhatItWrites, ReachIsLeast};
+ghost use Rattle.vc_plan_reasons.specs.Fitting.{EvaluationsFit};
+ghost use Rattle.vc_plan_reasons.specs.Laws.{AcceptedUnrefused, ChainsStand, ConclusionsStand, WholeSettles, RefutingBreaks, RefutingBlames, KeptIsAccepted, KeptIsLeft, DroppedIsReached, FewOfAThing, GivesLocally, GivesWhatItWrites, SaysLocally, RulesIgnoreSources, ReachIsLeast};
 
 /// A list of steps is accepted exactly where no step is refused.
 pub fn accepted_is_unrefused()
@@ -26,16 +27,34 @@ pub fn refuting_breaks()
     ensures blames { RefutingBlames }
 {}
 
-/// What is kept of an accepted list is accepted with the new sources, and is what the least set of dropped steps leaves.
+/// What is kept of an accepted list is accepted with the new sources, and is what the least set of dropped steps leaves; of a
+/// valid plan these conclude atoms of things that the changed variables reach.
 pub fn kept_is_accepted()
     ensures accepted { KeptIsAccepted }
     ensures least { KeptIsLeft }
+    ensures reached { DroppedIsReached }
 {}
 
 /// What a rule or source gives depends on what it reads and writes alone, and it gives atoms of what it writes.
 pub fn giving_is_local()
     ensures reads { GivesLocally }
     ensures writes { GivesWhatItWrites }
+{}
+
+/// Where the user's values fit the plan, so do the sources at the end of an evaluation: of the broken stage, or of the last.
+pub fn evaluations_fit()
+    ensures { EvaluationsFit }
+{}
+
+/// What a rule or source says, whether it stands or not, depends on what it reads alone, and of a rule not on the sources.
+pub fn saying_is_local()
+    ensures reads { SaysLocally }
+    ensures sources { RulesIgnoreSources }
+{}
+
+/// Of each thing a clear set has at most as many atoms as its size says.
+pub fn things_are_small()
+    ensures { FewOfAThing }
 {}
 
 /// What things reach is the least list with what rules write that read one of it.

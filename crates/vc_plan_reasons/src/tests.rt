@@ -1,8 +1,8 @@
 //! Each law called once: a law that asked for anything couldn't be.
 
 use crate::laws::{
-    accepted_is_unrefused, conclusions_stand, giving_is_local, kept_is_accepted, reach_is_least,
-    refuting_breaks, whole_lists_settle,
+    accepted_is_unrefused, conclusions_stand, evaluations_fit, giving_is_local, kept_is_accepted,
+    reach_is_least, refuting_breaks, saying_is_local, things_are_small, whole_lists_settle,
 };
 use std::test::Fail;
 
@@ -14,6 +14,9 @@ fn laws_ask_for_nothing(_rt: HostRuntime) -> Result<(), Fail> {
     refuting_breaks();
     kept_is_accepted();
     giving_is_local();
+    saying_is_local();
+    evaluations_fit();
+    things_are_small();
     reach_is_least();
     Ok(())
 }

@@ -60,7 +60,7 @@ length-places plan =
     omega (arith, length-append (map Here (numbers_below (length plan.slots))) (flat_map (var_places plan) (numbers_below (length plan.vars))))
 
 -- an image is in the mapped list, and what a number's list has all lists together have
-has_image : (f : ℕ → Atom) (gs : List ℕ) (g : ℕ) → has nat_eq gs g ≡ true → has same_atom (map f gs) (f g) ≡ true
+pub has_image : (f : ℕ → Atom) (gs : List ℕ) (g : ℕ) → has nat_eq gs g ≡ true → has same_atom (map f gs) (f g) ≡ true
 has_image f [] g h = absurd (cc)
 has_image f (x ∷ gs) g h =
     elim (has_cases nat_eq number_exact number_itself x gs g h) [
@@ -68,7 +68,7 @@ has_image f (x ∷ gs) g h =
       | inr e ↦ has_more same_atom atom_exact atom_itself (f x) (map f gs) (f g) (has_image f gs g e)
     ]
 
-has_flat : (f : ℕ → List Atom) (xs : List ℕ) (x : ℕ) (a : Atom) → has nat_eq xs x ≡ true → has same_atom (f x) a ≡ true
+pub has_flat : (f : ℕ → List Atom) (xs : List ℕ) (x : ℕ) (a : Atom) → has nat_eq xs x ≡ true → has same_atom (f x) a ≡ true
     → has same_atom (flat_map f xs) a ≡ true
 has_flat f [] x a h k = absurd (cc)
 has_flat f (y ∷ xs) x a h k =

@@ -64,7 +64,7 @@ pub record Extends (plan : Plan) (s t : Seen) : Type 0 where
   pub room : (v : ℕ) → is_exhausted plan t v ≡ false
 
 -- two values of a variable that stand in a clear set are one
-one_value : (plan : Plan) (set : List Atom) → Facts plan set → (v : ℕ) (a b : Value) → has same_atom set (Is v a) ≡ true
+pub one_value : (plan : Plan) (set : List Atom) → Facts plan set → (v : ℕ) (a b : Value) → has same_atom set (Is v a) ≡ true
     → has same_atom set (Is v b) ≡ true → a ≡ b
 one_value plan set f v a b h k =
     elim (and_cases (v == v) (not (same_value a b)) (f.apart (Is v a) (Is v b) h k)) [

@@ -27,7 +27,7 @@ cell_grows p q f None e = e
 cell_grows p q f (Some a) e = f a e
 
 -- the cell of a row that has this one
-cell_is : (a : Value) (o : Option Value) → cell_passes (same_value a) o ≡ true → o ≡ Some a
+pub cell_is : (a : Value) (o : Option Value) → cell_passes (same_value a) o ≡ true → o ≡ Some a
 cell_is a None e = absurd (cc)
 cell_is a (Some b) e = ap Some (sym (value_exact a b e))
 
@@ -84,7 +84,7 @@ agreed_below plan v (column ∷ own) (row ∷ rows) (row' ∷ later) f some =
     ))
 
 -- a row that is possible in all columns is possible in the others of a variable
-others_possible : (plan : Plan) (t : Seen) (v : ℕ) (columns : List Binding)
+pub others_possible : (plan : Plan) (t : Seen) (v : ℕ) (columns : List Binding)
     → Implies (is_possible_in plan t columns) (is_possible_in plan t (other_columns v columns))
 others_possible plan t v columns row h = all_filter (is_possible plan t row) (λ column. not (is_column_of v column)) columns h
 

@@ -3,7 +3,7 @@ use Rattle.std.proofs.Common.{◌≡◌, ℕ, zero, suc, Bool, true, false, cond
 use Rattle.std.proofs.Common.{arith, subst}
 use Rattle.std.proofs.lemmas.Bool.{and_parts, ltb-true}
 use Rattle.std.proofs.lemmas.Str.{IsUtf8-from_ascii}
-use Rattle.std.specs.Prelude.{IsUtf8, IsAscii, not, ◌==◌, nat_lt, nat_le, slice_get, Some, codes, if◌then◌else◌}
+use Rattle.std.specs.Prelude.{◌^◌, IsUtf8, IsAscii, not, ◌==◌, nat_lt, nat_le, slice_get, Some, codes, if◌then◌else◌}
 use Rattle.std.specs.List.{list_all}
 use Rattle.vc_value.specs.Words.{same_bytes}
 use Rattle.vc_plan.specs.declared.plans.Plan.{Plan}
@@ -158,6 +158,8 @@ facts plan =
     ∷ fact (codes "column_limit") (list_all (λ table. nat_le (length table.columns) 20) plan.tables)
     ∷ fact (codes "line_limit") (each_slot plan (λ i. nat_le (length (lines_at plan i)) 1_000))
     ∷ fact (codes "operation_limit") (each_slot plan (λ i. nat_le (length (operations_at plan i)) 1_000))
+    ∷ fact (codes "procedure_limit") (nat_lt (length plan.procedures) (2 ^ 32))
+    ∷ fact (codes "statement_limit") (list_all (λ procedure. nat_lt (length procedure.statements) (2 ^ 32)) plan.procedures)
     ∷ []
 
 -- those that a plan breaks

@@ -15,7 +15,7 @@ use Rattle.vc_plan.specs.declared.procedures.Statement.{Statement}
 use Rattle.vc_plan.specs.Domains.{numbers_below}
 use Rattle.vc_plan.specs.Entries.{Entries, Written, with_entry, written_at}
 use Rattle.vc_plan.specs.Kleene.{is_true}
-use Rattle.vc_plan.specs.LookUps.{action_writes, writes_own}
+use Rattle.vc_plan.specs.LookUps.{named_by, writes_own}
 use Rattle.vc_plan.specs.Parts.{procedure_reading}
 use Rattle.vc_plan.specs.Readings.{Reading}
 use Rattle.vc_plan.specs.RuleShapes.{is_among, is_at}
@@ -70,7 +70,7 @@ value_stays v put None entries stays = refl
 value_stays v put (Some a) entries stays = stays a
 
 acted_stays : (plan : Plan) (seen : Seen) (reading : Reading) (place : Place) (v : ℕ) (action : Action) (entries : Entries)
-    → NoneOf v (action_writes action) → Stays v entries (acted plan seen reading place action entries)
+    → NoneOf v (named_by action) → Stays v entries (acted plan seen reading place action entries)
 acted_stays plan seen reading place v (Assign w term) entries none =
     value_stays v (with_hard plan place w) (value_at plan reading term) entries (λ a. hard_stays plan place v w a entries none.0)
 acted_stays plan seen reading place v (SetDefault w term) entries none =
@@ -83,7 +83,7 @@ acted_stays plan seen reading place v (LookUp table keys filled) entries none =
     row_stays plan place v filled (find (has_keys plan reading keys) (rows_of plan table)) entries none
 
 stated_stays : (plan : Plan) (seen : Seen) (holds : ℕ → ℕ → Bool) (place : Place) (v : ℕ) (statement : Statement) (entries : Entries)
-    → NoneOf v (action_writes statement.action) → Stays v entries (stated plan seen holds place statement entries)
+    → NoneOf v (named_by statement.action) → Stays v entries (stated plan seen holds place statement entries)
 stated_stays plan seen holds place v statement entries none =
     either v entries (is_true (truth_at plan (procedure_reading plan seen entries holds) statement.condition)) _ entries
     (acted_stays plan seen (procedure_reading plan seen entries holds) place v statement.action entries none) refl
@@ -99,14 +99,14 @@ apart_at plan slots v (w ∷ ws) outside inside =
     differ e = cc
 
 all_stated_stay : (plan : Plan) (seen : Seen) (holds : ℕ → ℕ → Bool) (slots : List ℕ) (p n v : ℕ) (statements : List Statement) (entries : Entries)
-    → is_at plan slots v ≡ false → list_all (λ statement. list_all (is_at plan slots) (action_writes statement.action)) statements ≡ true
+    → is_at plan slots v ≡ false → list_all (λ statement. list_all (is_at plan slots) (named_by statement.action)) statements ≡ true
     → Stays v entries (all_stated plan seen holds p n statements entries)
 all_stated_stay plan seen holds slots p n v [] entries outside inside = refl
 all_stated_stay plan seen holds slots p n v (statement ∷ statements) entries outside inside =
-    let parts = and_parts (list_all (is_at plan slots) (action_writes statement.action)) (list_all (λ s. list_all (is_at plan slots) (action_writes s.action)) statements) inside in
+    let parts = and_parts (list_all (is_at plan slots) (named_by statement.action)) (list_all (λ s. list_all (is_at plan slots) (named_by s.action)) statements) inside in
     all_stated_stay plan seen holds slots p (n + 1) v statements (stated plan seen holds (record { procedure = p; statement = n }) statement entries) outside parts.1
     ∙ stated_stays plan seen holds (record { procedure = p; statement = n }) v statement entries
-    (apart_at plan slots v (action_writes statement.action) outside parts.0)
+    (apart_at plan slots v (named_by statement.action) outside parts.0)
 
 -- a procedure of the plan writes at its own slot
 own : (plan : Plan) (procedures : List Procedure) (p : ℕ) (procedure : Procedure) → list_all (writes_own plan) procedures ≡ true

@@ -33,7 +33,7 @@ gear = record empty {
   lines = line 0 0 [] ∷ line 0 1 [] ∷ line 0 0 [] ∷ [];
 }
 
-abbrev two_and_a_half : Value
+abbrev pub two_and_a_half : Value
 two_and_a_half = number (pos 2_500_000)
 
 -- a weight is missing, so there is no total

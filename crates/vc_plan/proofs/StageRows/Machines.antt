@@ -62,7 +62,7 @@ in_time_runs : ends_at brought (chosen []) (Here 0 ∷ Is 0 (Text 0) ∷ Here 1 
 in_time_runs = refl
 
 -- a drive that another drive's procedure brings comes too late for its own, and isn't given its power
-abbrev two_drives : Plan
+abbrev pub two_drives : Plan
 two_drives = record empty {
   domains = Texts (0 ∷ 1 ∷ []) ∷ Texts (2 ∷ 3 ∷ []) ∷ [];
   slots = root ∷ record { parent = Some 0; depth = 1; object = 1; line = 0 } ∷ record { parent = Some 0; depth = 1; object = 1; line = 1 } ∷ [];

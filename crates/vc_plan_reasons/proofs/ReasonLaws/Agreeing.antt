@@ -3,7 +3,7 @@ use Rattle.std.proofs.Common.{◌≡◌, ℕ, true, not, ◌&&◌, List, [], ◌
 use Rattle.std.specs.Prelude.{Option, None, Some, option_map, slice_get}
 use Rattle.std.specs.List.{list_all}
 use Rattle.vc_base.specs.Sets.{has, Within}
-use Rattle.vc_base.proofs.SetLaws.{both, has_first, has_more}
+use Rattle.vc_base.proofs.SetLaws.{has_first, has_more}
 use Rattle.vc_value.specs.declared.value.Value.{Value}
 use Rattle.vc_plan.specs.declared.atoms.Atom.{Atom}
 use Rattle.vc_plan.specs.declared.atoms.Atom.TheVariants.{Here, Out, Is}
@@ -16,21 +16,16 @@ use Rattle.vc_plan.specs.declared.terms.Term.TheVariants.{Literal, Read, PartSum
 use Rattle.vc_plan.specs.Clear.{is_clear}
 use Rattle.vc_plan.specs.Kleene.{kleene_not, kleene_and, kleene_or}
 use Rattle.vc_plan.specs.Numbers.{applied, joined}
-use Rattle.vc_plan.specs.Pieces.{same_value}
 use Rattle.vc_plan.specs.Reads.{vars_in, vars_read, vars_of_term, vars_of_condition}
 use Rattle.vc_plan.specs.Readings.{net_reading}
 use Rattle.vc_plan.specs.Seen.{Seen, same_atom, seen_of, value_in, is_slot_here, is_left_by, is_left}
 use Rattle.vc_plan.specs.Truth.{number_of_value, value_of_number, number, term_value, compared, is_in, specified, truth, truth_at, value_at, truth_in, value_in_term}
 use Rattle.std.specs.Option.{option_to_list}
-use Rattle.std.proofs.lemmas.Bool.{and_cases, eq-eqb, not-false}
-use Rattle.vc_plan.proofs.PlanLaws.Atoms.{value_exact}
-use Rattle.vc_plan.proofs.PlanLaws.Extending.{value_has, value_read}
+use Rattle.vc_plan.proofs.PlanLaws.Extending.{one_value, value_has, value_read}
 use Rattle.vc_plan.proofs.PlanLaws.Facts.{Facts, facts}
 use Rattle.vc_plan_reasons.specs.Laws.{AreAlike}
 use Rattle.vc_plan_reasons.specs.Things.{Thing, slot_at, var_at, same_thing, has_thing}
 use Rattle.vc_plan_reasons.proofs.ReasonLaws.Reaching.{thing_exact, thing_itself}
-use Rattle.std.specs.Prelude.{◌==◌}
-use Rattle.std.proofs.Common.{inl, inr}
 
 -- two sets say the same of a variable, of variables, and of slots
 pub record SameVar (s t : Seen) (v : ℕ) : Type 0 where
@@ -86,16 +81,6 @@ agree_slots things s t a (i ∷ is) w = (
   agree_slots things s t a is (λ x h. w x (has_more same_thing thing_exact thing_itself (slot_at i) (map slot_at is) x h)),
 )
 
--- a value of a clear set is the only one
-only : (plan : Plan) (set : List Atom) → Facts plan set → (v : ℕ) (a b : Value) → has same_atom set (Is v a) ≡ true
-    → has same_atom set (Is v b) ≡ true
-    → a ≡ b
-only plan set f v a b h k =
-    elim (and_cases (v == v) (not (same_value a b)) (f.apart (Is v a) (Is v b) h k)) [
-      | inl e ↦ absurd (both (eq-eqb v v refl) e)
-      | inr e ↦ value_exact a b (not-false (same_value a b) e)
-    ]
-
 same_value_read : (plan : Plan) (set other : List Atom) → Facts plan other → (v : ℕ)
     → ((a : Value) → has same_atom set (Is v a) ≡ has same_atom other (Is v a)) → (o p : Option Value) → value_in set v ≡ o
     → value_in other v ≡ p → o ≡ p
@@ -109,7 +94,7 @@ same_value_read plan set other f v h (Some a) None d e =
     let no : None ≡ Some r.0 = sym e ∙ r.1 in
     absurd (cc)
 same_value_read plan set other f v h (Some a) (Some b) d e =
-    ap Some (only plan other f v a b (sym (h a) ∙ value_has set v a d) (value_has other v b e))
+    ap Some (one_value plan other f v a b (sym (h a) ∙ value_has set v a d) (value_has other v b e))
 
 -- clear sets with the same atoms of things say the same of them
 pub alike_agree : (plan : Plan) (things : List Thing) (set other : List Atom) → is_clear plan other ≡ true

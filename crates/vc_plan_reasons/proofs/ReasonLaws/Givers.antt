@@ -1,5 +1,5 @@
 -- What gives something is a giver of the plan, and an accepted step's conclusion is given by one.
-use Rattle.std.proofs.Common.{◌≡◌, ℕ, zero, suc, ◌+◌, ◌<◌, ◌≤◌, true, cond, ◌&&◌, List, ◌++◌, length, map, refl, ap, inl, inr, arith}
+use Rattle.std.proofs.Common.{◌≡◌, ℕ, zero, suc, ◌+◌, ◌<◌, ◌≤◌, true, cond, ◌&&◌, ◌⊎◌, List, ◌++◌, length, map, refl, sym, ap, ◌∙◌, inl, inr, arith}
 use Rattle.std.specs.Prelude.{Option, None, Some, slice_get}
 use Rattle.std.specs.List.{range_with_len}
 use Rattle.std.proofs.lemmas.Bool.{and_parts, ltb-true, cases_lt}
@@ -90,6 +90,21 @@ pub giving_in : (plan : Plan) (sources : Sources) (giver : Giver) (set : List At
     → has same_atom (atoms_of (gives plan sources giver (seen_of set))) a ≡ true → IsIn giver (givers_of plan)
 giving_in plan sources giver set a h =
     giver_in plan sources giver (seen_of set) (not_nothing_atom (gives plan sources giver (seen_of set)) a h)
+
+-- the variable of a source that gives something is one of the plan
+pub giver_var_there : (plan : Plan) (sources : Sources) (giver : Giver) (v : ℕ) → (giver ≡ by_user v) ⊎ (giver ≡ by_entry v)
+    → (set : List Atom) (a : Atom)
+    → has same_atom (atoms_of (gives plan sources giver (seen_of set))) a ≡ true → v < length plan.vars
+giver_var_there plan sources giver v (inl e) set a h =
+    let given : has same_atom (atoms_of (gives plan sources (by_user v) (seen_of set))) a ≡ true
+    = ap (λ g. has same_atom (atoms_of (gives plan sources g (seen_of set))) a) (sym e) ∙ h in
+    var_there plan (seen_of set) v (value_says v (user_of sources v)) (slice_get plan.vars v) refl
+    (not_nothing_atom (gives plan sources (by_user v) (seen_of set)) a given)
+giver_var_there plan sources giver v (inr e) set a h =
+    let given : has same_atom (atoms_of (gives plan sources (by_entry v) (seen_of set))) a ≡ true
+    = ap (λ g. has same_atom (atoms_of (gives plan sources g (seen_of set))) a) (sym e) ∙ h in
+    var_there plan (seen_of set) v (entry_says v (entry_of sources v)) (slice_get plan.vars v) refl
+    (not_nothing_atom (gives plan sources (by_entry v) (seen_of set)) a given)
 
 -- what follows: its premises are clear, and a giver of the plan gives it at them
 pub record Following (plan : Plan) (sources : Sources) (step : Step) (premises : List Atom) : Type 0 where

@@ -33,7 +33,7 @@ use Rattle.vc_plan.specs.Sources.{Sources, user_of, entry_of}
 use Rattle.vc_plan.specs.TableRows.{rows_of, cell_passes, fits, is_possible, is_possible_in, is_column_of, columns_of, other_columns, missing_grains, agreed, for_variable, narrowed, by_table}
 use Rattle.vc_plan.specs.Truth.{compared, truth_at, value_at}
 use Rattle.vc_plan.proofs.PlanLaws.Atoms.{atom_exact, atom_itself}
-use Rattle.vc_plan_reasons.specs.Laws.{GivesLocally}
+use Rattle.vc_plan_reasons.specs.Laws.{GivesLocally, RulesIgnoreSources, SaysLocally}
 use Rattle.vc_plan_reasons.specs.Things.{Thing, slot_at, var_at, same_thing, has_thing, thing_of, slots_of_var, vars_of_operand, vars_of_column, vars_of_kind, slots_of_kind, rule_reads, reads_in, giver_reads, giver_writes}
 use Rattle.vc_plan_reasons.proofs.ReasonLaws.Agreeing.{SameVar, SameVars, SameSlots, Agree, vars_front, vars_back, vars_join, slots_front, slots_back, agree_vars, agree_slots, alike_agree, slots_all, slot_same, left_same, out_same, value_same, truth_same}
 use Rattle.vc_plan_reasons.proofs.ReasonLaws.Reaching.{thing_exact, thing_itself}
@@ -239,11 +239,18 @@ source_agrees plan s t v said g =
     (slot_same s t (slot_in (slice_get plan.vars v))
     (agree_slots (map slot_at (slots_of_var plan v)) s t g (slots_of_var plan v) (λ a h. h)))
 
-giver_agrees : (plan : Plan) (sources : Sources) (giver : Giver) (s t : Seen) → Agree (giver_reads plan giver) s t
+pub giver_agrees : (plan : Plan) (sources : Sources) (giver : Giver) (s t : Seen) → Agree (giver_reads plan giver) s t
     → giver_says plan sources giver s ≡ giver_says plan sources giver t
 giver_agrees plan sources (by_rule r) s t g = rule_agrees plan s t (slice_get plan.rules r) g
 giver_agrees plan sources (by_user v) s t g = source_agrees plan s t v (value_says v (user_of sources v)) g
 giver_agrees plan sources (by_entry v) s t g = source_agrees plan s t v (entry_says v (entry_of sources v)) g
+
+pub says_locally : SaysLocally
+says_locally plan sources giver set other clear alike =
+    giver_agrees plan sources giver (seen_of set) (seen_of other) (alike_agree plan (giver_reads plan giver) set other clear alike)
+
+pub rules_ignore_sources : RulesIgnoreSources
+rules_ignore_sources plan sources others r seen = refl
 
 pub gives_locally : GivesLocally
 gives_locally plan sources giver set other clear alike =

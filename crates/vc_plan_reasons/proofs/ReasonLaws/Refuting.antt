@@ -1,6 +1,6 @@
 -- Where a clash refutes, no set is closed, and so settling is broken.
 use Rattle.std.proofs.Common.{◌≡◌, ℕ, zero, suc, ◌<◌, Bool, true, false, cond, not, ◌&&◌, ◌||◌, List, [], ◌∷◌, length, map, refl, sym, ◌∙◌, ap, inl, inr}
-use Rattle.std.specs.Prelude.{Option, None, Some, ◌==◌}
+use Rattle.std.specs.Prelude.{Option, None, Some, slice_get, ◌==◌}
 use Rattle.std.specs.List.{list_all, list_any}
 use Rattle.std.proofs.lemmas.Bool.{and_parts, eqb-true, or_cases, not-true}
 use Rattle.vc_base.specs.Chains.{all_pass, cited}
@@ -17,6 +17,7 @@ use Rattle.vc_plan.specs.declared.atoms.Origin.{Origin}
 use Rattle.vc_plan.specs.declared.atoms.Origin.TheVariants as origins
 use Rattle.vc_plan.specs.declared.atoms.Step.{Step}
 use Rattle.vc_plan.specs.declared.plans.Plan.{Plan}
+use Rattle.vc_plan.specs.declared.rules.Rule.{Rule as PlanRule}
 use Rattle.vc_plan.specs.Clear.{is_clear}
 use Rattle.vc_plan.specs.Domains.{numbers_below}
 use Rattle.vc_plan.specs.Gives.{Giver, by_rule, by_entry, gives, givers_of}
@@ -29,7 +30,7 @@ use Rattle.vc_plan.proofs.PlanLaws.Facts.{part_clear}
 use Rattle.vc_plan.proofs.PlanLaws.Givers.{clashes_stay}
 use Rattle.vc_plan_reasons.specs.Checking.{are_of, concluded, follows, given_by, giver_from, giver_of, is_accepted, is_by, set_with, step_form, things_read, var_of}
 use Rattle.vc_plan_reasons.specs.Laws.{IsGuilty, RefutingBlames, RefutingBreaks}
-use Rattle.vc_plan_reasons.specs.Refuting.{culprit_clashes, culprit_reads, entry_clashes, is_blamable, is_clash_at, is_collision, is_origin, contradicts, refutes, set_without}
+use Rattle.vc_plan_reasons.specs.Refuting.{culprit_clashes, culprit_reads, entry_clashes, is_blamable, is_clash_at, is_collision, is_of_constraint, is_origin, is_restriction, contradicts, refutes, set_without}
 use Rattle.vc_plan_reasons.proofs.ReasonLaws.Closed.{Settled, all_stand, conclusions_stand, settled_closed}
 use Rattle.vc_plan_reasons.proofs.ReasonLaws.Givers.{clashing_in, following, rooted}
 
@@ -210,6 +211,17 @@ clash_wrote plan sources procedure statement set e =
     let by = is_by procedure statement (entry_of sources r.0) in
     (r.0, (and_parts by (is_clash (gives plan sources (by_entry r.0) (seen_of set))) r.2).0)
 
+-- a rule that can be to blame is of no last grain and of no line
+restriction_guilty : (plan : Plan) (sources : Sources) (r : ℕ) (o : Option PlanRule) → slice_get plan.rules r ≡ o → is_of_constraint o ≡ true
+    → IsGuilty plan sources (Rule r)
+restriction_guilty plan sources r None is blamable = absurd (cc)
+restriction_guilty plan sources r (Some rule) is blamable = (
+  rule,
+  is,
+  λ v e. both blamable (ap is_restriction e),
+  λ i e. both blamable (ap is_restriction e),
+)
+
 -- whoever is to blame is guilty
 blamed_guilty : (plan : Plan) (sources : Sources) (culprit : Culprit) (steps : List Step) (numbers : List ℕ)
     (premises : List Atom)
@@ -217,7 +229,8 @@ blamed_guilty : (plan : Plan) (sources : Sources) (culprit : Culprit) (steps : L
     → (is_clash_at plan sources culprit premises
     || is_collision plan culprit premises (cited (map (λ step. step.origin) steps) numbers)) ≡ true
     → IsGuilty plan sources culprit
-blamed_guilty plan sources (Rule r) steps numbers premises e blamable h = blamable
+blamed_guilty plan sources (Rule r) steps numbers premises e blamable h =
+    restriction_guilty plan sources r (slice_get plan.rules r) refl blamable
 blamed_guilty plan sources (Written procedure statement) steps numbers premises e blamable h =
     let culprit = Written procedure statement in
     let by = cited (map (λ step. step.origin) steps) numbers in

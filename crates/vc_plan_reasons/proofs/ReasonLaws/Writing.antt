@@ -112,7 +112,7 @@ w_confined things plan s v test e =
     (λ n. w_last things plan v (left_with plan s v test) e))
 
 -- a variable that the rule infers, among those of its restriction, is written
-has_var : (vs : List ℕ) (v : ℕ) → has nat_eq vs v ≡ true → has_thing (map var_at vs) (var_at v) ≡ true
+pub has_var : (vs : List ℕ) (v : ℕ) → has nat_eq vs v ≡ true → has_thing (map var_at vs) (var_at v) ≡ true
 has_var [] v h = h
 has_var (w ∷ vs) v h =
     elim (has_cases nat_eq number_exact number_itself w vs v h) [

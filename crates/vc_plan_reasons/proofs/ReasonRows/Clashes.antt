@@ -15,6 +15,7 @@ use Rattle.vc_plan.specs.declared.conditions.Relation.TheVariants.{Equal}
 use Rattle.vc_plan.specs.Sources.{Sources}
 use Rattle.vc_plan.proofs.PlanRows.Models.{empty, root, open_var, rule, pump, users, whole}
 use Rattle.vc_plan.proofs.StageRows.Paints.{paint}
+use Rattle.vc_plan_reasons.specs.Checking.{is_whole}
 use Rattle.vc_plan_reasons.specs.Refuting.{is_trimmed_clash, refutes}
 use Rattle.vc_plan_reasons.proofs.ReasonRows.Steps.{step, by_user, clash_of, large_size, no_e1, no_e2}
 
@@ -28,6 +29,13 @@ chosen = by_user 0 (Text 0) ∷ by_user 1 (Text 5) ∷ by_user 2 (whole 5) ∷ [
 -- the table has no row of both
 table_clashes : refutes pump small_e3 (clash_of chosen (culprits.Rule 0) (1 ∷ 2 ∷ [])) ≡ true
 table_clashes = refl
+
+-- the two values are clear and say all that the user set; but the table still clashes, so they aren't whole
+clash_left : is_whole pump (users (Some (Text 0) ∷ Some (Text 5) ∷ [])) (by_user 0 (Text 0) ∷ by_user 1 (Text 5) ∷ []) ≡ false
+clash_left = refl
+
+clash_is_silent : is_whole pump (users (Some (Text 0) ∷ Some (Text 5) ∷ [])) (by_user 0 (Text 0) ∷ by_user 1 (Text 5) ∷ []) ≢ true
+clash_is_silent e = cc
 
 -- of the size alone there is a row
 size_alone : refutes pump small_e3 (clash_of chosen (culprits.Rule 0) (1 ∷ [])) ≡ false

@@ -4,7 +4,7 @@ use Rattle.std.specs.Prelude.{Option, None, Some, ◌≢◌}
 use Rattle.vc_value.specs.declared.value.Value.{Value}
 use Rattle.vc_value.specs.declared.value.Value.TheVariants.{Text}
 use Rattle.vc_plan.specs.declared.atoms.Atom.TheVariants.{Is}
-use Rattle.vc_plan.specs.declared.atoms.Mark.TheVariants.{Held}
+use Rattle.vc_plan.specs.declared.atoms.Mark.TheVariants.{Held, Outside}
 use Rattle.vc_plan.specs.declared.atoms.Origin.TheVariants.{Rule, Written}
 use Rattle.vc_plan.specs.declared.atoms.Step.{Step}
 use Rattle.vc_plan.specs.Sources.{Sources}
@@ -78,3 +78,31 @@ value_alone e = cc
 user_gone : kept_of (written (Text 2) 0) (record (written (Text 2) 0) { user = [] })
     (green ∷ by_user 0 (Text 2) ∷ []) ≡ green ∷ []
 user_gone = refl
+
+-- an entry that differs changes its variable, though the user's value is the same; one outside is the same as another outside
+entry_changed : changed pump (written (Text 2) 0) (written (Text 2) 1) ≡ 0 ∷ []
+entry_changed = refl
+
+user_alone : changed pump (written (Text 2) 0) (written (Text 2) 1) ≢ []
+user_alone e = cc
+
+value_changed : changed pump (written (Text 2) 0) (written (Text 1) 0) ≡ 0 ∷ []
+value_changed = refl
+
+abbrev outside : ℕ → Sources
+outside procedure = record { user = []; written = Some (record { mark = Outside; procedure = procedure; statement = 0 }) ∷ [] }
+
+still_outside : changed pump (outside 1) (outside 1) ≡ []
+still_outside = refl
+
+outside_anew : changed pump (outside 1) (outside 1) ≢ 0 ∷ []
+outside_anew e = cc
+
+outside_now : changed pump (record (written (Text 2) 0) { user = [] }) (record (outside 1) { user = [] }) ≡ 0 ∷ []
+outside_now = refl
+
+by_another : changed pump (outside 1) (outside 2) ≡ 0 ∷ []
+by_another = refl
+
+entry_gone : changed pump (outside 1) (record { user = []; written = [] }) ≡ 0 ∷ []
+entry_gone = refl

@@ -1,5 +1,5 @@
 -- The status of broken evaluations, and of others.
-use Rattle.std.proofs.Common.{◌≡◌, ℕ, zero, suc, true, [], ◌∷◌, refl, subst}
+use Rattle.std.proofs.Common.{◌≡◌, ℕ, zero, suc, true, [], ◌∷◌, refl, sym, ap, subst}
 use Rattle.std.specs.Prelude.{None, Some}
 use Rattle.vc_value.specs.declared.value.Value.TheVariants.{Text}
 use Rattle.vc_plan.specs.declared.atoms.Atom.TheVariants.{Is}
@@ -9,7 +9,7 @@ use Rattle.vc_plan.specs.declared.atoms.Origin.TheVariants.{Written}
 use Rattle.vc_plan.specs.declared.shown.Status.TheVariants.{Complete, Contradiction}
 use Rattle.vc_plan.specs.Evaluate.{Users, sources_of}
 use Rattle.vc_plan.specs.Sources.{Sources, entry_of}
-use Rattle.vc_plan.proofs.PlanRows.Models.{pump}
+use Rattle.vc_plan.proofs.PlanRows.Models.{last, pump}
 use Rattle.vc_plan.proofs.StageRows.Paints.{paint}
 use Rattle.vc_plan.proofs.StageRows.StageModels.{chosen, breaks_at}
 use Rattle.vc_plan_reasons.specs.Blaming.{IsStatus}
@@ -45,7 +45,9 @@ last_blamed (clash, refuted, is) =
     let culprit : clash.culprit ≡ culprits.Rule 0 = cc in
     let guilty : IsGuilty paint at_1 (culprits.Rule 0)
     = subst (IsGuilty paint at_1) culprit (refuting_blames paint at_1 clash refuted) in
-    cc
+    let is_first : Some (last 0) ≡ Some guilty.0 = guilty.1 in
+    let same : last 0 ≡ guilty.0 = cc is_first in
+    guilty.2 0 (ap (λ rule. rule.kind) (sym same))
 
 no_default : (v : ℕ) → is_by 0 0 (entry_of at_1 v) ≡ true → ⊥
 no_default zero e = cc
