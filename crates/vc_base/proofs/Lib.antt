@@ -2,6 +2,7 @@ pub mod ChainLaws
 pub mod Counting
 pub mod KeptLaws
 pub mod LeastLaws
+pub mod ListLaws
 pub mod RunLaws
 pub mod SetLaws
 pub mod Settling

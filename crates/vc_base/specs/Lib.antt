@@ -1,7 +1,8 @@
 pub mod Chains
 pub mod Growing
 pub mod Kept
+pub mod Numbers
 pub mod Rounds
+pub mod Runs
 pub mod Sets
 pub mod Spreading
-pub mod Runs

@@ -1,7 +1,7 @@
 //! A call that failed, and calls in memory of which some are to fail.
 
-ghost use Rattle.std.specs.Prelude.{◌≡◌, ◌+◌, ◌-◌, ◌^◌, ◌<◌, ◌≤◌, ◌↔◌, [], ◌∷◌, ◌++◌, min, IsTrue, Contains, OnOk, OnErr};
-ghost use Rattle.vc_outside.specs.Faults.{faults_of};
+ghost use Rattle.std.specs.Prelude.{◌≡◌, ◌<◌, ◌≤◌, [], ◌∷◌, ◌++◌, false, IsTrue, OnOk, OnErr};
+ghost use Rattle.vc_outside.specs.Faults.{faults_of, next_fails, with_call};
 
 use std::alloc::{AllocError, Global};
 use std::marker::Model;
@@ -47,11 +47,11 @@ impl Failures {
 
     /// Counts one call more, and answers whether it is to fail.
     pub(crate) fn next_fails(&mut self) -> bool
-        ensures made { self.new.made ≡ min (self.old.made + 1) (2 ^ 64 - 1) }
-        ensures failing { self.new.failing ≡ self.old.failing }
-        ensures fails { IsTrue result ↔ ((self.new.made ≡ self.old.made + 1) × Contains self.old.failing self.new.made) }
+        ensures fails { result ≡ next_fails self.old }
+        ensures made { self.new ≡ with_call self.old }
         ensures later { faults_of self.old ≤ faults_of self.new }
         ensures raised { IsTrue result → faults_of self.old < faults_of self.new }
+        ensures calm { result ≡ false → faults_of self.new ≡ faults_of self.old }
     {
         match self.made.checked_add(1) {
             Some(made) => {

@@ -1,6 +1,6 @@
 //! A file read whole, up to a limit.
 
-ghost use Rattle.std.specs.Prelude.{◌≡◌, ◌≤◌, vec_len, IfOk};
+ghost use Rattle.std.specs.Prelude.{◌≡◌, ◌≤◌, vec_len, IfOk, OnOk};
 ghost use Rattle.std.specs.Result.{IsErrOf};
 ghost use Rattle.vc_outside.specs.Faults.{Raised};
 ghost use Rattle.vc_outside.specs.Shelves.{Holds, Lacks, Exceeds};
@@ -50,6 +50,7 @@ pub fn read_whole<F: Shelf>(alloc: Global, shelf: &mut F, name: &str) -> Result<
     ensures failed { IsErrOf result FileFault.Failed → Raised (F.faults shelf.old) (F.faults shelf.new) }
     ensures files { F.files shelf.new ≡ F.files shelf.old }
     ensures later { F.faults shelf.old ≤ F.faults shelf.new }
+    ensures calm { OnOk result (F.faults shelf.new ≡ F.faults shelf.old) }
 {
     match shelf.begin(name)? {
         Found::There => {}

@@ -1,9 +1,11 @@
 //! Files in memory, for tests.
 
-ghost use Rattle.std.specs.Prelude.{◌≡◌, ◌+◌, ◌-◌, ◌^◌, ◌<◌, ◌≤◌, [], ◌∷◌, ◌++◌, take, drop, length, min, is_some, IfSome, IfNone, OnOk, OnErr};
-ghost use Rattle.vc_outside.specs.Faults.{faults_of};
-ghost use Rattle.vc_outside.specs.Shelves.{content_of};
-ghost use Rattle.vc_outside.specs.MemoryShelves.{content_at, left_at};
+ghost use Rattle.std.specs.Prelude.{◌≡◌, ◌+◌, ◌-◌, ◌^◌, ◌<◌, ◌≤◌, ◌↔◌, [], ◌∷◌, ◌++◌, take, drop, length, min, is_some, unwrap_or, Some, Ok, IsTrue, IfOk, IfSome, IfNone, OnOk, OnErr};
+ghost use Rattle.std.specs.Io.{ReadsAtMost};
+ghost use Rattle.std.specs.Io.KnownBytes.{ReadConsumes};
+ghost use Rattle.vc_outside.specs.Faults.{faults_of, HasCause};
+ghost use Rattle.vc_outside.specs.Shelves.{content_of, Begins};
+ghost use Rattle.vc_outside.specs.MemoryShelves.{content_at, left_at, begin_answer, with_begun, read_answer, with_read};
 
 use crate::fault::{Failed, Failures};
 use crate::shelf::{Found, Shelf};
@@ -89,7 +91,7 @@ impl MemShelf {
 }
 
 impl Shelf for MemShelf {
-    ghost use Rattle.std.specs.Prelude.{Some, unwrap_or};
+    ghost use Rattle.std.specs.Prelude.{Some, unwrap_or, is_some};
 
     ghost files = { λ s. Some s.files };
 
@@ -99,7 +101,15 @@ impl Shelf for MemShelf {
 
     ghost faults = { λ s. faults_of s.calls };
 
-    fn begin(&mut self, name: &str) -> Result<Found, Failed> {
+    // It fails where the call is one that is to fail, and nowhere else.
+    fn begin(&mut self, name: &str) -> Result<Found, Failed>
+        ensures found { IfOk result (λ found. Begins (Some self.old.files) name.now found (Some (unwrap_or self.new.left []))) }
+        ensures begun { IsTrue (is_some self.new.left) ↔ (result ≡ Ok Found.There) }
+        ensures files { Some self.new.files ≡ Some self.old.files }
+        ensures cause { HasCause (faults_of self.old.calls) (faults_of self.new.calls) result }
+        ensures answer { result ≡ begin_answer self.old name.now }
+        ensures state { self.new ≡ with_begun self.old name.now }
+    {
         self.begun = None;
         if self.failures.next_fails() {
             return Err(Failed);
@@ -113,7 +123,17 @@ impl Shelf for MemShelf {
         }
     }
 
-    fn read(&mut self, buffer: &mut [u8]) -> Result<usize, Failed> {
+    // It fails where the call is one that is to fail, and nowhere else.
+    fn read(&mut self, buffer: &mut [u8]) -> Result<usize, Failed>
+        requires { IsTrue (is_some self.old.left) }
+        ensures within { ReadsAtMost result buffer.new }
+        ensures bytes { ReadConsumes (Some (unwrap_or self.old.left [])) (Some (unwrap_or self.new.left [])) result buffer.new }
+        ensures begun { IsTrue (is_some self.new.left) }
+        ensures files { Some self.new.files ≡ Some self.old.files }
+        ensures cause { HasCause (faults_of self.old.calls) (faults_of self.new.calls) result }
+        ensures answer { result ≡ read_answer self.old (length buffer.old) }
+        ensures state { self.new ≡ with_read self.old (length buffer.old) }
+    {
         if self.failures.next_fails() {
             return Err(Failed);
         }

@@ -1,7 +1,10 @@
 //! A sink in memory, for tests.
 
-ghost use Rattle.std.specs.Prelude.{◌≡◌, ◌+◌, ◌-◌, ◌^◌, ◌<◌, ◌≤◌, [], ◌∷◌, ◌++◌, length, vec_len, IfOk, OnOk, OnErr};
-ghost use Rattle.vc_outside.specs.Faults.{faults_of};
+ghost use Rattle.std.specs.Prelude.{◌≡◌, ◌+◌, ◌-◌, ◌^◌, ◌<◌, ◌≤◌, [], ◌∷◌, ◌++◌, length, vec_len, Some, Ok, IfOk, OnOk, OnErr};
+ghost use Rattle.std.specs.Io.{WritesAtMost};
+ghost use Rattle.std.specs.Io.KnownBytes.{Keeps, WriteAppends};
+ghost use Rattle.vc_outside.specs.Faults.{faults_of, HasCause};
+ghost use Rattle.vc_outside.specs.MemorySinks.{write_answer, with_written};
 
 use crate::fault::{Failed, Failures};
 use crate::sink::Sink;
@@ -65,7 +68,15 @@ impl Sink for MemSink {
 
     ghost faults = { λ s. faults_of s.calls + s.refused };
 
-    fn write(&mut self, bytes: &[u8]) -> Result<usize, Failed> {
+    // It fails where the call is one that is to fail or no byte finds room, and nowhere else.
+    fn write(&mut self, bytes: &[u8]) -> Result<usize, Failed>
+        ensures within { WritesAtMost result bytes.now }
+        ensures moves { 0 < length bytes.now → IfOk result (λ taken. 0 < taken) }
+        ensures bytes { WriteAppends (Some self.old.written) (Some self.new.written) result bytes.now }
+        ensures cause { HasCause (faults_of self.old.calls + self.old.refused) (faults_of self.new.calls + self.new.refused) result }
+        ensures answer { result ≡ write_answer self.old bytes.now }
+        ensures state { self.new ≡ with_written self.old bytes.now }
+    {
         if self.failures.next_fails() {
             return Err(Failed);
         }
@@ -78,5 +89,15 @@ impl Sink for MemSink {
             Ok(()) => Ok(taken),
             Err(_) => unreachable!(),
         }
+    }
+
+    // Nothing is kept back.
+    fn flush(&mut self) -> Result<(), Failed>
+        ensures bytes { Keeps (Some self.old.written) (Some self.new.written) }
+        ensures cause { HasCause (faults_of self.old.calls + self.old.refused) (faults_of self.new.calls + self.new.refused) result }
+        ensures answer { result ≡ Ok tt }
+        ensures state { self.new ≡ self.old }
+    {
+        Ok(())
     }
 }

@@ -2,7 +2,7 @@
 
 ghost use Rattle.std.specs.Prelude.{◌≡◌, ℕ, List, Option, ◌<◌, ◌≤◌, length, IfOk, OnOk, OnErr};
 ghost use Rattle.std.specs.Io.{WritesAtMost};
-ghost use Rattle.std.specs.Io.KnownBytes.{WriteAppends, Appends};
+ghost use Rattle.std.specs.Io.KnownBytes.{Keeps, WriteAppends, Appends};
 ghost use Rattle.vc_outside.specs.Faults.{HasCause};
 ghost use Rattle.vc_outside.specs.Sinks.{AppendsFront};
 
@@ -23,9 +23,16 @@ pub trait Sink {
         ensures moves { 0 < length bytes.now → IfOk result (λ taken. 0 < taken) }
         ensures bytes { WriteAppends (written self.old) (written self.new) result bytes.now }
         ensures cause { HasCause (faults self.old) (faults self.new) result };
+
+    /// Hands on what the sink keeps back of the bytes that were written. Also after an error these
+    /// are written, though they may not have come to where the sink hands them.
+    fn flush(&mut self) -> Result<(), Failed>
+        ensures bytes { Keeps (written self.old) (written self.new) }
+        ensures cause { HasCause (faults self.old) (faults self.new) result };
 }
 
-/// Writes the whole piece. After an error a front of it was written.
+/// Writes the whole piece and flushes it. After an error a front of it was written, which is all of
+/// it where the flush failed.
 pub fn write_all<S: Sink>(sink: &mut S, bytes: &[u8]) -> Result<(), Failed>
     ensures ok { OnOk result (Appends (S.written sink.old) (S.written sink.new) bytes.now) }
     ensures err { OnErr result (AppendsFront (S.written sink.old) (S.written sink.new) bytes.now) }
@@ -36,5 +43,5 @@ pub fn write_all<S: Sink>(sink: &mut S, bytes: &[u8]) -> Result<(), Failed>
         let taken = sink.write(rest)?;
         rest = &rest[taken..];
     }
-    Ok(())
+    sink.flush()
 }

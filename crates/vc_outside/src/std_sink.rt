@@ -1,59 +1,53 @@
 //! A writer of std as a sink.
 
-ghost use Rattle.std.specs.Prelude.{◌≡◌, ◌≤◌, length, IfSome, None};
+ghost use Rattle.std.specs.Prelude.{◌≡◌, ◌≤◌};
+ghost use Rattle.vc_outside.specs.Faults.{Raised};
 
 use crate::fault::Failed;
 use crate::sink::Sink;
 use std::io::Write;
-use std::marker::Model;
 
-/// A writer of std, which tells nothing of what was written. Each piece is flushed. A contract sees
-/// the count of faults.
+/// A writer of std, which tells of what was written what the writer tells.
 #[derive(Drop)]
 pub struct StdSink<W> {
     inner: W,
     faults: u64,
 }
 
-impl<W> Model for StdSink<W> {
-    ghost use Rattle.std.specs.Prelude.{ℕ};
-
-    ghost Value = { ℕ };
-
-    ghost view = { λ s. s.faults };
-}
-
 impl<W: Write> StdSink<W> {
     /// A sink that writes to this writer, with no fault.
     pub fn new(inner: W) -> StdSink<W>
-        ensures { result ≡ 0 }
+        ensures { result ≡ record { inner = inner; faults = 0 } }
     {
         StdSink { inner, faults: 0 }
     }
 
-    // Writes and flushes, and answers how many bytes were taken, or None for an error.
-    fn put(&mut self, bytes: &[u8]) -> Option<usize>
-        ensures within { IfSome result (λ taken. taken ≤ length bytes.now) }
-        ensures faults { self.new ≡ self.old }
+    fn raise(&mut self) -> Failed
+        ensures later { self.old.faults ≤ self.new.faults }
+        ensures raised { Raised self.old.faults self.new.faults }
+        ensures inner { self.new.inner ≡ self.old.inner }
     {
-        let taken = self.inner.write(bytes).ok()?;
-        self.inner.flush().ok()?;
-        Some(taken)
+        self.faults = self.faults.saturating_add(1);
+        Failed
     }
 }
 
 impl<W: Write> Sink for StdSink<W> {
-    ghost written = { λ _. None };
+    ghost written = { λ s. W.contents s.inner };
 
-    ghost faults = { λ s. s };
+    ghost faults = { λ s. s.faults };
 
     fn write(&mut self, bytes: &[u8]) -> Result<usize, Failed> {
-        match self.put(bytes) {
-            Some(taken) if taken > 0 || bytes.is_empty() => Ok(taken),
-            _ => {
-                self.faults = self.faults.saturating_add(1);
-                Err(Failed)
-            }
+        match self.inner.write(bytes) {
+            Ok(taken) if taken > 0 || bytes.is_empty() => Ok(taken),
+            _ => Err(self.raise()),
+        }
+    }
+
+    fn flush(&mut self) -> Result<(), Failed> {
+        match self.inner.flush() {
+            Ok(()) => Ok(()),
+            Err(_) => Err(self.raise()),
         }
     }
 }

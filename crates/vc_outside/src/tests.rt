@@ -4,9 +4,11 @@ use crate::{
     FILE_LIMIT, Failed, FileFault, FileShelf, Found, MemShelf, MemSink, Shelf, Sink, StdSink,
     read_whole, write_all,
 };
+use std::io::{ErrorKind, Write};
+use std::os::unix::fs::{PermissionsExt, symlink};
 use std::test::Fail;
 use std::time::{SystemTime, UNIX_EPOCH};
-use std::{env, fs};
+use std::{env, fs, io};
 
 #[test]
 fn reads_files_in_memory(rt: HostRuntime) -> Result<(), Fail> {
@@ -76,6 +78,39 @@ fn reads_a_real_file(rt: HostRuntime) -> Result<(), Fail> {
     Ok(())
 }
 
+// A link to itself names no file, but the system doesn't say that there is none.
+#[test]
+fn tells_a_link_to_itself_as_a_fault(rt: HostRuntime) -> Result<(), Fail> {
+    let since_epoch = SystemTime::now(&rt)?.duration_since(UNIX_EPOCH)?;
+    let folder = env::temp_dir(&rt)?;
+    let link = format!(in rt.alloc(); "{}/link-{}", folder.as_str(), since_epoch.as_nanos())?;
+    symlink(&rt, link.as_str(), link.as_str())?;
+    let mut shelf = FileShelf::new(&rt);
+    let told = shelf.begin(link.as_str());
+    fs::remove_file(&rt, link.as_str())?;
+    assert_eq!(rt; told, Err(Failed));
+    Ok(())
+}
+
+// Whether the folder keeps its file from being read hangs on who runs the test; it hides none.
+#[test]
+fn finds_a_file_in_a_folder_that_may_not_be_read(rt: HostRuntime) -> Result<(), Fail> {
+    let since_epoch = SystemTime::now(&rt)?.duration_since(UNIX_EPOCH)?;
+    let place = env::temp_dir(&rt)?;
+    let folder = format!(in rt.alloc(); "{}/folder-{}", place.as_str(), since_epoch.as_nanos())?;
+    let path = format!(in rt.alloc(); "{}/plan", folder.as_str())?;
+    fs::create_dir(&rt, folder.as_str())?;
+    fs::write(&rt, path.as_str(), "MODEL PUMPS")?;
+    fs::set_permissions(&rt, folder.as_str(), fs::Permissions::from_mode(0))?;
+    let mut shelf = FileShelf::new(&rt);
+    let told = shelf.begin(path.as_str());
+    fs::set_permissions(&rt, folder.as_str(), fs::Permissions::from_mode(0o700))?;
+    fs::remove_file(&rt, path.as_str())?;
+    fs::remove_dir(&rt, folder.as_str())?;
+    assert!(rt; told != Ok(Found::Missing));
+    Ok(())
+}
+
 #[test]
 fn writes_through_a_writer(rt: HostRuntime) -> Result<(), Fail> {
     let mut room = [0u8; 4];
@@ -83,5 +118,34 @@ fn writes_through_a_writer(rt: HostRuntime) -> Result<(), Fail> {
     assert_eq!(rt; write_all(&mut sink, b"abc".as_slice()), Ok(()));
     assert_eq!(rt; sink.write(b"def".as_slice()), Ok(1));
     assert_eq!(rt; write_all(&mut sink, b"ef".as_slice()), Err(Failed));
+    Ok(())
+}
+
+// Takes all bytes and hands none on.
+#[derive(Drop)]
+struct Blocked {
+    taken: usize,
+}
+
+impl Write for Blocked {
+    fn write(&mut self, buf: &[u8]) -> io::Result<usize> {
+        self.taken = self.taken.saturating_add(buf.len());
+        Ok(buf.len())
+    }
+
+    fn flush(&mut self) -> io::Result<()> {
+        Err(ErrorKind::StorageFull.into())
+    }
+}
+
+#[test]
+fn tells_a_flush_that_failed(rt: HostRuntime) -> Result<(), Fail> {
+    let mut blocked = Blocked { taken: 0 };
+    let mut sink = StdSink::new(&mut blocked);
+    assert_eq!(rt; sink.write(b"abc".as_slice()), Ok(3));
+    assert_eq!(rt; sink.flush(), Err(Failed));
+    assert_eq!(rt; write_all(&mut sink, b"de".as_slice()), Err(Failed));
+    drop(sink);
+    assert_eq!(rt; blocked.taken, 5);
     Ok(())
 }

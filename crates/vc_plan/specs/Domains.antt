@@ -8,7 +8,7 @@ use Rattle.vc_plan.specs.declared.conditions.Piece.TheVariants.{OneText, Stretch
 use Rattle.vc_plan.specs.declared.plans.Plan.{Plan}
 use Rattle.vc_plan.specs.declared.plans.TextSet.{TextSet}
 use Rattle.vc_plan.specs.declared.plans.Var.{Var}
-pub use Rattle.vc_plan.specs.First.Plans.{numbers_below}
+pub use Rattle.vc_base.specs.Numbers.{numbers_below}
 
 -- the grains of a domain
 abbrev pub grains_in : Option Domain → List Piece

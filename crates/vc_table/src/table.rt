@@ -2,6 +2,7 @@
 
 ghost use Rattle.std.specs.Prelude.{◌≡◌, ◌≢◌, ◌+◌, ◌≤◌, ◌&&◌, false, true, [], ◌∷◌, ◌++◌, length, map, IfOk, IfErr};
 ghost use Rattle.csv.specs.Records.{fields_of};
+ghost use Rattle.vc_table.specs.Faults.{number_of, row_of};
 ghost use Rattle.vc_table.specs.Records.{records_of};
 ghost use Rattle.vc_table.specs.Tables.{cells_of, has_keys, is_among, key_of, rows_from, rows_of};
 ghost use Rattle.vc_table.specs.declared.table.TableFault.TheVariants as faults;
@@ -40,6 +41,33 @@ pub enum TableFault {
     /// More than 10,000 rows below the first.
     TooManyRows,
     OutOfMemory,
+}
+
+impl TableFault {
+    /// The fault's number, counted from 1; want of memory has none.
+    pub fn number(self) -> Option<u8>
+        ensures { result ≡ number_of self }
+    {
+        match self {
+            TableFault::Columns { row: _ } => Some(1),
+            TableFault::Cell { row: _ } => Some(2),
+            TableFault::DoubleKey { row: _ } => Some(3),
+            TableFault::TooManyRows => Some(4),
+            TableFault::OutOfMemory => None,
+        }
+    }
+
+    /// The row that has the fault, or 0 for one that no row has.
+    pub fn row(self) -> u32
+        ensures { result ≡ row_of self }
+    {
+        match self {
+            TableFault::Columns { row }
+            | TableFault::Cell { row }
+            | TableFault::DoubleKey { row } => row,
+            TableFault::TooManyRows | TableFault::OutOfMemory => 0,
+        }
+    }
 }
 
 impl From<AllocError> for TableFault {

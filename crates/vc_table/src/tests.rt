@@ -123,3 +123,18 @@ fn tells_too_many_rows(rt: HostRuntime) -> Result<(), Fail> {
     assert!(rt; read.is_err_and(|fault| fault == TableFault::TooManyRows));
     Ok(())
 }
+
+#[test]
+fn numbers_its_faults(rt: HostRuntime) -> Result<(), Fail> {
+    for (fault, number, row) in [
+        (TableFault::Columns { row: 1 }, Some(1), 1),
+        (TableFault::Cell { row: 2 }, Some(2), 2),
+        (TableFault::DoubleKey { row: 7 }, Some(3), 7),
+        (TableFault::TooManyRows, Some(4), 0),
+        (TableFault::OutOfMemory, None, 0),
+    ] {
+        assert_eq!(rt; fault.number(), number);
+        assert_eq!(rt; fault.row(), row);
+    }
+    Ok(())
+}

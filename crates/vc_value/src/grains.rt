@@ -1,6 +1,6 @@
 //! The numbers that a characteristic may have, as closed intervals that ascend and share no number.
 
-ghost use Rattle.std.specs.Prelude.{◌≡◌, ◌+◌, ◌-◌, ◌^◌, ◌<◌, ◌≤◌, pos, ◌≤ℤ◌, ◌<ℤ◌, FitsSigned, option_to_list, [], ◌∷◌, ◌++◌, length, position, slice_get, flat_map, IsTrue, IfOk, OnOk, OnErr};
+ghost use Rattle.std.specs.Prelude.{◌≡◌, ◌+◌, ◌-◌, ◌^◌, ◌<◌, ◌≤◌, ◌↔◌, pos, ◌≤ℤ◌, ◌<ℤ◌, FitsSigned, option_to_list, [], ◌∷◌, ◌++◌, length, position, slice_get, flat_map, IsTrue, IfOk, OnOk, OnErr};
 ghost use Rattle.std.specs.List.{list_all};
 ghost use Rattle.std.specs.Int.{int_rem_euclid, w64};
 ghost use Rattle.vc_value.specs.Grains.{interval, holds, is_below, is_ordered, is_ascending, unit_of, has_decimals, next_below, next_above, part_between, part_below, part_at, part_above, parts_of, cut_at, is_apart, hold};
@@ -93,6 +93,13 @@ impl GrainList {
             Some(last) => last.lies_below(number),
             None => true,
         }
+    }
+
+    /// Whether there are too many grains to add one or to cut.
+    pub fn is_full(&self) -> bool
+        ensures { IsTrue result ↔ (2 ^ 32 - 3 < length self.now) }
+    {
+        self.grains.len() > 4_294_967_293
     }
 
     /// Puts a grain last. After an error the list is as before.

@@ -15,10 +15,11 @@ use Rattle.vc_plan.specs.declared.first.plans.Plan.{Plan}
 use Rattle.vc_plan.specs.declared.first.plans.Variable.{Variable}
 use Rattle.vc_plan.specs.First.Atoms.{Atom, here, out, is, same_atom, is_named, collides, is_clear}
 use Rattle.vc_plan.specs.First.Gives.{system_of, base}
-use Rattle.vc_plan.specs.First.Plans.{numbers_below, counts_of, count_of, atom_count, IsValid}
+use Rattle.vc_base.specs.Numbers.{numbers_below}
+use Rattle.vc_plan.specs.First.Plans.{counts_of, count_of, atom_count, IsValid}
 use Rattle.vc_plan.proofs.FirstLaws.Clear.{atom_exact, atom_itself, Facts, facts, clear_from}
 use Rattle.vc_plan.proofs.FirstLaws.Givers.{system_laws}
-use Rattle.vc_plan.proofs.FirstLaws.Lists.{number_exact, number_itself, range_has}
+use Rattle.vc_base.proofs.ListLaws.{number_exact, number_itself, range_has}
 
 -- sameness of atoms is an equivalence
 pub atom_equivalence : IsEquivalence same_atom

@@ -7,8 +7,9 @@ use Rattle.vc_base.specs.Sets.{has}
 use Rattle.vc_base.proofs.SetLaws.{both, all_at, all_from, none_at, none_passes}
 use Rattle.vc_plan.specs.declared.first.plans.Plan.{Plan}
 use Rattle.vc_plan.specs.First.Atoms.{Atom, here, out, is, same_atom, is_named, collides, is_exhausted, is_clear}
-use Rattle.vc_plan.specs.First.Plans.{numbers_below, count_of}
-use Rattle.vc_plan.proofs.FirstLaws.Lists.{number_exact, number_itself, range_has, has_range}
+use Rattle.vc_base.specs.Numbers.{numbers_below}
+use Rattle.vc_plan.specs.First.Plans.{count_of}
+use Rattle.vc_base.proofs.ListLaws.{number_exact, number_itself, range_has, has_range}
 
 -- atoms are told apart exactly
 pub atom_exact : (a b : Atom) → same_atom a b ≡ true → a ≡ b

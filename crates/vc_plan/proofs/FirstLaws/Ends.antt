@@ -20,7 +20,8 @@ use Rattle.vc_plan.specs.First.Evaluations.{value_of, flags_of, reading_of, read
 use Rattle.vc_plan.specs.First.Gives.{Giver, condition_holds, has_text, refused_by, is_refused, left_of, called_for, value_atoms, gives, givers_of, system_of, base}
 use Rattle.vc_plan.specs.First.Held.{Entry, Agenda}
 use Rattle.vc_plan.specs.First.Outcomes.{watching, watching_value, waits_for, IsWatched}
-use Rattle.vc_plan.specs.First.Plans.{numbers_below, count_of, atom_count, IsValid, IsValidRule}
+use Rattle.vc_base.specs.Numbers.{numbers_below}
+use Rattle.vc_plan.specs.First.Plans.{count_of, atom_count, IsValid, IsValidRule}
 use Rattle.vc_plan.specs.First.Working.{Fits, Working, is_among}
 use Rattle.vc_plan.proofs.FirstLaws.Bound.{base_clear, base_is_base}
 use Rattle.vc_plan.proofs.FirstLaws.Clear.{atom_exact, atom_itself, same_stands}
@@ -28,7 +29,7 @@ use Rattle.vc_plan.proofs.FirstLaws.Counts.{unknown-set_same, unknown-set_known}
 use Rattle.vc_plan.proofs.FirstLaws.Entries.{entry_at, fits_count, fits_length, IsSound, changed, unchanged, after, value_is, is_value_is, follows_left}
 use Rattle.vc_plan.proofs.FirstLaws.Following.{IsReady, refused_sound, refused_blamed, Blamed, Nearly, nearly_after, nearly_open, nearly_follows}
 use Rattle.vc_plan.proofs.FirstLaws.Givers.{system_laws, IsGiven, given_parts, last_in, when_in}
-use Rattle.vc_plan.proofs.FirstLaws.Lists.{number_exact, number_itself, map_range, find_number, find_none}
+use Rattle.vc_base.proofs.ListLaws.{number_exact, number_itself, map_range, find_number, find_none}
 use Rattle.vc_plan.proofs.FirstLaws.Members.{each_giver, has_at}
 use Rattle.vc_plan.proofs.FirstLaws.Steps.{stands_sound, known_entry, known_entries, refused_entries, image_of, refused_below}
 

@@ -12,10 +12,12 @@ use Rattle.vc_plan.specs.declared.first.plans.Plan.{Plan}
 use Rattle.vc_plan.specs.First.Atoms.{Atom, here, out, is, is_named, collides}
 use Rattle.vc_plan.specs.First.Entries.{no_entry, left_in, narrowed_to, narrowed_by, is_value, standing}
 use Rattle.vc_plan.specs.First.Held.{Entry}
-use Rattle.vc_plan.specs.First.Plans.{numbers_below, count_of}
+use Rattle.vc_base.specs.Numbers.{numbers_below}
+use Rattle.vc_plan.specs.First.Plans.{count_of}
 use Rattle.vc_plan.specs.First.Working.{Fits}
 use Rattle.vc_plan.proofs.FirstLaws.Clear.{Facts}
-use Rattle.vc_plan.proofs.FirstLaws.Lists.{number_exact, number_itself, range_has, has_range, set_flag, filter_none, none_filter}
+use Rattle.vc_base.proofs.ListLaws.{number_exact, number_itself, range_has, has_range, filter_none, none_filter}
+use Rattle.vc_plan.proofs.FirstLaws.Lists.{set_flag}
 
 -- the entry of a variable
 abbrev pub entry_at : List Entry → ℕ → Entry

@@ -16,14 +16,16 @@ use Rattle.vc_plan.specs.First.Entries.{left_in, narrowed_to, narrowed_by, narro
 use Rattle.vc_plan.specs.First.Evaluations.{evaluation_of, reading_at, IsCulprit}
 use Rattle.vc_plan.specs.First.Gives.{by_rule, by_last, condition_holds, has_text, is_refused, left_of, called_for, gives, system_of, base}
 use Rattle.vc_plan.specs.First.Held.{Entry, Agenda}
-use Rattle.vc_plan.specs.First.Plans.{numbers_below, atom_count, IsValid}
+use Rattle.vc_base.specs.Numbers.{numbers_below}
+use Rattle.vc_plan.specs.First.Plans.{atom_count, IsValid}
 use Rattle.vc_plan.specs.First.Working.{Fits, Stands, IsApplied, Working, is_among}
 use Rattle.vc_plan.proofs.FirstLaws.Bound.{base_clear, base_is_base}
 use Rattle.vc_plan.proofs.FirstLaws.Clear.{atom_exact, atom_itself}
 use Rattle.vc_plan.proofs.FirstLaws.Counts.{lengths-refused, lengths-known}
 use Rattle.vc_plan.proofs.FirstLaws.Entries.{entry_at, fits_count, fits_length, IsSound, changed, unchanged, after, sound_after, value_is, has_left, left_is_value, contradicted_unsound, narrowed_sound}
 use Rattle.vc_plan.proofs.FirstLaws.Givers.{system_laws, text_below, in_last}
-use Rattle.vc_plan.proofs.FirstLaws.Lists.{number_exact, number_itself, length-excluded}
+use Rattle.vc_base.proofs.ListLaws.{number_exact, number_itself}
+use Rattle.vc_plan.proofs.FirstLaws.Lists.{length-excluded}
 use Rattle.vc_plan.proofs.FirstLaws.Members.{rule_among, last_among}
 use Rattle.vc_plan.proofs.FirstLaws.Steps.{clear_of, sound_of, stands_sound, known_entry, known_entries, known_stands, refused_entries, refused_says_value, refused_says_flag, refused_keeps, refused_alike}
 

@@ -11,9 +11,10 @@ use Rattle.vc_base.proofs.Settling.{Laws}
 use Rattle.vc_plan.specs.declared.first.plans.Plan.{Plan}
 use Rattle.vc_plan.specs.First.Atoms.{Atom, here, out, is, same_atom}
 use Rattle.vc_plan.specs.First.Gives.{Giver, by_rule, by_last, by_user, condition_holds, has_text, refused_by, left_of, last_of, called_for, gives, system_of}
-use Rattle.vc_plan.specs.First.Plans.{numbers_below, counts_of, count_of}
+use Rattle.vc_base.specs.Numbers.{numbers_below}
+use Rattle.vc_plan.specs.First.Plans.{counts_of, count_of}
 use Rattle.vc_plan.proofs.FirstLaws.Clear.{atom_exact, atom_itself, Below, Facts, facts, clear_from, fewer}
-use Rattle.vc_plan.proofs.FirstLaws.Lists.{filter_none, filter_one_stays}
+use Rattle.vc_base.proofs.ListLaws.{filter_none, filter_one_stays}
 
 -- an atom of a list that stands under a test
 pub when_in : (b : Bool) (xs : List Atom) (a : Atom) → has same_atom (cond b xs []) a ≡ true → (b ≡ true) × (has same_atom xs a ≡ true)

@@ -9,8 +9,8 @@ use Rattle.vc_base.proofs.Settling.{IsIn, in_front, in_back, in_either, in_map, 
 use Rattle.vc_plan.specs.declared.first.plans.Plan.{Plan}
 use Rattle.vc_plan.specs.declared.first.plans.Rule.{Rule}
 use Rattle.vc_plan.specs.First.Gives.{Giver, by_rule, by_last, by_user, givers_of}
-use Rattle.vc_plan.specs.First.Plans.{numbers_below}
-use Rattle.vc_plan.proofs.FirstLaws.Lists.{number_exact, number_itself}
+use Rattle.vc_base.specs.Numbers.{numbers_below}
+use Rattle.vc_base.proofs.ListLaws.{number_exact, number_itself}
 
 -- an element at a place is in the list, and the other way
 pub in_slice : {X : Type 0} (xs : List X) (i : ℕ) (x : X) → slice_get xs i ≡ Some x → IsIn x xs

@@ -21,7 +21,7 @@ use Rattle.vc_plan.proofs.FirstLaws.Clear.{atom_exact, atom_itself}
 use Rattle.vc_plan.proofs.FirstLaws.Counts.{lengths-known, get_or_any}
 use Rattle.vc_plan.proofs.FirstLaws.Entries.{entry_at, fits_count, fits_length, changed, unchanged, after, value_is, follows_left, left_has}
 use Rattle.vc_plan.proofs.FirstLaws.Following.{known_keeps, last_called, left_free}
-use Rattle.vc_plan.proofs.FirstLaws.Lists.{number_exact, number_itself}
+use Rattle.vc_base.proofs.ListLaws.{number_exact, number_itself}
 use Rattle.vc_plan.proofs.FirstLaws.Members.{last_among, user_among}
 use Rattle.vc_plan.proofs.FirstLaws.Steps.{known_entry, known_entries, known_stands}
 

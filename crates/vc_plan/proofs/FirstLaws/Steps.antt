@@ -14,13 +14,15 @@ use Rattle.vc_plan.specs.First.Atoms.{Atom, here, out, is, same_atom, is_clear}
 use Rattle.vc_plan.specs.First.Entries.{is_value, standing}
 use Rattle.vc_plan.specs.First.Gives.{Giver, by_rule, condition_holds, is_refused, refused_by, called_for, gives, givers_of, system_of, base}
 use Rattle.vc_plan.specs.First.Held.{Entry}
-use Rattle.vc_plan.specs.First.Plans.{numbers_below, IsValid}
+use Rattle.vc_base.specs.Numbers.{numbers_below}
+use Rattle.vc_plan.specs.First.Plans.{IsValid}
 use Rattle.vc_plan.specs.First.Working.{Fits, Stands}
 use Rattle.vc_plan.proofs.FirstLaws.Bound.{base_clear, has_image}
 use Rattle.vc_plan.proofs.FirstLaws.Clear.{atom_exact, atom_itself, Facts, facts, clear_from, same_stands}
 use Rattle.vc_plan.proofs.FirstLaws.Entries.{entry_at, fits_length, IsSound, sound_from, facts_from, changed, unchanged, after, sound_after}
 use Rattle.vc_plan.proofs.FirstLaws.Givers.{IsGiven, given_parts, given_from, in_when, when_in, system_laws}
-use Rattle.vc_plan.proofs.FirstLaws.Lists.{number_exact, number_itself, range_has, get_or-excluded}
+use Rattle.vc_base.proofs.ListLaws.{number_exact, number_itself, range_has}
+use Rattle.vc_plan.proofs.FirstLaws.Lists.{get_or-excluded}
 
 -- a set that says what sound entries say is clear, and the other way
 pub clear_of : (plan : Plan) (entries : List Entry) (set : List Atom) → Fits plan entries

@@ -13,7 +13,7 @@ use Rattle.vc_plan.specs.declared.first.plans.Variable.{Variable}
 use Rattle.vc_plan.specs.First.Entries.{is_value}
 use Rattle.vc_plan.specs.First.Outcomes.{watching, waits_for, IsWatched}
 use Rattle.vc_plan.specs.First.Plans.{counts_of, count_of, IsValidRule}
-use Rattle.vc_plan.proofs.FirstLaws.Lists.{number_exact, number_itself}
+use Rattle.vc_base.proofs.ListLaws.{number_exact, number_itself}
 
 abbrev pub Lists : Type 0
 Lists = List (List (List ℕ))

@@ -18,7 +18,7 @@ use Rattle.vc_plan.specs.Domains.{numbers_below, domain_of, grains_in, grains_of
 use Rattle.vc_plan.specs.Laws.{ClearSetsAreSmall}
 use Rattle.vc_plan.specs.Pieces.{same_value, lies_in_some}
 use Rattle.vc_plan.specs.Seen.{same_atom}
-use Rattle.vc_plan.proofs.FirstLaws.Lists.{number_exact, number_itself, range_has}
+use Rattle.vc_base.proofs.ListLaws.{number_exact, number_itself, range_has}
 use Rattle.vc_plan.proofs.PlanLaws.Atoms.{atom_exact, atom_itself, atom_equivalence}
 use Rattle.vc_plan.proofs.PlanLaws.Facts.{Facts, facts}
 use Rattle.vc_plan.proofs.PlanLaws.Lists.{get_past}

@@ -7,7 +7,7 @@ use Rattle.vc_value.specs.declared.grains.Grain.{Grain}
 use Rattle.vc_plan.specs.declared.conditions.Piece.TheVariants.{OneText, Stretch}
 use Rattle.vc_plan.specs.declared.plans.Plan.{Plan}
 use Rattle.vc_plan.specs.Domains.{numbers_below, count_of, atom_count}
-use Rattle.vc_plan.proofs.FirstLaws.Lists.{range_split}
+use Rattle.vc_base.proofs.ListLaws.{range_split}
 
 pub texts_count : (texts : List ℕ) → length (map OneText texts) ≡ length texts
 texts_count texts = length-map texts OneText

@@ -11,7 +11,7 @@ use Rattle.vc_plan.specs.declared.plans.Plan.{Plan}
 use Rattle.vc_plan.specs.Clear.{is_named, collides, are_all_out, is_exhausted, is_clear}
 use Rattle.vc_plan.specs.Domains.{numbers_below, count_of}
 use Rattle.vc_plan.specs.Seen.{Seen, same_atom, seen_of, slot_in, is_slot_here, is_here}
-use Rattle.vc_plan.proofs.FirstLaws.Lists.{number_exact, number_itself, range_has}
+use Rattle.vc_base.proofs.ListLaws.{number_exact, number_itself, range_has}
 use Rattle.vc_plan.proofs.PlanLaws.Atoms.{atom_exact, atom_itself}
 use Rattle.vc_plan.proofs.PlanLaws.Lists.{all_grows, get_past}
 

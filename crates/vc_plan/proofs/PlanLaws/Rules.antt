@@ -25,7 +25,7 @@ use Rattle.vc_plan.specs.Readings.{net_reading}
 use Rattle.vc_plan.specs.Restrictions.{is_inferred, failing, left_with, of_remaining, confined, allows, among, lone, lone_inferred, related, compare, equal_to, decimals_in_side, differ, equate}
 use Rattle.vc_plan.specs.Seen.{Seen, is_left, is_here, is_parent_here}
 use Rattle.vc_plan.specs.Truth.{compared, truth_at, value_at}
-use Rattle.vc_plan.proofs.FirstLaws.Lists.{filter_none, filter_none_stays, filter_one_stays}
+use Rattle.vc_base.proofs.ListLaws.{filter_none, filter_none_stays, filter_one_stays}
 use Rattle.vc_plan.proofs.PlanLaws.Answers.{Below, below_self, below_nothing, below_clash_if, below_if, below_when, below_beside, below_last}
 use Rattle.vc_plan.proofs.PlanLaws.Extending.{Extends, here_stays, parent_stays}
 use Rattle.vc_plan.proofs.PlanLaws.Lists.{Implies, all_grows}

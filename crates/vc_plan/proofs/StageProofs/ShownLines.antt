@@ -1,5 +1,5 @@
 -- The bill that is shown has of each instance the lines that it takes.
-use Rattle.std.proofs.Common.{◌≡◌, ap, ◌∙◌}
+use Rattle.std.proofs.Common.{ap, ◌∙◌}
 use Rattle.std.specs.Prelude.{◌==◌}
 use Rattle.std.specs.List.{filter}
 use Rattle.vc_plan.specs.Evaluate.{last_set, sources_of}

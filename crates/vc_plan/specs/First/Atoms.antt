@@ -2,7 +2,8 @@
 use Rattle.std.specs.Prelude.{ℕ, Bool, true, false, not, ◌&&◌, ◌==◌, nat_lt, List, length}
 use Rattle.std.specs.List.{list_any, list_all}
 use Rattle.vc_plan.specs.declared.first.plans.Plan.{Plan}
-use Rattle.vc_plan.specs.First.Plans.{numbers_below, count_of}
+use Rattle.vc_base.specs.Numbers.{numbers_below}
+use Rattle.vc_plan.specs.First.Plans.{count_of}
 
 -- the object is here; a variable's text is out; a variable's value is this text
 pub data Atom : Type 0 where

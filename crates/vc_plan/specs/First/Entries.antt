@@ -6,7 +6,7 @@ use Rattle.vc_plan.specs.declared.first.entries.Narrowed.TheVariants.{Contradict
 use Rattle.vc_plan.specs.First.Atoms.{Atom, here, out, is}
 use Rattle.vc_plan.specs.First.Evaluations.{Reading}
 use Rattle.vc_plan.specs.First.Held.{Entry}
-use Rattle.vc_plan.specs.First.Plans.{numbers_below}
+use Rattle.vc_base.specs.Numbers.{numbers_below}
 
 -- the entry of no variable
 abbrev pub no_entry : Entry

@@ -6,7 +6,8 @@ use Rattle.vc_base.specs.Rounds.{Settlement, broken, settled, atoms_of}
 use Rattle.vc_base.specs.Sets.{has}
 use Rattle.vc_plan.specs.declared.first.plans.Plan.{Plan}
 use Rattle.vc_plan.specs.declared.first.plans.Rule.{Rule}
-use Rattle.vc_plan.specs.First.Plans.{numbers_below, count_of}
+use Rattle.vc_base.specs.Numbers.{numbers_below}
+use Rattle.vc_plan.specs.First.Plans.{count_of}
 use Rattle.vc_plan.specs.First.Atoms.{Atom, out, is, same_atom, is_clear}
 use Rattle.vc_plan.specs.First.Gives.{by_rule, gives, system_of, base, settlement_of}
 

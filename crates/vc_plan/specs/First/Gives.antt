@@ -5,7 +5,8 @@ use Rattle.vc_base.specs.Rounds.{Given, atoms, System, Settlement, settle}
 use Rattle.vc_base.specs.Sets.{has}
 use Rattle.vc_plan.specs.declared.first.plans.Plan.{Plan}
 use Rattle.vc_plan.specs.declared.first.plans.Rule.{Rule}
-use Rattle.vc_plan.specs.First.Plans.{numbers_below, count_of, atom_count}
+use Rattle.vc_base.specs.Numbers.{numbers_below}
+use Rattle.vc_plan.specs.First.Plans.{count_of, atom_count}
 use Rattle.vc_plan.specs.First.Atoms.{Atom, here, out, is, same_atom, is_clear}
 
 -- what gives atoms: a rule, the last text that a variable has left, the user's value of a variable

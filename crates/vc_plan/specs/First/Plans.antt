@@ -1,13 +1,9 @@
 -- Plans of one object, which of them are valid, and the values that a user may give.
 use Rattle.std.specs.Prelude.{Bool, true, ◌&&◌, ◌==◌, nat_lt, ◌≡◌, ℕ, ◌+◌, ◌<◌, List, length, map, slice_index, slice_index_or, All, Option, None, Some, IfSome}
-use Rattle.std.specs.List.{range_with_len, sum_by}
+use Rattle.std.specs.List.{sum_by}
 use Rattle.vc_plan.specs.declared.first.plans.Plan.{Plan}
 use Rattle.vc_plan.specs.declared.first.plans.Rule.{Rule}
 use Rattle.vc_plan.specs.declared.first.plans.Variable.{Variable}
-
--- the numbers from 0 up, so many
-abbrev pub numbers_below : ℕ → List ℕ
-numbers_below n = range_with_len 0 n
 
 -- how many texts each variable has
 abbrev pub counts_of : Plan → List ℕ

@@ -35,7 +35,7 @@ use Rattle.vc_plan.specs.Seen.{Seen, same_atom, seen_of, says, is_here, is_paren
 use Rattle.vc_plan.specs.Sources.{Sources, Entry, user_of, entry_of}
 use Rattle.vc_plan.specs.TableRows.{has_cell, is_column_of, is_possible_in, is_variable, rows_of, columns_of, rows_for, missing_grains, first_cell, value_if, agreed, for_variable, narrowed}
 use Rattle.vc_plan.specs.Truth.{compared, value_at}
-use Rattle.vc_plan.proofs.FirstLaws.Lists.{number_exact, number_itself}
+use Rattle.vc_base.proofs.ListLaws.{number_exact, number_itself}
 use Rattle.vc_plan.proofs.PlanLaws.Atoms.{atom_exact, atom_itself}
 use Rattle.vc_plan_reasons.specs.Laws.{GivesWhatItWrites}
 use Rattle.vc_plan_reasons.specs.Things.{Thing, slot_at, var_at, same_thing, has_thing, thing_of, vars_of_sides, vars_of_operand, vars_of_column, vars_of_kind, inferred_of, kind_writes, rule_writes, writes_in, giver_writes}

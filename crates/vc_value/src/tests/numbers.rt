@@ -65,7 +65,7 @@ fn cuts_grains(rt: HostRuntime) -> Result<(), Fail> {
         (21_800_000, 21_900_000),
     ] {
         let last = grain(low, high);
-        if low <= high && grains.ends_below(last.low) && grains.count() < 100 {
+        if low <= high && grains.ends_below(last.low) && !grains.is_full() {
             grains.add(last)?;
         }
     }

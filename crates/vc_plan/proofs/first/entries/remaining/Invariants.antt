@@ -1,7 +1,7 @@
 use Rattle.std.proofs.Common.{◌≡◌, false, not, get_or}
 use Rattle.std.specs.Option.{option_to_list}
 use Rattle.std.specs.List.{filter}
-use Rattle.vc_plan.specs.First.Plans.{numbers_below}
+use Rattle.vc_base.specs.Numbers.{numbers_below}
 use Rattle.vc_plan.proofs.first.entries.remaining.Given as goal
 
 abbrev pub invariant-loop-text : goal.invariant-loop-text
