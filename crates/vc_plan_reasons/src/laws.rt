@@ -1,6 +1,7 @@
 //! Laws of reasons, each the contract of a function that does nothing.
 
 ghost use Rattle.vc_plan_reasons.specs.Fitting.{EvaluationsFit};
+ghost use Rattle.vc_plan_reasons.specs.Trimming.{TrimmedIsAChain, TrimmingKeepsAcceptance};
 ghost use Rattle.vc_plan_reasons.specs.Laws.{AcceptedUnrefused, ChainsStand, ConclusionsStand, WholeSettles, RefutingBreaks, RefutingBlames, KeptIsAccepted, KeptIsLeft, DroppedIsReached, FewOfAThing, GivesLocally, GivesWhatItWrites, SaysLocally, RulesIgnoreSources, ReachIsLeast};
 
 /// A list of steps is accepted exactly where no step is refused.
@@ -39,6 +40,13 @@ pub fn kept_is_accepted()
 pub fn giving_is_local()
     ensures reads { GivesLocally }
     ensures writes { GivesWhatItWrites }
+{}
+
+/// What is left of an accepted list without the steps that are in vain is accepted; of one that ends with an atom it is a
+/// chain of reasons for that.
+pub fn trimmed_lists_are_accepted()
+    ensures accepted { TrimmingKeepsAcceptance }
+    ensures chains { TrimmedIsAChain }
 {}
 
 /// Where the user's values fit the plan, so do the sources at the end of an evaluation: of the broken stage, or of the last.
