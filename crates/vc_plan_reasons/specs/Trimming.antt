@@ -8,6 +8,7 @@ use Rattle.vc_plan.specs.declared.atoms.Step.{Step}
 use Rattle.vc_plan.specs.declared.plans.Plan.{Plan}
 use Rattle.vc_plan.specs.Sources.{Sources}
 use Rattle.vc_plan_reasons.specs.Checking.{ends_with, is_accepted, is_chain_for, step_form}
+use Rattle.vc_plan_reasons.specs.Refuting.{is_trimmed_clash, refutes}
 
 -- whether a step that is needed cites the number; which of the steps are is told in their order
 abbrev pub is_cited_by : ℕ → List Step → List Bool → Bool
@@ -33,6 +34,16 @@ trimmed ending steps = without step_form (is_vain (needed ending 1 steps)) 1 ste
 abbrev pub trimmed_chain : List Step → List Step
 trimmed_chain steps = trimmed (length steps ∷ []) steps
 
+-- the ending's numbers, as those steps are numbered then; and a clash, which is the ending of its steps
+abbrev pub numbers_left : List ℕ → List Step → List ℕ
+numbers_left ending steps = map (number_left (is_vain (needed ending 1 steps))) ending
+
+abbrev pub trimmed_clash : Clash → Clash
+trimmed_clash clash = record clash {
+  steps = trimmed clash.premises clash.steps;
+  premises = numbers_left clash.premises clash.steps;
+}
+
 -- what an accepted list has left is accepted, whatever ending it is trimmed for
 abbrev pub TrimmingKeepsAcceptance : Type 0
 TrimmingKeepsAcceptance = (plan : Plan) (sources : Sources) (ending : List ℕ) (steps : List Step)
@@ -43,3 +54,8 @@ abbrev pub TrimmedIsAChain : Type 0
 TrimmedIsAChain = (plan : Plan) (sources : Sources) (atom : Atom) (steps : List Step)
     → is_accepted plan sources steps ≡ true → ends_with atom steps ≡ true
     → is_chain_for plan sources atom (trimmed_chain steps) ≡ true
+
+-- and a clash that refutes, trimmed, refutes, and none of its steps is in vain
+abbrev pub TrimmedClashesRefute : Type 0
+TrimmedClashesRefute = (plan : Plan) (sources : Sources) (clash : Clash) → refutes plan sources clash ≡ true
+    → (refutes plan sources (trimmed_clash clash) ≡ true) × (is_trimmed_clash (trimmed_clash clash) ≡ true)

@@ -1,7 +1,7 @@
 //! Laws of reasons, each the contract of a function that does nothing.
 
 ghost use Rattle.vc_plan_reasons.specs.Fitting.{EvaluationsFit};
-ghost use Rattle.vc_plan_reasons.specs.Trimming.{TrimmedIsAChain, TrimmingKeepsAcceptance};
+ghost use Rattle.vc_plan_reasons.specs.Trimming.{TrimmedClashesRefute, TrimmedIsAChain, TrimmingKeepsAcceptance};
 ghost use Rattle.vc_plan_reasons.specs.Laws.{AcceptedUnrefused, ChainsStand, ConclusionsStand, WholeSettles, RefutingBreaks, RefutingBlames, KeptIsAccepted, KeptIsLeft, DroppedIsReached, FewOfAThing, GivesLocally, GivesWhatItWrites, SaysLocally, RulesIgnoreSources, ReachIsLeast};
 
 /// A list of steps is accepted exactly where no step is refused.
@@ -43,10 +43,11 @@ pub fn giving_is_local()
 {}
 
 /// What is left of an accepted list without the steps that are in vain is accepted; of one that ends with an atom it is a
-/// chain of reasons for that.
+/// chain of reasons for that, and of a clash that refutes one that refutes.
 pub fn trimmed_lists_are_accepted()
     ensures accepted { TrimmingKeepsAcceptance }
     ensures chains { TrimmedIsAChain }
+    ensures clashes { TrimmedClashesRefute }
 {}
 
 /// Where the user's values fit the plan, so do the sources at the end of an evaluation: of the broken stage, or of the last.

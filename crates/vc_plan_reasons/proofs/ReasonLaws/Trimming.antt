@@ -1,11 +1,11 @@
 -- What is left of an accepted list without the steps in vain is accepted, and none of it is in vain.
-use Rattle.std.proofs.Common.{◌≡◌, ℕ, zero, suc, ◌+◌, ◌≤◌, ◌<◌, Bool, true, false, cond, not, ◌&&◌, ◌||◌, ◌⊎◌, List, [], ◌∷◌, ◌++◌, length, map, refl, sym, ap, ◌∙◌, subst, inl, inr, arith, length-append}
+use Rattle.std.proofs.Common.{◌≡◌, ℕ, zero, suc, ◌+◌, ◌≤◌, ◌<◌, Bool, true, false, cond, not, ◌&&◌, ◌||◌, ◌⊎◌, List, [], ◌∷◌, ◌++◌, length, map, refl, sym, ap, ◌∙◌, subst, inl, inr, arith, length-append, append_assoc}
 use Rattle.std.specs.Prelude.{Option, None, Some, slice_get, slice_index_or, nat_lt, ◌==◌}
 use Rattle.std.specs.List.{list_all, list_any}
 use Rattle.std.proofs.lemmas.Bool.{and_parts, cases_lt, eqb-true, eq-eqb, ltb-true, or_cases}
 use Rattle.vc_base.specs.Chains.{accepted, all_pass, are_cited, before_all, cited, is_among}
 use Rattle.vc_base.specs.Kept.{number_left, without}
-use Rattle.vc_base.proofs.ChainLaws.{accepted_parts, all_there, cited_earlier}
+use Rattle.vc_base.proofs.ChainLaws.{accepted_parts, all_there, cited_earlier, get_mapped}
 use Rattle.vc_base.proofs.KeptLaws.{get_cases, get_end, get_front}
 use Rattle.vc_plan.specs.declared.atoms.Atom.{Atom}
 use Rattle.vc_plan.specs.declared.atoms.Step.{Step}
@@ -13,7 +13,9 @@ use Rattle.vc_plan.specs.declared.plans.Plan.{Plan}
 use Rattle.vc_plan.specs.Seen.{same_atom}
 use Rattle.vc_plan.specs.Sources.{Sources}
 use Rattle.vc_plan_reasons.specs.Checking.{concluded, ends_with, follows, is_accepted, is_trimmed_chain, step_form}
-use Rattle.vc_plan_reasons.specs.Trimming.{TrimmedIsAChain, TrimmingKeepsAcceptance, is_cited_by, is_vain, needed, trimmed, trimmed_chain}
+use Rattle.vc_plan_reasons.specs.Trimming.{TrimmedClashesRefute, TrimmedIsAChain, TrimmingKeepsAcceptance, is_cited_by, is_vain, needed, numbers_left, trimmed, trimmed_chain, trimmed_clash}
+use Rattle.vc_plan_reasons.specs.Refuting.{contradicts, is_blamable, is_clash_at, is_collision}
+use Rattle.vc_plan_reasons.proofs.ReasonLaws.Refuting.{Refuted, refuted}
 
 both_hold : (a b : Bool) → a ≡ true → b ≡ true → (a && b) ≡ true
 both_hold true b p q = q
@@ -30,6 +32,10 @@ or_second false c e = e
 not_flag : (b : Bool) → not b ≡ false → b ≡ true
 not_flag true e = refl
 not_flag false e = absurd (cc e)
+
+append_nil : {X : Type 0} (xs : List X) → xs ++ [] ≡ xs
+append_nil [] = refl
+append_nil (x ∷ xs) = ap (λ ys. x ∷ ys) (append_nil xs)
 
 -- a step with other numbers
 abbrev renumbered : (ℕ → Bool) → Step → Step
@@ -150,12 +156,12 @@ left_cited dropped ending k (step ∷ later) match =
         (subst (λ n. are_cited step_form (map (number_left dropped) ending) (suc n) (without step_form dropped (suc (suc k)) later) ≡ true)
         next all)
 
--- where what isn't dropped of some conclusions stands among those that are left
-record Placed (dropped : ℕ → Bool) (earlier left : List Atom) : Type 0 where
+-- where what isn't dropped of some conclusions, or of what else steps have, stands among those that are left
+record Placed {X : Type 0} (dropped : ℕ → Bool) (earlier left : List X) : Type 0 where
   count : length left ≡ number_left dropped (length earlier)
-  place : (i : ℕ) (a : Atom) → slice_get earlier i ≡ Some a → dropped (suc i) ≡ false → slice_get left (number_left dropped i) ≡ Some a
+  place : (i : ℕ) (a : X) → slice_get earlier i ≡ Some a → dropped (suc i) ≡ false → slice_get left (number_left dropped i) ≡ Some a
 
-placed_dropped : (dropped : ℕ → Bool) (earlier left : List Atom) (c : Atom) → Placed dropped earlier left
+placed_dropped : {X : Type 0} (dropped : ℕ → Bool) (earlier left : List X) (c : X) → Placed dropped earlier left
     → dropped (suc (length earlier)) ≡ true → Placed dropped (earlier ++ c ∷ []) left
 placed_dropped dropped earlier left c p d =
     let longer : length (earlier ++ c ∷ []) ≡ suc (length earlier) = omega (arith, length-append earlier (c ∷ [])) in
@@ -167,7 +173,7 @@ placed_dropped dropped earlier left c p d =
       ];
     }
 
-placed_kept : (dropped : ℕ → Bool) (earlier left : List Atom) (c : Atom) → Placed dropped earlier left
+placed_kept : {X : Type 0} (dropped : ℕ → Bool) (earlier left : List X) (c : X) → Placed dropped earlier left
     → dropped (suc (length earlier)) ≡ false → Placed dropped (earlier ++ c ∷ []) (left ++ c ∷ [])
 placed_kept dropped earlier left c p d =
     let longer : length (earlier ++ c ∷ []) ≡ suc (length earlier) = omega (arith, length-append earlier (c ∷ [])) in
@@ -183,7 +189,7 @@ placed_kept dropped earlier left c p d =
     }
 
 -- what numbers cite that aren't dropped, their new ones cite
-cited_again : (dropped : ℕ → Bool) (earlier left : List Atom) → Placed dropped earlier left → (numbers : List ℕ) (atoms : List Atom)
+cited_again : {X : Type 0} (dropped : ℕ → Bool) (earlier left : List X) → Placed dropped earlier left → (numbers : List ℕ) (atoms : List X)
     → cited earlier numbers ≡ Some atoms → ((m : ℕ) → is_among m numbers ≡ true → dropped m ≡ false)
     → cited left (map (number_left dropped) numbers) ≡ Some atoms
 cited_again dropped earlier left p [] atoms e kept = e
@@ -273,7 +279,7 @@ left_accepted plan sources dropped ending earlier left (step ∷ later) p match 
         (ap (all_pass (follows plan sources step)) again ∙ from)
         (onwards (left ++ step.conclusion ∷ []) (placed_kept dropped earlier left step.conclusion p d))
 
-none_placed : (dropped : ℕ → Bool) → Placed dropped [] []
+none_placed : {X : Type 0} (dropped : ℕ → Bool) → Placed {X = X} dropped [] []
 none_placed dropped = record { count = refl; place = λ i a e. absurd (cc e) }
 
 pub trimming_keeps_acceptance : TrimmingKeepsAcceptance
@@ -360,3 +366,88 @@ trimmed_is_a_chain plan sources atom steps e ends =
         let same : suc (0 + n) ≡ suc n = omega arith in
         ap not (last_needed (suc n ∷ []) 0 (step ∷ later) n
         (ap (λ k. is_among k (suc n ∷ [])) same ∙ or_first (suc n == suc n) false (eq-eqb (suc n) (suc n) refl)))
+
+-- a number of the ending is that of a needed step
+ending_stays : (ending : List ℕ) (steps : List Step) (m : ℕ) → is_among m ending ≡ true → is_vain (needed ending 1 steps) m ≡ false
+ending_stays ending steps zero e = refl
+ending_stays ending steps (suc i) e =
+    let same : suc (0 + i) ≡ suc i = omega arith in ap not (last_needed ending 0 steps i (ap (λ n. is_among n ending) same ∙ e))
+
+-- all that steps have of a kind, which their numbers don't change
+placed_all : {X : Type 0} (f : Step → X) → ((step : Step) (numbers : List ℕ) → f (step_form.with_premises step numbers) ≡ f step)
+    → (dropped : ℕ → Bool) (earlier left : List X) (steps : List Step) → Placed dropped earlier left
+    → Placed dropped (earlier ++ map f steps) (left ++ map f (without step_form dropped (suc (length earlier)) steps))
+placed_all {X = X} f same dropped earlier left [] p =
+    subst (λ xs. Placed dropped (earlier ++ []) xs) (sym (append_nil left)) (subst (λ xs. Placed dropped xs left) (sym (append_nil earlier)) p)
+placed_all {X = X} f same dropped earlier left (step ∷ later) p =
+    let longer : length (earlier ++ f step ∷ []) ≡ suc (length earlier) = omega (arith, length-append earlier (f step ∷ [])) in
+    choice (dropped (suc (length earlier))) refl
+    (λ rest placed.
+    subst (λ n. Placed dropped ((earlier ++ f step ∷ []) ++ map f later) (rest ++ map f (without step_form dropped (suc n) later))) longer
+    (placed_all f same dropped (earlier ++ f step ∷ []) rest later placed))
+  where
+    choice : (b : Bool) → dropped (suc (length earlier)) ≡ b
+        → ((rest : List X) → Placed dropped (earlier ++ f step ∷ []) rest
+        → Placed dropped ((earlier ++ f step ∷ []) ++ map f later)
+        (rest ++ map f (without step_form dropped (suc (suc (length earlier))) later)))
+        → Placed dropped (earlier ++ f step ∷ map f later)
+        (left ++ map f (cond b (without step_form dropped (suc (suc (length earlier))) later)
+        (renumbered dropped step ∷ without step_form dropped (suc (suc (length earlier))) later)))
+    choice true d onwards =
+        subst (λ xs. Placed dropped xs (left ++ map f (without step_form dropped (suc (suc (length earlier))) later)))
+        (append_assoc earlier (f step ∷ []) (map f later))
+        (onwards left (placed_dropped dropped earlier left (f step) p d))
+    choice false d onwards =
+        let rest = map f (without step_form dropped (suc (suc (length earlier))) later) in
+        subst (λ x. Placed dropped (earlier ++ f step ∷ map f later) (left ++ x ∷ rest))
+        (sym (same step (map (number_left dropped) step.premises)))
+        (subst (λ xs. Placed dropped (earlier ++ f step ∷ map f later) xs) (append_assoc left (f step ∷ []) rest)
+        (subst (λ xs. Placed dropped xs ((left ++ f step ∷ []) ++ rest)) (append_assoc earlier (f step ∷ []) (map f later))
+        (onwards (left ++ f step ∷ []) (placed_kept dropped earlier left (f step) p d))))
+
+ending_cites : {X : Type 0} (f : Step → X) → ((step : Step) (numbers : List ℕ) → f (step_form.with_premises step numbers) ≡ f step)
+    → (ending : List ℕ) (steps : List Step) (xs : List X) → cited (map f steps) ending ≡ Some xs
+    → cited (map f (trimmed ending steps)) (numbers_left ending steps) ≡ Some xs
+ending_cites f same ending steps xs e =
+    let dropped = is_vain (needed ending 1 steps) in
+    cited_again dropped (map f steps) (map f (trimmed ending steps))
+    (placed_all f same dropped [] [] steps (none_placed dropped)) ending xs e (ending_stays ending steps)
+
+-- what numbers cite of one thing that steps have they cite of another
+get_of : {X : Type 0} (f : Step → X) (steps : List Step) (n : ℕ) (step : Step) → slice_get steps n ≡ Some step
+    → slice_get (map f steps) n ≡ Some (f step)
+get_of f [] n step e = absurd (cc e)
+get_of f (first ∷ steps) zero step e = let same : first ≡ step = cc e in ap (λ s. Some (f s)) same
+get_of f (first ∷ steps) (suc n) step e = get_of f steps n step e
+
+cited_too : {X Y : Type 0} (f : Step → X) (g : Step → Y) (steps : List Step) (numbers : List ℕ) (xs : List X)
+    → cited (map f steps) numbers ≡ Some xs → (ys : List Y) × (cited (map g steps) numbers ≡ Some ys)
+cited_too f g steps [] xs e = ([], refl)
+cited_too f g steps (zero ∷ numbers) xs e = cited_too f g steps numbers xs e
+cited_too f g steps (suc n ∷ numbers) xs e =
+    let r = all_there (slice_get (map f steps) n) (cited (map f steps) numbers) xs e in
+    let step = get_mapped f steps n r.0 r.2 in
+    let later = cited_too f g steps numbers r.1 r.3 in (
+      g step.0 ∷ later.0,
+      ap (λ o. before_all o (cited (map g steps) numbers)) (get_of g steps n step.0 step.1) ∙ ap (before_all (Some (g step.0))) later.1,
+    )
+
+pub trimmed_clashes_refute : TrimmedClashesRefute
+trimmed_clashes_refute plan sources clash e =
+    let r : Refuted plan sources clash = refuted plan sources clash e in
+    let left = trimmed_clash clash in
+    let flags = needed clash.premises 1 clash.steps in
+    let atoms : cited (concluded left.steps) left.premises ≡ Some r.premises
+    = ending_cites step_form.conclusion (λ step numbers. refl) clash.premises clash.steps r.premises r.cites in
+    let by = cited_too step_form.conclusion (λ step. step.origin) clash.steps clash.premises r.premises r.cites in
+    let same : cited (map (λ step. step.origin) left.steps) left.premises ≡ cited (map (λ step. step.origin) clash.steps) clash.premises
+    = ending_cites (λ step. step.origin) (λ step numbers. refl) clash.premises clash.steps by.0 by.1 ∙ sym by.1 in
+    let holds : contradicts plan sources left r.premises ≡ true
+    = ap (λ o. is_clash_at plan sources clash.culprit r.premises || is_collision plan clash.culprit r.premises o) same ∙ r.holds in (
+      both_hold (is_accepted plan sources left.steps && is_blamable plan clash.culprit)
+          (all_pass (contradicts plan sources left) (cited (concluded left.steps) left.premises))
+          (both_hold (is_accepted plan sources left.steps) (is_blamable plan clash.culprit)
+          (trimming_keeps_acceptance plan sources clash.premises clash.steps r.accepted) r.blamable)
+          (ap (all_pass (contradicts plan sources left)) atoms ∙ holds),
+      left_cited (is_vain flags) clash.premises 0 clash.steps (matching flags [] flags refl),
+    )
