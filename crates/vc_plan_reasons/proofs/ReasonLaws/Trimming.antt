@@ -93,9 +93,11 @@ cited_left_by dropped m n (step ∷ steps) (flag ∷ flags) match e =
   where
     cites : Step → Bool
     cites s = is_among (number_left dropped m) s.premises
+
     not_needed : (b : Bool) → dropped n ≡ true → b ≡ true → dropped n ≡ not b → ⊥
     not_needed true d e m = absurd (cc (sym d ∙ m))
     not_needed false d e m = absurd (cc e)
+
     choice : (b : Bool) → dropped n ≡ b → ((flag && is_among m step.premises) ≡ true) ⊎ (is_cited_by m steps flags ≡ true)
         → (is_cited_by m steps flags ≡ true → list_any cites (without step_form dropped (suc n) steps) ≡ true)
         → list_any cites
@@ -118,13 +120,17 @@ left_cited dropped ending k (step ∷ later) match =
   where
     flags : List Bool
     flags = needed ending (suc (suc k)) later
+
     rest : List Step
     rest = without step_form dropped (suc (suc k)) later
+
     new_ending : List ℕ
     new_ending = map (number_left dropped) ending
+
     is_needed : dropped (suc k) ≡ false → (is_among (suc k) ending || is_cited_by (suc k) later (needed ending (suc (suc k)) later)) ≡ true
     is_needed d =
         not_flag (is_among (suc k) ending || is_cited_by (suc k) later (needed ending (suc (suc k)) later)) (sym match.0 ∙ d)
+
     used : dropped (suc k) ≡ false
         → (is_among (number_left dropped (suc k)) (map (number_left dropped) ending)
         || list_any (λ s. is_among (number_left dropped (suc k)) s.premises) (without step_form dropped (suc (suc k)) later)) ≡ true
@@ -136,6 +142,7 @@ left_cited dropped ending k (step ∷ later) match =
           | inr e ↦ or_second here there
               (cited_left_by dropped (suc k) (suc (suc k)) later (needed ending (suc (suc k)) later) match.1 e)
         ]
+
     choice : (b : Bool) → dropped (suc k) ≡ b
         → are_cited step_form (map (number_left dropped) ending) (suc (number_left dropped (suc k)))
         (without step_form dropped (suc (suc k)) later) ≡ true
@@ -216,17 +223,18 @@ left_accepted plan sources dropped ending earlier left (step ∷ later) p match 
     let longer : length (earlier ++ step.conclusion ∷ []) ≡ suc (length earlier)
     = omega (arith, length-append earlier (step.conclusion ∷ [])) in
     let onwards : (rest : List Atom) → Placed dropped (earlier ++ step.conclusion ∷ []) rest
-        → accepted step_form (follows plan sources) rest (without step_form dropped (suc (suc (length earlier))) later) ≡ true
+    → accepted step_form (follows plan sources) rest (without step_form dropped (suc (suc (length earlier))) later) ≡ true
     = λ rest placed.
-        subst (λ n. accepted step_form (follows plan sources) rest (without step_form dropped (suc n) later) ≡ true) longer
-        (left_accepted plan sources dropped ending (earlier ++ step.conclusion ∷ []) rest later placed
-        (subst (λ n. Matches dropped (suc n) (needed ending (suc n) later)) (sym longer) match.1)
-        (λ m small cites. still m (omega (arith, small, longer))
-        (subst (λ n. is_cited_by m later (needed ending (suc n) later) ≡ true) longer cites)) q.later) in
+    subst (λ n. accepted step_form (follows plan sources) rest (without step_form dropped (suc n) later) ≡ true) longer
+    (left_accepted plan sources dropped ending (earlier ++ step.conclusion ∷ []) rest later placed
+    (subst (λ n. Matches dropped (suc n) (needed ending (suc n) later)) (sym longer) match.1)
+    (λ m small cites. still m (omega (arith, small, longer))
+    (subst (λ n. is_cited_by m later (needed ending (suc n) later) ≡ true) longer cites)) q.later) in
     choice q.atoms q.cites q.from (dropped (suc (length earlier))) refl onwards
   where
     flag : Bool
     flag = is_among (suc (length earlier)) ending || is_cited_by (suc (length earlier)) later (needed ending (suc (suc (length earlier))) later)
+
     still : (m : ℕ) → m ≤ suc (length earlier)
         → is_cited_by m later (needed ending (suc (suc (length earlier))) later) ≡ true → dropped m ≡ false
     still m small cites =
@@ -241,6 +249,7 @@ left_accepted plan sources dropped ending earlier left (step ∷ later) p match 
               ∙ ap not (or_second (is_among (suc (length earlier)) ending) (is_cited_by (suc (length earlier)) later flags)
               (ap (λ n. is_cited_by n later flags) (sym same) ∙ cites))
         ]
+
     premises_kept : (atoms : List Atom) → cited earlier step.premises ≡ Some atoms → dropped (suc (length earlier)) ≡ false → (m : ℕ)
         → is_among m step.premises ≡ true → dropped m ≡ false
     premises_kept atoms cites d m h =
@@ -263,6 +272,7 @@ left_accepted plan sources dropped ending earlier left (step ∷ later) p match 
                   omega (arith, is, low)
               | inr more ↦ among_below k numbers r.1 more
             ]
+
     choice : (atoms : List Atom) → cited earlier step.premises ≡ Some atoms → follows plan sources step atoms ≡ true → (b : Bool)
         → dropped (suc (length earlier)) ≡ b
         → ((rest : List Atom) → Placed dropped (earlier ++ step.conclusion ∷ []) rest
