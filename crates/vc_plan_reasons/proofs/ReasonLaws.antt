@@ -9,4 +9,5 @@ pub mod Keeping
 pub mod Local
 pub mod Reaching
 pub mod Refuting
+pub mod Trimming
 pub mod Writing

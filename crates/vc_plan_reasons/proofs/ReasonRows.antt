@@ -8,3 +8,4 @@ pub mod Restrictions
 pub mod Statuses
 pub mod Steps
 pub mod Touched
+pub mod Trimmings

@@ -6,4 +6,5 @@ pub mod Laws
 pub mod Records
 pub mod Refuting
 pub mod Things
+pub mod Trimming
 pub mod Work

@@ -1,6 +1,7 @@
 //! Laws of reasons, each the contract of a function that does nothing.
 
 ghost use Rattle.vc_plan_reasons.specs.Fitting.{EvaluationsFit};
+ghost use Rattle.vc_plan_reasons.specs.Trimming.{TrimmedClashesRefute, TrimmedIsAChain, TrimmingKeepsAcceptance};
 ghost use Rattle.vc_plan_reasons.specs.Laws.{AcceptedUnrefused, ChainsStand, ConclusionsStand, WholeSettles};
 ghost use Rattle.vc_plan_reasons.specs.Laws.{RefutingBreaks, RefutingBlames, KeptIsAccepted, KeptIsLeft};
 ghost use Rattle.vc_plan_reasons.specs.Laws.{DroppedIsReached, FewOfAThing, GivesLocally, GivesWhatItWrites};
@@ -42,6 +43,14 @@ pub fn kept_is_accepted()
 pub fn giving_is_local()
     ensures reads { GivesLocally }
     ensures writes { GivesWhatItWrites }
+{}
+
+/// What is left of an accepted list without the steps that are in vain is accepted; of one that ends with an atom it
+/// is a chain of reasons for that, and of a clash that refutes one that refutes.
+pub fn trimmed_lists_are_accepted()
+    ensures accepted { TrimmingKeepsAcceptance }
+    ensures chains { TrimmedIsAChain }
+    ensures clashes { TrimmedClashesRefute }
 {}
 
 /// Where the user's values fit the plan, so do the sources at the end of an evaluation: of the broken stage, or of

@@ -2,7 +2,8 @@
 
 use crate::laws::{
     accepted_is_unrefused, conclusions_stand, evaluations_fit, giving_is_local, kept_is_accepted,
-    reach_is_least, refuting_breaks, saying_is_local, things_are_small, whole_lists_settle,
+    reach_is_least, refuting_breaks, saying_is_local, things_are_small, trimmed_lists_are_accepted,
+    whole_lists_settle,
 };
 use std::test::Fail;
 
@@ -17,6 +18,7 @@ fn laws_ask_for_nothing(_rt: HostRuntime) -> Result<(), Fail> {
     saying_is_local();
     evaluations_fit();
     things_are_small();
+    trimmed_lists_are_accepted();
     reach_is_least();
     Ok(())
 }

@@ -36,6 +36,11 @@ abbrev pub SameVars : Seen → Seen → List ℕ → Type 0
 SameVars s t [] = Unit {0}
 SameVars s t (v ∷ vs) = SameVar s t v × SameVars s t vs
 
+-- the same values alone, which is all that terms and conditions look at
+abbrev pub SameValues : Seen → Seen → List ℕ → Type 0
+SameValues s t [] = Unit {0}
+SameValues s t (v ∷ vs) = (s.value v ≡ t.value v) × SameValues s t vs
+
 abbrev pub SameSlots : Seen → Seen → List ℕ → Type 0
 SameSlots s t [] = Unit {0}
 SameSlots s t (i ∷ is) = (s.here i ≡ t.here i) × SameSlots s t is
@@ -51,6 +56,18 @@ vars_back s t (v ∷ vs) ws h = vars_back s t vs ws h.1
 pub vars_join : (s t : Seen) (vs ws : List ℕ) → SameVars s t vs → SameVars s t ws → SameVars s t (vs ++ ws)
 vars_join s t [] ws h k = k
 vars_join s t (v ∷ vs) ws h k = (h.0, vars_join s t vs ws h.1 k)
+
+pub values_of : (s t : Seen) (vs : List ℕ) → SameVars s t vs → SameValues s t vs
+values_of s t [] h = tt
+values_of s t (v ∷ vs) h = (h.0.value, values_of s t vs h.1)
+
+pub values_front : (s t : Seen) (vs ws : List ℕ) → SameValues s t (vs ++ ws) → SameValues s t vs
+values_front s t [] ws h = tt
+values_front s t (v ∷ vs) ws h = (h.0, values_front s t vs ws h.1)
+
+pub values_back : (s t : Seen) (vs ws : List ℕ) → SameValues s t (vs ++ ws) → SameValues s t ws
+values_back s t [] ws h = h
+values_back s t (v ∷ vs) ws h = values_back s t vs ws h.1
 
 pub slots_front : (s t : Seen) (is js : List ℕ) → SameSlots s t (is ++ js) → SameSlots s t is
 slots_front s t [] js h = tt
@@ -135,58 +152,58 @@ pub out_same : (s t : Seen) (v : ℕ) → SameVar s t v → s.out v ≡ t.out v
 out_same s t v h = λ i g. h.out g i
 
 -- terms
-number_same : (s t : Seen) (term : Term) → SameVars s t (vars_in term) → number (net_reading s) term ≡ number (net_reading t) term
+pub number_same : (s t : Seen) (term : Term) → SameValues s t (vars_in term) → number (net_reading s) term ≡ number (net_reading t) term
 number_same s t (Literal a) h = refl
-number_same s t (Read v) h = ap number_of_value h.0.value
+number_same s t (Read v) h = ap number_of_value h.0
 number_same s t (PartSum slot characteristic) h = refl
 number_same s t (PartCount slot) h = refl
 number_same s t (Applied' function p a) h = ap (option_map (applied function)) (number_same s t a h)
 number_same s t (Joined' operator p a q b) h =
-    ap (λ x. joined operator x (number (net_reading s) b)) (number_same s t a (vars_front s t (vars_in a) (vars_in b) h))
-    ∙ ap (joined operator (number (net_reading t) a)) (number_same s t b (vars_back s t (vars_in a) (vars_in b) h))
+    ap (λ x. joined operator x (number (net_reading s) b)) (number_same s t a (values_front s t (vars_in a) (vars_in b) h))
+    ∙ ap (joined operator (number (net_reading t) a)) (number_same s t b (values_back s t (vars_in a) (vars_in b) h))
 
-term_same : (s t : Seen) (term : Term) → SameVars s t (vars_in term)
+term_same : (s t : Seen) (term : Term) → SameValues s t (vars_in term)
     → term_value (net_reading s) term ≡ term_value (net_reading t) term
 term_same s t (Literal a) h = refl
-term_same s t (Read v) h = h.0.value
+term_same s t (Read v) h = h.0
 term_same s t (PartSum slot characteristic) h = refl
 term_same s t (PartCount slot) h = refl
 term_same s t (Applied' function p a) h = ap value_of_number (number_same s t (Applied' function p a) h)
 term_same s t (Joined' operator p a q b) h = ap value_of_number (number_same s t (Joined' operator p a q b) h)
 
-value_in_same : (s t : Seen) (o : Option Term) → SameVars s t (vars_of_term o)
+value_in_same : (s t : Seen) (o : Option Term) → SameValues s t (vars_of_term o)
     → value_in_term (net_reading s) o ≡ value_in_term (net_reading t) o
 value_in_same s t None h = refl
 value_in_same s t (Some term) h = term_same s t term h
 
-pub value_same : (plan : Plan) (s t : Seen) (term : ℕ) → SameVars s t (vars_of_term (slice_get plan.terms term))
+pub value_same : (plan : Plan) (s t : Seen) (term : ℕ) → SameValues s t (vars_of_term (slice_get plan.terms term))
     → value_at plan (net_reading s) term ≡ value_at plan (net_reading t) term
 value_same plan s t term h = value_in_same s t (slice_get plan.terms term) h
 
 -- conditions
-condition_same : (s t : Seen) (c : Condition) → SameVars s t (vars_read c) → truth (net_reading s) c ≡ truth (net_reading t) c
+condition_same : (s t : Seen) (c : Condition) → SameValues s t (vars_read c) → truth (net_reading s) c ≡ truth (net_reading t) c
 condition_same s t Always h = refl
 condition_same s t (Compared r a b) h =
-    ap (λ x. compared r x (term_value (net_reading s) b)) (term_same s t a (vars_front s t (vars_in a) (vars_in b) h))
-    ∙ ap (compared r (term_value (net_reading t) a)) (term_same s t b (vars_back s t (vars_in a) (vars_in b) h))
-condition_same s t (IsIn v pieces) h = ap (is_in pieces) h.0.value
-condition_same s t (Specified v) h = ap (specified Unknown) h.0.value
+    ap (λ x. compared r x (term_value (net_reading s) b)) (term_same s t a (values_front s t (vars_in a) (vars_in b) h))
+    ∙ ap (compared r (term_value (net_reading t) a)) (term_same s t b (values_back s t (vars_in a) (vars_in b) h))
+condition_same s t (IsIn v pieces) h = ap (is_in pieces) h.0
+condition_same s t (Specified v) h = ap (specified Unknown) h.0
 condition_same s t (Holds set text) h = refl
 condition_same s t (Filled set) h = refl
 condition_same s t (Not' p c) h = ap kleene_not (condition_same s t c h)
 condition_same s t (And' p c q d) h =
-    ap (λ k. kleene_and k (truth (net_reading s) d)) (condition_same s t c (vars_front s t (vars_read c) (vars_read d) h))
-    ∙ ap (kleene_and (truth (net_reading t) c)) (condition_same s t d (vars_back s t (vars_read c) (vars_read d) h))
+    ap (λ k. kleene_and k (truth (net_reading s) d)) (condition_same s t c (values_front s t (vars_read c) (vars_read d) h))
+    ∙ ap (kleene_and (truth (net_reading t) c)) (condition_same s t d (values_back s t (vars_read c) (vars_read d) h))
 condition_same s t (Or' p c q d) h =
-    ap (λ k. kleene_or k (truth (net_reading s) d)) (condition_same s t c (vars_front s t (vars_read c) (vars_read d) h))
-    ∙ ap (kleene_or (truth (net_reading t) c)) (condition_same s t d (vars_back s t (vars_read c) (vars_read d) h))
+    ap (λ k. kleene_or k (truth (net_reading s) d)) (condition_same s t c (values_front s t (vars_read c) (vars_read d) h))
+    ∙ ap (kleene_or (truth (net_reading t) c)) (condition_same s t d (values_back s t (vars_read c) (vars_read d) h))
 
-truth_in_same : (s t : Seen) (o : Option Condition) → SameVars s t (vars_of_condition o)
+truth_in_same : (s t : Seen) (o : Option Condition) → SameValues s t (vars_of_condition o)
     → truth_in (net_reading s) o ≡ truth_in (net_reading t) o
 truth_in_same s t None h = refl
 truth_in_same s t (Some c) h = condition_same s t c h
 
 pub truth_same : (plan : Plan) (s t : Seen) (condition : ℕ)
-    → SameVars s t (vars_of_condition (slice_get plan.conditions condition))
+    → SameValues s t (vars_of_condition (slice_get plan.conditions condition))
     → truth_at plan (net_reading s) condition ≡ truth_at plan (net_reading t) condition
 truth_same plan s t condition h = truth_in_same s t (slice_get plan.conditions condition) h

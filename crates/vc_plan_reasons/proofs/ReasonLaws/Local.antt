@@ -35,7 +35,7 @@ use Rattle.vc_plan.specs.Truth.{compared, truth_at, value_at}
 use Rattle.vc_plan.proofs.PlanLaws.Atoms.{atom_exact, atom_itself}
 use Rattle.vc_plan_reasons.specs.Laws.{GivesLocally, RulesIgnoreSources, SaysLocally}
 use Rattle.vc_plan_reasons.specs.Things.{Thing, slot_at, var_at, same_thing, has_thing, thing_of, slots_of_var, vars_of_operand, vars_of_column, vars_of_kind, slots_of_kind, rule_reads, reads_in, giver_reads, giver_writes}
-use Rattle.vc_plan_reasons.proofs.ReasonLaws.Agreeing.{SameVar, SameVars, SameSlots, Agree, vars_front, vars_back, vars_join, slots_front, slots_back, agree_vars, agree_slots, alike_agree, slots_all, slot_same, left_same, out_same, value_same, truth_same}
+use Rattle.vc_plan_reasons.proofs.ReasonLaws.Agreeing.{SameVar, SameVars, SameSlots, Agree, vars_front, vars_back, vars_join, slots_front, slots_back, agree_vars, agree_slots, alike_agree, slots_all, slot_same, left_same, out_same, value_same, truth_same, values_of}
 use Rattle.vc_plan_reasons.proofs.ReasonLaws.Reaching.{thing_exact, thing_itself}
 use Rattle.vc_plan_reasons.proofs.ReasonLaws.Writing.{Writes, inferred_parts, says_written}
 
@@ -88,9 +88,9 @@ compare_same plan s t rule r a b h k =
     let x = value_at plan (net_reading t) a in
     let y = value_at plan (net_reading t) b in
     ap (λ z. clash_if_false (compared r z (value_at plan (net_reading s) b))
-    (beside (related plan s r v (value_at plan (net_reading s) b)) (related plan s (turned r) w z))) (value_same plan s t a h)
+    (beside (related plan s r v (value_at plan (net_reading s) b)) (related plan s (turned r) w z))) (value_same plan s t a (values_of s t (vars_of_term (slice_get plan.terms a)) h))
     ∙ (ap (λ z. clash_if_false (compared r x z) (beside (related plan s r v z) (related plan s (turned r) w x)))
-    (value_same plan s t b k)
+    (value_same plan s t b (values_of s t (vars_of_term (slice_get plan.terms b)) k))
     ∙ (ap (λ z. clash_if_false (compared r x y) (beside z (related plan s (turned r) w x)))
     (related_same plan s t r v y (λ u e. side_same plan s t rule a u e h))
     ∙ ap (λ z. clash_if_false (compared r x y) (beside (related plan t r v y) z))
@@ -104,9 +104,9 @@ equate_same plan s t rule a b h k =
     let decimals = min (decimals_in_side plan (lone plan a)) (decimals_in_side plan (lone plan b)) in
     let x = value_at plan (net_reading t) a in
     ap (λ z. clash_if ((is_none v && is_none w) && differ decimals z (value_at plan (net_reading s) b))
-    (beside (equal_to plan v (value_at plan (net_reading s) b)) (equal_to plan w z))) (value_same plan s t a h)
+    (beside (equal_to plan v (value_at plan (net_reading s) b)) (equal_to plan w z))) (value_same plan s t a (values_of s t (vars_of_term (slice_get plan.terms a)) h))
     ∙ ap (λ z. clash_if ((is_none v && is_none w) && differ decimals x z) (beside (equal_to plan v z) (equal_to plan w x)))
-    (value_same plan s t b k)
+    (value_same plan s t b (values_of s t (vars_of_term (slice_get plan.terms b)) k))
 
 -- which rows are possible
 fits_same : (plan : Plan) (s t : Seen) (o : Operand) → SameVars s t (vars_of_operand o) → fits plan s o ≡ fits plan t o
@@ -191,7 +191,7 @@ rule_same plan s t rule h k =
     let asked = vars_of_condition (slice_get plan.conditions rule.condition) in
     let own = vars_of_kind plan rule.kind in
     let slots = slots_all s t rule.slots (slots_front s t rule.slots (slots_of_kind plan rule.kind) k) in
-    let truth = truth_same plan s t rule.condition (vars_front s t asked own h) in
+    let truth = truth_same plan s t rule.condition (values_of s t asked (vars_front s t asked own h)) in
     let said = kind_same plan s t rule rule.kind (vars_back s t asked own h)
     (slots_back s t rule.slots (slots_of_kind plan rule.kind) k) in
     ap (λ b. cond (b && is_true (truth_at plan (net_reading s) rule.condition)) (kind_gives plan s rule rule.kind) nothing) slots

@@ -58,14 +58,14 @@ calm_part plan sources set closed giver c w e =
     c.calm
 
 -- a clash that refutes: its steps are accepted, its premises are concluded by them, and one of the two cases holds
-record Refuted (plan : Plan) (sources : Sources) (clash : Clash) : Type 0 where
-  accepted : is_accepted plan sources clash.steps ≡ true
-  blamable : is_blamable plan clash.culprit ≡ true
-  premises : List Atom
-  cites : cited (concluded clash.steps) clash.premises ≡ Some premises
-  holds : contradicts plan sources clash premises ≡ true
+pub record Refuted (plan : Plan) (sources : Sources) (clash : Clash) : Type 0 where
+  pub accepted : is_accepted plan sources clash.steps ≡ true
+  pub blamable : is_blamable plan clash.culprit ≡ true
+  pub premises : List Atom
+  pub cites : cited (concluded clash.steps) clash.premises ≡ Some premises
+  pub holds : contradicts plan sources clash premises ≡ true
 
-refuted : (plan : Plan) (sources : Sources) (clash : Clash) → refutes plan sources clash ≡ true → Refuted plan sources clash
+pub refuted : (plan : Plan) (sources : Sources) (clash : Clash) → refutes plan sources clash ≡ true → Refuted plan sources clash
 refuted plan sources clash e =
     let test = contradicts plan sources clash in
     let p = and_parts (is_accepted plan sources clash.steps && is_blamable plan clash.culprit)
