@@ -1,8 +1,9 @@
 //! Reads a text as the model that it spells, or tells its first fault.
 
-ghost use Rattle.std.specs.Prelude.{◌≡◌, ℕ, ◌-◌, ◌^◌, ◌<◌, [], length, IfOk, Ok, Err};
+ghost use Rattle.std.specs.Prelude.{◌≡◌, ℕ, [], IfOk, Ok, Err};
 ghost use Rattle.vc_model_scope.specs.Scope.{scope_of};
 ghost use Rattle.vc_model_faults.specs.First.{backwards, readings_of, IsFirstFault, HasNoFault};
+ghost use Rattle.vc_model_faults.specs.Places.{Kept, seen_places};
 ghost use Rattle.vc_model_faults.specs.Readings.{seen_readings};
 ghost use Rattle.vc_model_faults.specs.declared.fault.ModelFaultKind.{ModelFaultKind as Kinds};
 ghost use Rattle.vc_model_lines.specs.Classified.{lines_of};
@@ -14,36 +15,42 @@ use std::alloc::{AllocError, Global};
 use std::str::from_utf8;
 use vc_model_drafts::draft_lines;
 use vc_model_faults::{ModelFault, ModelFaultKind, Sound, check_lines};
-use vc_model_lines::{Line, classify};
 use vc_model_parts::Model;
-use vc_value::Listed;
 
-// The model that lines without a fault describe, by their scope and readings.
-fn describe(alloc: Global, sound: Sound, lines: Listed<Line>) -> Result<Model, AllocError>
-    requires few { length lines < 2 ^ 32 - 1 }
-    requires scope { sound.scope ≡ scope_of (backwards [] lines) }
-    requires readings { seen_readings sound.readings ≡ readings_of (backwards [] lines) [] }
-    ensures { IfOk result (λ model. seen_model model ≡ model_of lines) }
+// The model that a text without a fault describes, by what its lines say.
+fn describe(alloc: Global, sound: Sound<'_>, text: &[u8]) -> Result<Model, AllocError>
+    requires scope { sound.scope ≡ scope_of (backwards [] (lines_of text.now)) }
+    requires readings { seen_readings sound.readings ≡ readings_of (backwards [] (lines_of text.now)) [] }
+    requires places { Kept (backwards [] (lines_of text.now)) (seen_places sound.places) }
+    ensures { IfOk result (λ model. seen_model model ≡ model_of (lines_of text.now)) }
 {
-    let Sound { scope, readings } = sound;
+    let Sound {
+        scope,
+        readings,
+        places,
+    } = sound;
     let texts = scope.scope().declared.texts.words(alloc)?;
-    let draft = draft_lines(alloc, scope.scope(), lines, readings)?;
+    let draft = draft_lines(alloc, scope.scope(), text, places, readings)?;
     Ok(draft.into_model(texts))
 }
 
-// The model that the lines describe, or their first fault. So many lines that their count needs
-// over 32 bits take more memory than there is.
-fn read_lines(alloc: Global, lines: Listed<Line>) -> Result<Model, ModelFault>
-    ensures sound { IfOk result (λ model. HasNoFault lines) }
-    ensures model { IfOk result (λ model. seen_model model ≡ model_of lines) }
-    ensures bad { (kind : Kinds) (line : ℕ) → result ≡ Err (ModelFault.Bad kind line) → IsFirstFault lines kind line }
+// The model that the lines describe, or their first fault. A text of 4 GiB takes more memory than there is.
+fn read_lines(alloc: Global, text: &[u8]) -> Result<Model, ModelFault>
+    ensures sound { IfOk result (λ model. HasNoFault (lines_of text.now)) }
+    ensures model { IfOk result (λ model. seen_model model ≡ model_of (lines_of text.now)) }
+    ensures bad { (kind : Kinds) (line : ℕ) → result ≡ Err (ModelFault.Bad kind line)
+        → IsFirstFault (lines_of text.now) kind line }
 {
-    if lines.len() >= u32::MAX as usize {
+    if text.len() >= u32::MAX as usize {
         return Err(ModelFault::OutOfMemory);
     }
-    let sound = check_lines(alloc, lines.as_slice())?;
-    let model = describe(alloc, sound, lines)?;
-    Ok(model)
+    match check_lines(alloc, text) {
+        Ok(sound) => {
+            let model = describe(alloc, sound, text)?;
+            Ok(model)
+        }
+        Err(fault) => Err(fault),
+    }
 }
 
 fn read_text(alloc: Global, text: &str) -> Result<Model, ModelFault>
@@ -52,8 +59,8 @@ fn read_text(alloc: Global, text: &str) -> Result<Model, ModelFault>
     ensures bad { (kind : Kinds) (line : ℕ) → result ≡ Err (ModelFault.Bad kind line)
         → IsFirstFault (lines_of text.now) kind line }
 {
-    let lines = classify(alloc, text)?;
-    let model = read_lines(alloc, lines)?;
+    let bytes = text.as_bytes();
+    let model = read_lines(alloc, bytes)?;
     Ok(model)
 }
 

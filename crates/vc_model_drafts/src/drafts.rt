@@ -4,6 +4,8 @@ ghost use Rattle.std.specs.Prelude.{◌≡◌, ◌+◌, ◌-◌, ◌^◌, ◌<�
 ghost use Rattle.vc_model_scope.specs.Names.{place_of};
 ghost use Rattle.vc_model_scope.specs.Contents.{entry_within};
 ghost use Rattle.vc_model_faults.specs.First.{backwards, readings_of};
+ghost use Rattle.vc_model_faults.specs.Places.{Kept, seen_places};
+ghost use Rattle.vc_model_lines.specs.Classified.{lines_of};
 ghost use Rattle.vc_model_faults.specs.Readings.{Reading as Readings, reading, seen_reading, seen_readings, dependency_read, term_read};
 ghost use Rattle.vc_syntax_terms.specs.Trees.{dependency_of, term_of};
 ghost use Rattle.vc_model_lines.specs.declared.line.Line.TheVariants as lines;
@@ -18,7 +20,8 @@ ghost use Rattle.vc_model_drafts.specs.Drafts.{Puts, PutsAny};
 use crate::stack::Stack;
 use std::alloc::{AllocError, Global};
 use std::mem;
-use vc_model_faults::Reading;
+use vc_model_faults::{Place, Reading};
+use vc_model_lines::classified::line_of;
 use vc_model_lines::{
     BillLine, BlockLine, CharLine, ColumnLine, HeadLine, IntervalLine, Line, NumLine, ObjectLine,
     OperationLine, TableLine,
@@ -669,40 +672,43 @@ fn put_line(
     result
 }
 
-// Puts all lines in front of the draft, from the last to the first.
+// Puts all lines that count in front of the draft, from the last to the first.
 fn gather(
     alloc: Global,
     scope: &Scope,
-    rest: &mut Listed<Line>,
+    text: &[u8],
+    places: &mut Listed<Place<'_>>,
     readings: &mut Listed<Reading>,
     draft: &mut Draft,
 ) -> Result<(), AllocError>
-    requires few { length rest.old < 2 ^ 32 - 1 }
-    requires readings { seen_readings readings.old ≡ readings_of (backwards [] rest.old) [] }
-    requires draft { drafts.seen_draft draft.old ≡ drafts.draft_of scope.now (length rest.old + 1) [] }
-    ensures { OnOk result (drafts.seen_draft draft.new ≡ drafts.draft_of scope.now 1 rest.old) }
+    requires places { Kept (backwards [] (lines_of text.now)) (seen_places places.old) }
+    requires readings { seen_readings readings.old ≡ readings_of (backwards [] (lines_of text.now)) [] }
+    requires draft { (number : ℕ) → drafts.seen_draft draft.old ≡ drafts.draft_of scope.now number [] }
+    ensures { OnOk result (drafts.seen_draft draft.new ≡ drafts.draft_of scope.now 1 (lines_of text.now)) }
 {
-    'lines: while let Some(line) = rest.pop() {
-        let number = rest.len() as u32 + 1;
-        put_line(alloc, scope, number, line, readings, draft)?;
+    let _text = text;
+    'lines: while let Some(place) = places.pop() {
+        let line = line_of(alloc, false, place.raw)?;
+        put_line(alloc, scope, place.number, line, readings, draft)?;
     }
     Ok(())
 }
 
-/// What all lines say, with the scope of the whole text and what its blocks and terms are read as.
+/// What the lines of the text say, whose scope, readings and places are given.
 pub fn draft_lines(
     alloc: Global,
     scope: &Scope,
-    lines: Listed<Line>,
+    text: &[u8],
+    places: Listed<Place<'_>>,
     readings: Listed<Reading>,
 ) -> Result<Draft, AllocError>
-    requires few { length lines < 2 ^ 32 - 1 }
-    requires readings { seen_readings readings ≡ readings_of (backwards [] lines) [] }
-    ensures { IfOk result (λ draft. drafts.seen_draft draft ≡ drafts.draft_of scope.now 1 lines) }
+    requires places { Kept (backwards [] (lines_of text.now)) (seen_places places) }
+    requires readings { seen_readings readings ≡ readings_of (backwards [] (lines_of text.now)) [] }
+    ensures { IfOk result (λ draft. drafts.seen_draft draft ≡ drafts.draft_of scope.now 1 (lines_of text.now)) }
 {
     let mut draft = Draft::new(alloc);
-    let mut rest = lines;
+    let mut places = places;
     let mut readings = readings;
-    gather(alloc, scope, &mut rest, &mut readings, &mut draft)?;
+    gather(alloc, scope, text, &mut places, &mut readings, &mut draft)?;
     Ok(draft)
 }

@@ -1,22 +1,49 @@
 //! The model of a few lines.
 
-use crate::drafts::draft_lines;
+ghost use Rattle.vc_model_faults.specs.First.{backwards, readings_of};
+ghost use Rattle.vc_model_faults.specs.Places.{Kept, seen_places};
+ghost use Rattle.vc_model_faults.specs.Readings.{seen_readings};
+ghost use Rattle.vc_model_lines.specs.Classified.{lines_of};
+ghost use Rattle.std.specs.Prelude.{◌≡◌, []};
+
+use crate::draft_lines;
+use std::alloc::Global;
 use std::test::Fail;
-use vc_model_lines::Line;
-use vc_model_scope::scope::ScopeBuilder;
-use vc_value::{Listed, Word};
+use vc_model_faults::{Sound, check_lines};
+use vc_value::Listed;
+
+// How many classes, nets and objects the model of a text without a fault has.
+fn counts_of(alloc: Global, text: &[u8]) -> Option<(usize, usize, usize)> {
+    if text.len() > 1_000 {
+        return None;
+    }
+    match check_lines(alloc, text) {
+        Ok(sound) => counts_in(alloc, sound, text),
+        Err(_) => None,
+    }
+}
+
+fn counts_in(alloc: Global, sound: Sound<'_>, text: &[u8]) -> Option<(usize, usize, usize)>
+    requires readings { seen_readings sound.readings ≡ readings_of (backwards [] (lines_of text.now)) [] }
+    requires places { Kept (backwards [] (lines_of text.now)) (seen_places sound.places) }
+{
+    let Sound {
+        scope,
+        readings,
+        places,
+    } = sound;
+    match draft_lines(alloc, scope.scope(), text, places, readings) {
+        Ok(draft) => {
+            let model = draft.into_model(Listed::new(alloc));
+            Some((model.classes.len(), model.nets.len(), model.objects.len()))
+        }
+        Err(_) => None,
+    }
+}
 
 #[test]
-#[tactic(auto, unfolding(vc_model_faults::specs::Readings::reading, vc_model_faults::specs::Readings::seen_readings))]
 fn lines_are_gathered(rt: HostRuntime) -> Result<(), Fail> {
-    let scope = ScopeBuilder::new(rt.alloc());
-    let mut lines = Listed::new(rt.alloc());
-    lines.push(Line::Class(Word::from_bytes(rt.alloc(), b"K")?))?;
-    lines.push(Line::Net(Word::from_bytes(rt.alloc(), b"N")?))?;
-    let draft = draft_lines(rt.alloc(), scope.scope(), lines, Listed::new(rt.alloc()))?;
-    let model = draft.into_model(Listed::new(rt.alloc()));
-    assert_eq!(rt; model.classes.len(), 1);
-    assert_eq!(rt; model.nets.len(), 1);
-    assert!(rt; model.objects.is_empty() && model.name.bytes().is_empty());
+    let text = b"MODEL M VERSION 1\nCLASS K\nCLASS L\nNET N\nOBJECT O CLASS K\nROOT O\n";
+    assert!(rt; counts_of(rt.alloc(), text) == Some((2, 1, 1)));
     Ok(())
 }

@@ -8,7 +8,7 @@ use Rattle.vc_model_scope.specs.declared.scope.Scope.{Scope}
 use Rattle.vc_model_faults.specs.declared.fault.ModelFaultKind.{ModelFaultKind}
 use Rattle.vc_model_faults.specs.declared.fault.ModelFaultKind.TheVariants.{NoRoot}
 use Rattle.vc_model_faults.specs.Kinds.{kind_at}
-use Rattle.vc_model_faults.specs.First.{backwards, readings_of, kind_by, kind_of, IsFirstFault, HasNoFault}
+use Rattle.vc_model_faults.specs.First.{backwards, readings_of, kind_by, IsFirstFault, HasNoFault}
 use Rattle.vc_model_faults.specs.Readings.{Reading, reading}
 
 abbrev pub Fault : Type 0
@@ -109,12 +109,12 @@ split (first ∷ more) line h is = ap (λ l. l ∷ more) (sym is) ∙ ap (λ t. 
 pub passed : (number : ℕ) (earlier rest all after : List Line) (line : Line) (old new : Scope) (kept more : List Reading) → rest ≡ line ∷ after
     → (old ≡ scope_of earlier) × (kept ≡ readings_of earlier rest) × (backwards earlier rest ≡ backwards [] all) × (first_fault number earlier rest ≡ first_fault 1 [] all)
     → kind_at old line after ≡ None → new ≡ with_line old line → more ≡ kept ++ option_to_list (reading line after)
-    → (e : List Line) × (new ≡ scope_of e) × (more ≡ readings_of e after) × (backwards e after ≡ backwards [] all) × (first_fault (number + 1) e after ≡ first_fault 1 [] all)
+    → (new ≡ scope_of (line ∷ earlier)) × (more ≡ readings_of (line ∷ earlier) after) × (backwards (line ∷ earlier) after ≡ backwards [] all)
+    × (first_fault (number + 1) (line ∷ earlier) after ≡ first_fault 1 [] all)
 passed number earlier rest all after line old new kept more e so_far none extended added =
     let behind = first_fault (number + 1) (line ∷ earlier) after in
-    let here : kind_at (scope_of earlier) line after ≡ None = sym (ap (λ a. kind_at a line after) so_far.0) ∙ none in (
-      line ∷ earlier,
-      extended ∙ ap (λ a. with_line a line) so_far.0 ∙ sym (scope-more line earlier),
+    let here : kind_at (scope_of earlier) line after ≡ None = sym (ap (λ s. kind_at s line after) so_far.0) ∙ none in (
+      extended ∙ ap (λ s. with_line s line) so_far.0 ∙ sym (scope-more line earlier),
       added ∙ ap (λ ts. ts ++ option_to_list (reading line after)) (so_far.1 ∙ ap (readings_of earlier) e),
       sym (ap (backwards earlier) e) ∙ so_far.2,
       sym (ap (λ k. fault_or number k behind) here) ∙ sym (ap (first_fault number earlier) e) ∙ so_far.3,

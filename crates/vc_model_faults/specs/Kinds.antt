@@ -64,6 +64,23 @@ kinds =
     kind.NotText ∷ kind.LineTooLong ∷ kind.NotALine ∷ kind.Misplaced ∷ kind.BadName ∷ kind.Twice ∷ kind.Unknown ∷ kind.BadValue
     ∷ kind.Syntax ∷ kind.WrongDependency ∷ kind.Action ∷ kind.NoValues ∷ kind.TooMany ∷ kind.NoRoot ∷ kind.MultipleRestrictable ∷ []
 
+-- those that are found without reading a block or a term, and the others
+abbrev pub early_kinds : List ModelFaultKind
+early_kinds =
+    kind.NotText ∷ kind.LineTooLong ∷ kind.NotALine ∷ kind.Misplaced ∷ kind.BadName ∷ kind.Twice ∷ kind.Unknown
+    ∷ kind.BadValue ∷ []
+
+abbrev pub late_kinds : List ModelFaultKind
+late_kinds =
+    kind.Syntax ∷ kind.WrongDependency ∷ kind.Action ∷ kind.NoValues ∷ kind.TooMany ∷ kind.NoRoot
+    ∷ kind.MultipleRestrictable ∷ []
+
+unfoldable pub early_kind : Scope → Line → List Line → Option ModelFaultKind
+early_kind scope line after = find (stands scope line after) early_kinds
+
+unfoldable pub late_kind : Scope → Line → List Line → Option ModelFaultKind
+late_kind scope line after = find (stands scope line after) late_kinds
+
 -- the least kind that stands at the line
 unfoldable pub kind_at : Scope → Line → List Line → Option ModelFaultKind
 kind_at scope line after = find (stands scope line after) kinds

@@ -5,6 +5,7 @@ pub mod Kinds
 pub mod Limits
 pub mod Misplaced
 pub mod Misspelled
+pub mod Places
 pub mod Readings
 pub mod Twice
 pub mod Unknown

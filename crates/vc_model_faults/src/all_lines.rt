@@ -1,26 +1,32 @@
 //! The pass over all lines of a model text, up to the first that is faulty.
 
-ghost use Rattle.std.specs.Prelude.{◌≡◌, ℕ, ◌-◌, ◌^◌, ◌<◌, [], ◌∷◌, length, MatchOption, IfOk, Err};
+ghost use Rattle.std.specs.Prelude.{◌≡◌, ℕ, ◌-◌, ◌^◌, ◌<◌, [], length, false, IfOk, Err};
+ghost use Rattle.vc_model_lines.specs.Classified.{lines_of};
 ghost use Rattle.vc_model_scope.specs.Scope.{scope_of};
 ghost use Rattle.vc_model_faults.specs.First.{backwards, readings_of, IsFirstFault, HasNoFault};
+ghost use Rattle.vc_model_faults.specs.Places.{Kept, seen_places};
 ghost use Rattle.vc_model_faults.specs.Readings.{seen_readings};
 ghost use Rattle.vc_model_faults.specs.declared.fault.ModelFaultKind.{ModelFaultKind as Kinds};
-ghost use Rattle.vc_model_faults.specs.Found.{Finds};
+ghost use Rattle.vc_model_faults.specs.Found.{Finds, Steps};
 
 use crate::fault::{ModelFault, ModelFaultKind};
 use crate::one_line::check_line;
+use crate::places::Place;
 use crate::readings::Reading;
 use std::alloc::{AllocError, Global};
-use vc_model_lines::Line;
+use vc_model_lines::classified::{is_in_block, line_of};
+use vc_model_lines::cut;
+use vc_model_scope::look_ahead::passes_over;
 use vc_model_scope::scope::ScopeBuilder;
 use vc_value::Listed;
 
-/// What lines without a fault say: their scope, and what each block and term is read as, in the order
-/// of the text.
+/// What a text without a fault says: its scope, what each block and term is read as, and where its
+/// lines stand that count, all in the order of the text.
 #[derive(Drop)]
-pub struct Sound {
+pub struct Sound<'a> {
     pub scope: ScopeBuilder,
     pub readings: Listed<Reading>,
+    pub places: Listed<Place<'a>>,
 }
 
 // A faulty line, counted from 1, with its least kind.
@@ -30,33 +36,82 @@ struct FaultyLine {
     line: u32,
 }
 
-// The first line and those after it.
-fn split(lines: &[Line]) -> Option<(&Line, &[Line])>
-    ensures { MatchOption result (lines.now ≡ []) (λ parts. lines.now ≡ parts.0.now ∷ parts.1.now) }
-{
-    lines.split_first()
+// What comes of a line.
+#[derive(Clone, Copy)]
+enum Step {
+    /// It is faulty.
+    Fault(ModelFaultKind),
+    /// The pass goes on, in a block or outside.
+    Goes(bool),
 }
 
-// Goes over the lines up to the first that is faulty. The text's end is a place of its own.
-fn find_fault(
+// Checks a line outside blocks.
+fn check_outside<'a>(
     alloc: Global,
     scope: &mut ScopeBuilder,
     readings: &mut Listed<Reading>,
-    lines: &[Line],
+    places: &mut Listed<Place<'a>>,
+    number: u32,
+    raw: &'a [u8],
+    after: &[u8],
+) -> Result<Step, AllocError>
+    ensures { IfOk result (λ step. Steps false number raw.now after.now scope.old (seen_readings readings.old)
+        (seen_places places.old) scope.new (seen_readings readings.new) (seen_places places.new) step) }
+{
+    let line = line_of(alloc, false, raw)?;
+    match check_line(alloc, scope, readings, &line, after)? {
+        Some(kind) => Ok(Step::Fault(kind)),
+        None => {
+            places.push(Place { number, raw })?;
+            Ok(Step::Goes(is_in_block(&line)))
+        }
+    }
+}
+
+// Checks a line, which is passed over at once where it doesn't count.
+fn check_next<'a>(
+    alloc: Global,
+    scope: &mut ScopeBuilder,
+    readings: &mut Listed<Reading>,
+    places: &mut Listed<Place<'a>>,
+    inside: bool,
+    number: u32,
+    raw: &'a [u8],
+    after: &[u8],
+) -> Result<Step, AllocError>
+    ensures { IfOk result (λ step. Steps inside number raw.now after.now scope.old (seen_readings readings.old)
+        (seen_places places.old) scope.new (seen_readings readings.new) (seen_places places.new) step) }
+{
+    match passes_over(inside, raw) {
+        Some(next) => Ok(Step::Goes(next)),
+        None => check_outside(alloc, scope, readings, places, number, raw, after),
+    }
+}
+
+// Goes over the lines up to the first that is faulty. The text's end is a place of its own.
+fn find_fault<'a>(
+    alloc: Global,
+    scope: &mut ScopeBuilder,
+    readings: &mut Listed<Reading>,
+    places: &mut Listed<Place<'a>>,
+    text: &'a [u8],
 ) -> Result<Option<FaultyLine>, AllocError>
-    requires few { length lines.now < 2 ^ 32 - 1 }
+    requires few { length text.now < 2 ^ 32 - 1 }
     requires scope { scope.old ≡ scope_of [] }
     requires readings { readings.old ≡ [] }
-    ensures { IfOk result (λ found. Finds lines.now found scope.new (seen_readings readings.new)) }
+    requires places { places.old ≡ [] }
+    ensures { IfOk result (λ found. Finds (lines_of text.now) found scope.new (seen_readings readings.new)
+        (seen_places places.new)) }
 {
-    let mut rest = lines;
+    let mut inside = false;
+    let mut rest = text;
     let mut line: u32 = 1;
-    'lines: while let Some((first, after)) = split(rest) {
-        match check_line(alloc, scope, readings, first, after)? {
-            Some(kind) => return Ok(Some(FaultyLine { kind, line })),
-            None => {}
+    'lines: while let Some((raw, more)) = cut(rest) {
+        match check_next(alloc, scope, readings, places, inside, line, raw, more)? {
+            Step::Fault(kind) => return Ok(Some(FaultyLine { kind, line })),
+            Step::Goes(next) => inside = next,
         }
-        rest = after;
+        rest = more;
         line += 1;
     }
     if scope.scope().root {
@@ -69,19 +124,26 @@ fn find_fault(
     }
 }
 
-/// What the lines say, or the first fault with the least kind that stands there.
-pub fn check_lines(alloc: Global, lines: &[Line]) -> Result<Sound, ModelFault>
-    requires { length lines.now < 2 ^ 32 - 1 }
-    ensures sound { IfOk result (λ sound. HasNoFault lines.now) }
-    ensures scope { IfOk result (λ sound. sound.scope ≡ scope_of (backwards [] lines.now)) }
-    ensures readings { IfOk result (λ sound. seen_readings sound.readings ≡ readings_of (backwards [] lines.now) []) }
+/// What the text's lines say, or the first fault with the least kind that stands there.
+pub fn check_lines(alloc: Global, text: &[u8]) -> Result<Sound<'_>, ModelFault>
+    requires { length text.now < 2 ^ 32 - 1 }
+    ensures sound { IfOk result (λ sound. HasNoFault (lines_of text.now)) }
+    ensures scope { IfOk result (λ sound. sound.scope ≡ scope_of (backwards [] (lines_of text.now))) }
+    ensures readings { IfOk result (λ sound. seen_readings sound.readings
+        ≡ readings_of (backwards [] (lines_of text.now)) []) }
+    ensures places { IfOk result (λ sound. Kept (backwards [] (lines_of text.now)) (seen_places sound.places)) }
     ensures bad { (kind : Kinds) (line : ℕ) → result ≡ Err (ModelFault.Bad kind line)
-        → IsFirstFault lines.now kind line }
+        → IsFirstFault (lines_of text.now) kind line }
 {
     let mut scope = ScopeBuilder::new(alloc);
     let mut readings = Listed::new(alloc);
-    match find_fault(alloc, &mut scope, &mut readings, lines)? {
+    let mut places = Listed::new(alloc);
+    match find_fault(alloc, &mut scope, &mut readings, &mut places, text)? {
         Some(FaultyLine { kind, line }) => Err(ModelFault::Bad { kind, line }),
-        None => Ok(Sound { scope, readings }),
+        None => Ok(Sound {
+            scope,
+            readings,
+            places,
+        }),
     }
 }

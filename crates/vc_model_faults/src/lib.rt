@@ -10,6 +10,7 @@ mod line_tests;
 pub mod misplaced;
 pub mod misspelled;
 pub mod one_line;
+pub mod places;
 pub mod readings;
 #[cfg(test)]
 mod tests;
@@ -19,4 +20,5 @@ pub mod values;
 
 pub use all_lines::{Sound, check_lines};
 pub use fault::{ModelFault, ModelFaultKind};
+pub use places::Place;
 pub use readings::Reading;

@@ -1,29 +1,20 @@
 //! Texts with one fault each, and the limits that are quickly reached.
 
-use crate::fault::ModelFaultKind;
-use crate::one_line::check_line;
+use crate::all_lines::check_lines;
+use crate::fault::{ModelFault, ModelFaultKind};
 use std::alloc::{AllocError, Global};
 use std::test::Fail;
-use vc_model_lines::classify;
-use vc_model_scope::scope::ScopeBuilder;
-use vc_value::Listed;
 
-// The kind and the line of the first fault at a line; None where there is none.
-fn fault_of(alloc: Global, text: &str) -> Result<Option<(ModelFaultKind, usize)>, AllocError> {
-    let lines = classify(alloc, text)?;
-    let mut scope = ScopeBuilder::new(alloc);
-    let mut readings = Listed::new(alloc);
-    let mut rest = lines.as_slice();
-    for number in 1..1_000 {
-        let Some((line, after)) = rest.split_first() else {
-            return Ok(None);
-        };
-        match check_line(alloc, &mut scope, &mut readings, line, after)? {
-            Some(kind) => return Ok(Some((kind, number))),
-            None => rest = after,
-        }
+// The kind and the line of the first fault; None where there is none.
+fn fault_of(alloc: Global, text: &str) -> Result<Option<(ModelFaultKind, u32)>, AllocError> {
+    if text.len() > 100_000 {
+        return Ok(None);
     }
-    Ok(None)
+    match check_lines(alloc, text.as_bytes()) {
+        Ok(_sound) => Ok(None),
+        Err(ModelFault::Bad { kind, line }) => Ok(Some((kind, line))),
+        Err(ModelFault::OutOfMemory) => Err(AllocError),
+    }
 }
 
 #[test]
@@ -80,7 +71,7 @@ fn limits_hold_at_their_numbers(rt: HostRuntime) -> Result<(), Fail> {
         let column = format!(in rt.alloc(); "COLUMN C{number}\n")?;
         text.push_str(column.as_str())?;
     }
-    assert!(rt; fault_of(rt.alloc(), text.as_str())?.is_none());
+    assert!(rt; fault_of(rt.alloc(), text.as_str())? == Some((ModelFaultKind::NoRoot, 65)));
     text.push_str("COLUMN C20\n")?;
     assert!(rt; fault_of(rt.alloc(), text.as_str())? == Some((ModelFaultKind::TooMany, 65)));
     Ok(())

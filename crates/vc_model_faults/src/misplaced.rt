@@ -1,8 +1,13 @@
 //! Whether a line may stand where it stands.
 
-ghost use Rattle.std.specs.Prelude.{◌≡◌};
+ghost use Rattle.std.specs.Prelude.{◌≡◌, ◌||◌, IfOk, false, not};
+ghost use Rattle.std.specs.List.{list_any};
+ghost use Rattle.std.specs.Str.Lines.{lines};
+ghost use Rattle.vc_model_lines.specs.Classified.{lines_below, lines_from};
+ghost use Rattle.vc_model_scope.specs.Stands.{counts};
 ghost use Rattle.vc_model_faults.specs.Misplaced as placed;
 
+use std::alloc::{AllocError, Global};
 use vc_model_lines::Line;
 use vc_model_scope::look_ahead::{is_closed, one_counts};
 use vc_model_scope::scope::Scope;
@@ -64,25 +69,37 @@ fn takes_uses(place: UsesPlace) -> bool
 
 /// Whether the line may not stand there, or opens a block that isn't closed.
 #[tactic(auto, unfolding(crate::specs::Misplaced::is_misplaced))]
-pub fn is_misplaced(scope: &Scope, line: &Line, after: &[Line]) -> bool
-    ensures { result ≡ placed.is_misplaced scope.now line.now after.now }
+pub fn is_misplaced(
+    alloc: Global,
+    scope: &Scope,
+    line: &Line,
+    after: &[u8],
+) -> Result<bool, AllocError>
+    ensures { IfOk result (λ is. is ≡ placed.is_misplaced scope.now line.now (lines_below line.now after.now)) }
 {
     match line {
-        Line::Head(_) => scope.counted,
+        Line::Head(_) => Ok(scope.counted),
         Line::Char(_)
         | Line::Num(_)
         | Line::Class(_)
         | Line::Table(_)
         | Line::Net(_)
-        | Line::Object(_) => !scope.head,
-        Line::Text(_) => !takes_texts(scope.standing.under),
-        Line::Interval(_) => !takes_intervals(scope.standing.under),
-        Line::Has(_) => !takes_members(scope.standing.under),
-        Line::Column(_) => !takes_columns(scope.standing.under),
-        Line::Bill(_) | Line::Operation(_) => !takes_items(scope.standing.under),
-        Line::Uses(_) => !takes_uses(scope.uses.place),
-        Line::Block(_) => !scope.head || !is_closed(after),
-        Line::Root(_) => !scope.head || one_counts(after),
-        _ => false,
+        | Line::Object(_) => Ok(!scope.head),
+        Line::Text(_) => Ok(!takes_texts(scope.standing.under)),
+        Line::Interval(_) => Ok(!takes_intervals(scope.standing.under)),
+        Line::Has(_) => Ok(!takes_members(scope.standing.under)),
+        Line::Column(_) => Ok(!takes_columns(scope.standing.under)),
+        Line::Bill(_) | Line::Operation(_) => Ok(!takes_items(scope.standing.under)),
+        Line::Uses(_) => Ok(!takes_uses(scope.uses.place)),
+        Line::Block(_) => Ok(!scope.head || !is_closed(after)),
+        Line::Root(_) => is_misplaced_root(alloc, scope.head, after),
+        _ => Ok(false),
     }
+}
+
+fn is_misplaced_root(alloc: Global, head: bool, after: &[u8]) -> Result<bool, AllocError>
+    ensures { IfOk result (λ is. is ≡ (not head || list_any counts (lines_from false (lines after.now)))) }
+{
+    let more = one_counts(alloc, after)?;
+    Ok(!head || more)
 }

@@ -2,11 +2,13 @@
 
 ghost use Rattle.std.specs.Prelude.{◌≡◌, ◌++◌, option_map, option_to_list, IfOk, OnOk, None, Ok};
 ghost use Rattle.vc_model_scope.specs.Scope.{with_line};
+ghost use Rattle.vc_model_lines.specs.Classified.{lines_below};
+ghost use Rattle.vc_model_faults.specs.Kinds as kinds;
 ghost use Rattle.vc_model_faults.specs.Kinds.{kind_at};
 ghost use Rattle.vc_model_faults.specs.Readings.{reading, seen_reading, seen_readings};
 
 use crate::fault::ModelFaultKind;
-use crate::kinds::kind_at;
+use crate::kinds::{early_kind, late_kind};
 use crate::readings::{Reading, is_unread, read_line};
 use std::alloc::{AllocError, Global};
 use vc_model_lines::Line;
@@ -26,21 +28,40 @@ fn keep(readings: &mut Listed<Reading>, read: Option<Reading>) -> Result<(), All
 
 /// Goes over a line, or tells the least kind of fault that stands at it. What blocks and terms are read
 /// as is kept in the order of the text.
-#[tactic(auto, unfolding(crate::specs::Readings::is_unread))]
 pub fn check_line(
     alloc: Global,
     scope: &mut ScopeBuilder,
     readings: &mut Listed<Reading>,
     line: &Line,
-    after: &[Line],
+    after: &[u8],
 ) -> Result<Option<ModelFaultKind>, AllocError>
-    ensures kind { IfOk result (λ kind. kind ≡ kind_at scope.old line.now after.now) }
+    ensures kind { IfOk result (λ kind. kind ≡ kind_at scope.old line.now (lines_below line.now after.now)) }
     ensures scope { result ≡ Ok None → scope.new ≡ with_line scope.old line.now }
     ensures readings { result ≡ Ok None → seen_readings readings.new
-        ≡ seen_readings readings.old ++ option_to_list (reading line.now after.now) }
+        ≡ seen_readings readings.old ++ option_to_list (reading line.now (lines_below line.now after.now)) }
+{
+    match early_kind(alloc, scope.scope(), line, after)? {
+        Some(kind) => Ok(Some(kind)),
+        None => check_rest(alloc, scope, readings, line, after),
+    }
+}
+
+// The same of a line at which no kind before Syntax stands: its block or term is read only then.
+#[tactic(auto, unfolding(crate::specs::Readings::is_unread))]
+fn check_rest(
+    alloc: Global,
+    scope: &mut ScopeBuilder,
+    readings: &mut Listed<Reading>,
+    line: &Line,
+    after: &[u8],
+) -> Result<Option<ModelFaultKind>, AllocError>
+    ensures kind { IfOk result (λ kind. kind ≡ kinds.late_kind scope.old line.now (lines_below line.now after.now)) }
+    ensures scope { result ≡ Ok None → scope.new ≡ with_line scope.old line.now }
+    ensures readings { result ≡ Ok None → seen_readings readings.new
+        ≡ seen_readings readings.old ++ option_to_list (reading line.now (lines_below line.now after.now)) }
 {
     let read = read_line(alloc, line, after)?;
-    match kind_at(scope.scope(), line, after, is_unread(&read)) {
+    match late_kind(alloc, scope.scope(), line, after, is_unread(&read))? {
         Some(kind) => Ok(Some(kind)),
         None => {
             keep(readings, read)?;

@@ -1,6 +1,8 @@
 //! What the blocks and terms of a text are read as, each once.
 
-ghost use Rattle.std.specs.Prelude.{◌≡◌, ◌↔◌, ◌^◌, ◌<◌, length, option_map, IfOk, IsTrue};
+ghost use Rattle.std.specs.Prelude.{◌≡◌, ◌↔◌, ◌^◌, ◌<◌, length, option_map, IfOk, IsTrue, true};
+ghost use Rattle.std.specs.Str.Lines.{lines};
+ghost use Rattle.vc_model_lines.specs.Classified.{lines_below, lines_from};
 ghost use Rattle.vc_model_scope.specs.LookAhead as ahead;
 ghost use Rattle.vc_model_faults.specs.Readings as readings;
 ghost use Rattle.vc_syntax_terms.specs.Trees.{term_of};
@@ -52,9 +54,9 @@ fn is_short(text: &[u8]) -> bool
     text.len() <= u32::MAX as usize
 }
 
-fn read_block(alloc: Global, line: &BlockLine, after: &[Line]) -> Result<Reading, AllocError>
+fn read_block(alloc: Global, line: &BlockLine, after: &[u8]) -> Result<Reading, AllocError>
     ensures { IfOk result (λ reading. readings.seen_reading reading
-        ≡ readings.block_reading line.now.kind (ahead.block_text after.now)) }
+        ≡ readings.block_reading line.now.kind (ahead.block_text (lines_from true (lines after.now)))) }
 {
     let text = block_text(alloc, after)?;
     if !is_short(text.bytes()) {
@@ -76,8 +78,9 @@ fn read_word(alloc: Global, term: &Word) -> Result<Reading, AllocError>
 
 /// What the block that a line opens, or its term, is read as; None for a line with neither.
 #[tactic(auto, unfolding(crate::specs::Readings::reading))]
-pub fn read_line(alloc: Global, line: &Line, after: &[Line]) -> Result<Option<Reading>, AllocError>
-    ensures { IfOk result (λ reading. option_map readings.seen_reading reading ≡ readings.reading line.now after.now) }
+pub fn read_line(alloc: Global, line: &Line, after: &[u8]) -> Result<Option<Reading>, AllocError>
+    ensures { IfOk result (λ reading. option_map readings.seen_reading reading
+        ≡ readings.reading line.now (lines_below line.now after.now)) }
 {
     match line {
         Line::Block(line) => Ok(Some(read_block(alloc, line, after)?)),

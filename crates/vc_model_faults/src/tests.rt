@@ -4,7 +4,6 @@ use crate::all_lines::check_lines;
 use crate::fault::{ModelFault, ModelFaultKind};
 use std::alloc::Global;
 use std::test::Fail;
-use vc_model_lines::classify;
 
 #[derive(Drop)]
 enum Outcome {
@@ -15,14 +14,10 @@ enum Outcome {
 
 // How many blocks and terms of a text without fault are read, or its first fault.
 fn outcome_of(alloc: Global, text: &str) -> Outcome {
-    let Ok(lines) = classify(alloc, text) else {
-        return Outcome::Other;
-    };
-    let lines = lines.as_slice();
-    if lines.len() > 1_000 {
+    if text.len() > 1_000 {
         return Outcome::Other;
     }
-    match check_lines(alloc, lines) {
+    match check_lines(alloc, text.as_bytes()) {
         Ok(sound) => Outcome::Sound(sound.readings.len()),
         Err(ModelFault::Bad { kind, line }) => Outcome::Bad(kind, line),
         Err(ModelFault::OutOfMemory) => Outcome::Other,
@@ -53,6 +48,7 @@ fn first_faults_are_told_at_their_lines(rt: HostRuntime) -> Result<(), Fail> {
             "{text}"
         );
     }
+    assert_eq!(rt; ModelFaultKind::MultipleRestrictable.number(), 15);
     let text = "MODEL A VERSION 1\nCLASS C\nPRECONDITION P\nX = 1\nEND\nOBJECT M CLASS C\nROOT M\n";
     let told = outcome_of(rt.alloc(), text);
     assert!(rt; matches!(&told, Outcome::Sound(1)));

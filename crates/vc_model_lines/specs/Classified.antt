@@ -59,6 +59,10 @@ abbrev pub lines_from : Bool → List (List ℕ) → List Line
 lines_from inside [] = []
 lines_from inside (raw ∷ raws) = let first = line_of inside raw in first ∷ lines_from (is_in_block first) raws
 
+-- the lines below a line, behind which these bytes stand
+abbrev pub lines_below : Line → List ℕ → List Line
+lines_below line bytes = lines_from (is_in_block line) (lines bytes)
+
 -- the lines of a text: its raw lines end with LF or CR LF, and what follows the last LF is one where it isn't empty
 abbrev pub lines_of : List ℕ → List Line
 lines_of text = lines_from false (lines text)

@@ -1,7 +1,8 @@
 //! The lines of a model text: each raw line as a line of its form.
 
-ghost use Rattle.std.specs.Prelude.{◌≡◌, map, IfOk};
-ghost use Rattle.std.specs.Str.Lines.{lines};
+ghost use Rattle.std.specs.Prelude.{◌≡◌, ℕ, List, codes, IfOk, IfSome, IfNone};
+ghost use Rattle.vc_value.specs.Words.{same_ignoring_case};
+ghost use Rattle.vc_model_lines.specs.LineWords as spelled;
 ghost use Rattle.vc_model_lines.specs.Classified as classified;
 
 use crate::forms::form_of;
@@ -9,18 +10,20 @@ use crate::keywords::keyword_of;
 use crate::line::{Keyword, Line};
 use crate::words::{first_word, is_word, trimmed, without_spaces_before, words};
 use std::alloc::{AllocError, Global};
-use vc_value::{Listed, Word};
+use vc_value::Word;
 
 /// The most bytes that a line may have, spaces at its ends included.
 const LONGEST: usize = 1_000;
 
-fn is_long(raw: &[u8]) -> bool
+/// Whether the raw line is too long.
+pub fn is_long(raw: &[u8]) -> bool
     ensures { result ≡ classified.is_long raw.now }
 {
     raw.len() > LONGEST
 }
 
-fn is_skipped(line: &[u8]) -> bool
+/// Whether a line outside blocks, without the spaces before it, doesn't count.
+pub fn is_skipped(line: &[u8]) -> bool
     ensures { result ≡ classified.is_skipped line.now }
 {
     match line {
@@ -79,7 +82,27 @@ fn inside_block(alloc: Global, raw: &[u8]) -> Result<Line, AllocError>
     Ok(Line::Inner(Word::from_bytes(alloc, line)?))
 }
 
-fn line_of(alloc: Global, inside: bool, raw: &[u8]) -> Result<Line, AllocError>
+/// Whether a raw line closes the block that it stands in.
+pub fn closes(raw: &[u8]) -> bool
+    ensures { result ≡ same_ignoring_case (codes "END") (spelled.trimmed raw.now) }
+{
+    is_word("END", trimmed(raw))
+}
+
+/// What a raw line in a block adds to its text, if it is neither too long nor the END.
+pub fn inner_text(raw: &[u8]) -> Option<&[u8]>
+    ensures inner { IfSome result (λ text. classified.inside_block raw.now ≡ Line.Inner text.now) }
+    ensures ends { IfNone result ((text : List ℕ) → classified.inside_block raw.now ≡ Line.Inner text → ⊥) }
+{
+    if is_long(raw) || closes(raw) {
+        None
+    } else {
+        Some(trimmed(raw))
+    }
+}
+
+/// The raw line as a line of its form, in a block or outside.
+pub fn line_of(alloc: Global, inside: bool, raw: &[u8]) -> Result<Line, AllocError>
     ensures { IfOk result (λ form. form ≡ classified.line_of inside raw.now) }
 {
     if inside {
@@ -94,27 +117,4 @@ pub fn is_in_block(line: &Line) -> bool
     ensures { result ≡ classified.is_in_block line.now }
 {
     matches!(line, Line::Block(_) | Line::Inner(_) | Line::LongInner)
-}
-
-fn raw_lines(alloc: Global, text: &str) -> Result<Vec<&str>, AllocError>
-    ensures { IfOk result (λ raw. map (λ line. line.now) raw.items ≡ lines text.now) }
-{
-    text.lines().collect(alloc)
-}
-
-/// The lines of the text, one for each raw line, in order.
-pub fn classify(alloc: Global, text: &str) -> Result<Listed<Line>, AllocError>
-    ensures { IfOk result (λ forms. forms ≡ classified.lines_of text.now) }
-{
-    let raw = raw_lines(alloc, text)?;
-    let mut forms = Listed::new(alloc);
-    let mut inside = false;
-    let mut rest = raw.as_slice();
-    while let [line, more @ ..] = rest {
-        let form = line_of(alloc, inside, line.as_bytes())?;
-        inside = is_in_block(&form);
-        forms.push(form)?;
-        rest = more;
-    }
-    Ok(forms)
 }

@@ -56,7 +56,8 @@ fn flagged_char(
     length: &[u8],
     flags: &[&[u8]],
 ) -> Result<Option<Line>, AllocError>
-    ensures { IfOk result (λ line. line ≡ forms.char_with_flags name.now length.now (map (λ word. word.now) flags.now)) }
+    ensures { IfOk result (λ line. line
+        ≡ forms.char_with_flags name.now length.now (map (λ word. word.now) flags.now)) }
 {
     let restrictable = has_word("RESTRICTABLE", flags);
     let required = has_word("REQUIRED", flags);
@@ -106,7 +107,8 @@ fn num_with_more(
     decimals: &[u8],
     words: &[&[u8]],
 ) -> Result<Option<Line>, AllocError>
-    ensures { IfOk result (λ line. line ≡ forms.num_with_more name.now decimals.now (map (λ word. word.now) words.now)) }
+    ensures { IfOk result (λ line. line
+        ≡ forms.num_with_more name.now decimals.now (map (λ word. word.now) words.now)) }
 {
     match unit_at(words) {
         Some(at) => num_with_unit(alloc, name, decimals, &words[..at], &words[at + 1..]),
@@ -121,7 +123,8 @@ fn num_with_unit(
     flags: &[&[u8]],
     more: &[&[u8]],
 ) -> Result<Option<Line>, AllocError>
-    ensures { IfOk result (λ line. line ≡ forms.num_with_unit name.now decimals.now (map (λ word. word.now) flags.now) (map (λ word. word.now) more.now)) }
+    ensures { IfOk result (λ line. line ≡ forms.num_with_unit name.now decimals.now
+        (map (λ word. word.now) flags.now) (map (λ word. word.now) more.now)) }
 {
     match more {
         [unit] => num_with_flags(alloc, name, decimals, flags, Some(unit)),
@@ -145,7 +148,8 @@ fn num_with_flags(
     flags: &[&[u8]],
     unit: Option<&[u8]>,
 ) -> Result<Option<Line>, AllocError>
-    ensures { IfOk result (λ line. line ≡ forms.num_with_flags name.now decimal_places.now (map (λ word. word.now) flags.now) (option_copied unit.entry)) }
+    ensures { IfOk result (λ line. line ≡ forms.num_with_flags name.now decimal_places.now
+        (map (λ word. word.now) flags.now) (option_copied unit.entry)) }
 {
     let restrictable = has_word("RESTRICTABLE", flags);
     let required = has_word("REQUIRED", flags);

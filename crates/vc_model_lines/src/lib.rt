@@ -3,6 +3,7 @@
 
 pub mod classified;
 pub mod counts;
+pub mod cutting;
 pub mod forms;
 pub mod keywords;
 pub mod line;
@@ -10,7 +11,7 @@ pub mod quoted;
 pub mod spelling;
 pub mod words;
 
-pub use classified::classify;
+pub use cutting::cut;
 pub use line::{
     BillLine, BlockLine, CharLine, ColumnLine, HeadLine, IntervalLine, Keyword, Line, NumLine,
     ObjectLine, OperationLine, TableLine,

@@ -19,7 +19,8 @@ pub fn begins_with_quote(bytes: &[u8]) -> bool
 // The first byte of a text with each quote doubled, and what follows it; None at a quote that isn't
 // doubled, and at the end.
 fn text_byte(bytes: &[u8]) -> Option<(u8, &[u8])>
-    ensures some { IfSome result (λ p. quoted.unquoted bytes.now ≡ option_map (λ text. p.0 ∷ text) (quoted.unquoted p.1.now)) }
+    ensures some { IfSome result (λ p. quoted.unquoted bytes.now
+        ≡ option_map (λ text. p.0 ∷ text) (quoted.unquoted p.1.now)) }
     ensures shorter { IfSome result (λ p. length p.1.now < length bytes.now) }
     ensures none { IfNone result (quoted.unquoted bytes.now ≡ quoted.closed bytes.now) }
 {

@@ -1,7 +1,9 @@
 //! A line of each form, lines that miss a form by little, and a block.
 
-use crate::classify;
+use crate::classified::{is_in_block, line_of};
+use crate::cut;
 use crate::line::Line;
+use std::alloc::{AllocError, Global};
 use std::test::Fail;
 
 fn form(line: &Line) -> &'static str {
@@ -65,28 +67,38 @@ fn a_line_is_of_one_form(rt: HostRuntime) -> Result<(), Fail> {
         ("ACTION", "none"),
         ("END", "none"),
     ] {
-        match classify(rt.alloc(), text)?.as_slice() {
-            [line] => assert!(rt; form(line) == want, "{text}"),
-            _ => assert!(rt; false, "{text}"),
-        }
+        let line = line_of(rt.alloc(), false, text.as_bytes())?;
+        assert!(rt; form(&line) == want, "{text}");
     }
     Ok(())
+}
+
+fn forms_of(alloc: Global, text: &str) -> Result<Vec<&'static str>, AllocError> {
+    let mut forms = Vec::new(alloc);
+    let mut inside = false;
+    let mut rest = text.as_bytes();
+    for _ in 0..100 {
+        let Some((raw, more)) = cut(rest) else {
+            break;
+        };
+        let line = line_of(alloc, inside, raw)?;
+        inside = is_in_block(&line);
+        forms.push(form(&line))?;
+        rest = more;
+    }
+    Ok(forms)
 }
 
 #[test]
 fn a_block_keeps_its_lines(rt: HostRuntime) -> Result<(), Fail> {
     let text = "* of the model\r\n\nSELECTION S_L\n* of the block\n  SIZE = 'L'\nend\nROOT PUMP";
-    let lines = classify(rt.alloc(), text)?;
-    let mut forms = Vec::new(rt.alloc());
-    for line in lines.as_slice() {
-        forms.push(form(line))?;
-    }
+    let forms = forms_of(rt.alloc(), text)?;
     let want = [
         "skipped", "skipped", "block", "inner", "inner", "end", "root",
     ];
     assert!(rt; forms.as_slice() == want.as_slice());
-    match lines.as_slice() {
-        [.., Line::Inner(text), _, _] => assert!(rt; text.is(b"SIZE = 'L'".as_slice())),
+    match line_of(rt.alloc(), true, b"  SIZE = 'L' ")? {
+        Line::Inner(text) => assert!(rt; text.is(b"SIZE = 'L'")),
         _ => assert!(rt; false),
     }
     Ok(())

@@ -47,7 +47,8 @@ fn parts(alloc: Global, line: &[u8]) -> Result<Vec<&[u8]>, AllocError>
 }
 
 fn put_word<'a>(words: &mut Vec<&'a [u8]>, part: &'a [u8]) -> Result<(), AllocError>
-    ensures { OnOk result (map (λ word. word.now) words.new.items ≡ map (λ word. word.now) words.old.items ++ spelled.kept_parts (part.now ∷ [])) }
+    ensures { OnOk result (map (λ word. word.now) words.new.items ≡ map (λ word. word.now) words.old.items
+        ++ spelled.kept_parts (part.now ∷ [])) }
 {
     if !part.is_empty() {
         words.push(part)?;

@@ -135,7 +135,6 @@ pub struct Object {
 }
 
 /// A model. All lists are in the order of the text.
-#[derive(Drop)]
 pub struct Model {
     pub name: Word,
     pub version: u32,
@@ -149,4 +148,30 @@ pub struct Model {
     pub objects: Listed<Object>,
     /// The root object's number.
     pub root: u32,
+}
+
+// By hand, as a derived one is proved again, with all of its parts, in each crate that drops a model.
+impl Drop for Model {
+    fn drop(self) {
+        let Model {
+            name,
+            version: _,
+            characteristics,
+            texts,
+            classes,
+            tables,
+            dependencies,
+            nets,
+            objects,
+            root: _,
+        } = self;
+        drop(name);
+        drop(characteristics);
+        drop(texts);
+        drop(classes);
+        drop(tables);
+        drop(dependencies);
+        drop(nets);
+        drop(objects);
+    }
 }

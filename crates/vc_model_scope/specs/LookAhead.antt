@@ -4,8 +4,6 @@ use Rattle.vc_model_lines.specs.declared.line.Keyword.{Keyword}
 use Rattle.vc_model_lines.specs.declared.line.Keyword.TheVariants as keywords
 use Rattle.vc_model_lines.specs.declared.line.Line.{Line}
 use Rattle.vc_model_lines.specs.declared.line.Line.TheVariants as lines
-use Rattle.vc_model_scope.specs.declared.look_ahead.Question.{Question}
-use Rattle.vc_model_scope.specs.declared.look_ahead.Question.TheVariants as questions
 
 -- what the first line answers that answers something
 abbrev pub first_answer : (Line → Option Bool) → List Line → Bool
@@ -47,11 +45,6 @@ values_at (lines.Operation operation) = None
 values_at (lines.TooLong keyword) = values_behind keyword
 values_at (lines.NoForm keyword) = values_behind keyword
 values_at line = Some false
-
-abbrev pub answer_at : Question → Line → Option Bool
-answer_at questions.LongLine line = long_line_at line
-answer_at questions.Closing line = closing_at line
-answer_at questions.Values line = values_at line
 
 -- a line of over 1,000 bytes stands in the block whose lines these are
 abbrev pub has_long_line : List Line → Bool

@@ -27,7 +27,8 @@ pub fn list_name(
     ends: bool,
     name: Option<&Word>,
 ) -> Result<(), AllocError>
-    ensures { OnOk result (names.new ≡ (if ends then [] else with_option with_name names.old (option_copied name.entry))) }
+    ensures { OnOk result (names.new
+        ≡ (if ends then [] else with_option with_name names.old (option_copied name.entry))) }
 {
     if ends {
         *names = Names::new(alloc);

@@ -4,17 +4,25 @@ use crate::entries::{Entries, Interval};
 use crate::scope::ScopeBuilder;
 use crate::stands::{Under, UsesPlace};
 use std::test::Fail;
-use vc_model_lines::classify;
+use vc_model_lines::classified::{is_in_block, line_of};
+use vc_model_lines::cut;
 use vc_value::Dec;
 
 #[test]
 fn lines_make_a_scope(rt: HostRuntime) -> Result<(), Fail> {
     let text =
         "MODEL A VERSION 1\nCHAR SIZE 2 MULTIPLE\nVALUE 'S'\nVALUE 'L'\nNUM FLOW 1\nVALUE 5\nCLASS C\nHAS SIZE\n";
-    let lines = classify(rt.alloc(), text)?;
     let mut builder = ScopeBuilder::new(rt.alloc());
-    for line in lines.as_slice() {
-        builder.extend(rt.alloc(), line)?;
+    let mut inside = false;
+    let mut rest = text.as_bytes();
+    for _ in 0..100 {
+        let Some((raw, more)) = cut(rest) else {
+            break;
+        };
+        let line = line_of(rt.alloc(), inside, raw)?;
+        builder.extend(rt.alloc(), &line)?;
+        inside = is_in_block(&line);
+        rest = more;
     }
     let scope = builder.scope();
     assert!(rt; scope.counted && scope.head && !scope.root);

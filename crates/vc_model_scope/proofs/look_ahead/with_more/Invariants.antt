@@ -1,9 +1,11 @@
-use Rattle.std.proofs.Common.{◌≡◌, ◌++◌, length}
+use Rattle.std.proofs.Common.{◌≡◌, ◌++◌, true, length}
+use Rattle.std.specs.Str.Lines.{lines}
+use Rattle.vc_model_lines.specs.Classified.{lines_from}
 use Rattle.vc_model_scope.specs.LookAhead as ahead
 use Rattle.vc_model_scope.proofs.look_ahead.with_more.Given as goal
 
-abbrev pub invariant-loop-rest : goal.invariant-loop-rest
-invariant-loop-rest l = l.text ++ ahead.more_text l.rest ≡ l.first ++ ahead.more_text l.lines
+abbrev pub invariant-loop-raw : goal.invariant-loop-raw
+invariant-loop-raw l = l.text ++ ahead.more_text (lines_from true (lines l.rest)) ≡ l.first ++ ahead.more_text (lines_from true (lines l.block))
 
-abbrev pub decreases-loop-rest : goal.decreases-loop-rest
-decreases-loop-rest l = length l.rest
+abbrev pub decreases-loop-raw : goal.decreases-loop-raw
+decreases-loop-raw l = length l.rest
