@@ -1,9 +1,9 @@
 -- Where a giver clashes at what an accepted log concludes, a clash of that log refutes.
-use Rattle.std.proofs.Common.{◌≡◌, ℕ, zero, suc, ◌+◌, ◌<◌, ◌≤◌, Bool, true, false, cond, ◌&&◌, ◌||◌, List, [], ◌∷◌, ◌++◌, length, map, refl, sym, ap, ◌∙◌, subst, inl, inr, arith, length-append}
+use Rattle.std.proofs.Common.{◌≡◌, ℕ, zero, suc, ◌<◌, ◌≤◌, Bool, true, false, cond, ◌&&◌, ◌||◌, List, [], ◌∷◌, ◌++◌, length, map, refl, sym, ap, ◌∙◌, subst, inl, inr, arith, length-append, append_assoc}
 use Rattle.std.specs.Prelude.{Option, None, Some, slice_get, slice_index_or, nat_eq, ◌==◌}
 use Rattle.std.specs.List.{filter, list_all, list_any}
 use Rattle.std.specs.Option.{option_to_list}
-use Rattle.std.proofs.lemmas.Bool.{and_parts, cases_lt, eqb-true, eq-eqb}
+use Rattle.std.proofs.lemmas.Bool.{and_from, or_left, or_right, and_parts, cases_lt, eqb-true, eq-eqb}
 use Rattle.vc_base.specs.Chains.{all_pass, before_all, cited}
 use Rattle.vc_base.specs.Rounds.{Given, clash, atoms, is_clash}
 use Rattle.vc_base.specs.Sets.{has, Within}
@@ -15,7 +15,6 @@ use Rattle.vc_plan.specs.declared.atoms.Atom.TheVariants.{Here}
 use Rattle.vc_plan.specs.declared.atoms.Clash.{Clash}
 use Rattle.vc_plan.specs.declared.atoms.Culprit.{Culprit}
 use Rattle.vc_plan.specs.declared.atoms.Culprit.TheVariants as culprits
-use Rattle.vc_plan.specs.declared.atoms.Step.{Step}
 use Rattle.vc_plan.specs.declared.plans.Plan.{Plan}
 use Rattle.vc_plan.specs.declared.procedures.Procedure.{Procedure}
 use Rattle.vc_plan.specs.declared.rules.Kind.{Kind}
@@ -35,20 +34,9 @@ use Rattle.vc_plan_reasons.specs.Checking.{are_of, concluded, is_accepted, is_by
 use Rattle.vc_plan_reasons.specs.Fitting.{entry_fits, mark_fits, procedure_writes, sources_fit, statement_writes, value_fits}
 use Rattle.vc_plan_reasons.specs.Refuting.{contradicts, culprit_clashes, culprit_reads, entry_clashes, is_blamable, is_clash_at, is_collision, is_of_constraint, is_restriction, slots_of_procedure}
 use Rattle.vc_plan_reasons.specs.Things.{Thing, slot_at, has_thing, thing_of, giver_reads, slots_of_var}
+use Rattle.vc_plan_reasons.proofs.ReasonLaws.Dropping.{get_middle}
 use Rattle.vc_plan_reasons.proofs.ReasonLaws.Givers.{entry_var_there}
 use Rattle.vc_plan_reasons.proofs.ReasonLaws.Local.{says_locally}
-
-both_hold : (a b : Bool) → a ≡ true → b ≡ true → (a && b) ≡ true
-both_hold true b p q = q
-both_hold false b p q = absurd (cc p)
-
-or_first : (b c : Bool) → b ≡ true → (b || c) ≡ true
-or_first true c e = refl
-or_first false c e = absurd (cc e)
-
-or_second : (b c : Bool) → c ≡ true → (b || c) ≡ true
-or_second true c e = refl
-or_second false c e = e
 
 -- the numbers of the steps that conclude an atom of the things, and what they cite
 abbrev is_of : List Thing → Atom → Bool
@@ -58,14 +46,6 @@ numbers_of : List Thing → ℕ → List Atom → List ℕ
 numbers_of things n [] = []
 numbers_of things n (atom ∷ more) = cond (is_of things atom) (n ∷ numbers_of things (suc n) more) (numbers_of things (suc n) more)
 
-get_middle : (xs ys : List Atom) (y : Atom) → slice_get (xs ++ y ∷ ys) (length xs) ≡ Some y
-get_middle [] ys y = refl
-get_middle (x ∷ xs) ys y = get_middle xs ys y
-
-joined : (xs : List Atom) (x : Atom) (ys : List Atom) → (xs ++ x ∷ []) ++ ys ≡ xs ++ x ∷ ys
-joined [] x ys = refl
-joined (y ∷ xs) x ys = ap (λ zs. y ∷ zs) (joined xs x ys)
-
 numbers_cite : (things : List Thing) (whole before : List Atom) (stand : List Atom) → before ++ stand ≡ whole
     → cited whole (numbers_of things (suc (length before)) stand) ≡ Some (filter (is_of things) stand)
 unfolding numbers_of
@@ -74,7 +54,7 @@ numbers_cite things whole before (atom ∷ more) is =
     let longer : length (before ++ atom ∷ []) ≡ suc (length before) = omega (arith, length-append before (atom ∷ [])) in
     choice (is_of things atom)
     (subst (λ n. cited whole (numbers_of things (suc n) more) ≡ Some (filter (is_of things) more)) longer
-    (numbers_cite things whole (before ++ atom ∷ []) more (joined before atom more ∙ is)))
+    (numbers_cite things whole (before ++ atom ∷ []) more (append_assoc before (atom ∷ []) more ∙ is)))
   where
     choice : (b : Bool) → cited whole (numbers_of things (suc (suc (length before))) more) ≡ Some (filter (is_of things) more)
         → cited whole (cond b (suc (length before) ∷ numbers_of things (suc (suc (length before))) more)
@@ -91,7 +71,7 @@ all_filtered p [] = refl
 all_filtered p (x ∷ xs) = choice (p x) refl (all_filtered p xs)
   where
     choice : (b : Bool) → p x ≡ b → list_all p (filter p xs) ≡ true → list_all p (cond b (x ∷ filter p xs) (filter p xs)) ≡ true
-    choice true e later = both_hold (p x) (list_all p (filter p xs)) e later
+    choice true e later = and_from (p x) (list_all p (filter p xs)) e later
     choice false e later = later
 
 -- a clash at what is concluded is one at the part that is read
@@ -187,6 +167,7 @@ slot_read plan v n (Some procedure) e =
     first : (b : Bool) → (b || false) ≡ true → b ≡ true
     first true q = refl
     first false q = q
+
     by_slot : (slot : Option ℕ) → is_among (procedure.slot ∷ []) slot ≡ true
         → slot_at procedure.slot ∷ [] ≡ map slot_at (option_to_list slot)
     by_slot None q = absurd (cc q)
@@ -196,8 +177,8 @@ any_number : (p : ℕ → Bool) (numbers : List ℕ) (v : ℕ) → has nat_eq nu
 any_number p [] v h e = absurd (cc h)
 any_number p (n ∷ numbers) v h e =
     elim (has_cases nat_eq number_exact number_itself n numbers v h) [
-      | inl same ↦ or_first (p n) (list_any p numbers) (ap p (sym same) ∙ e)
-      | inr k ↦ or_second (p n) (list_any p numbers) (any_number p numbers v k e)
+      | inl same ↦ or_left (p n) (list_any p numbers) (ap p (sym same) ∙ e)
+      | inr k ↦ or_right (p n) (list_any p numbers) (any_number p numbers v k e)
     ]
 
 -- so it has a culprit that reads the same and clashes where it does
@@ -230,7 +211,7 @@ blamed plan sources (by_entry v) set fit e =
     (procedure_writes plan v entry.statement (slice_get plan.procedures entry.procedure)) fits).1 in
     let by : is_by entry.procedure entry.statement (entry_of sources v) ≡ true
     = ap (is_by entry.procedure entry.statement) r.1
-    ∙ both_hold (entry.procedure == entry.procedure) (entry.statement == entry.statement)
+    ∙ and_from (entry.procedure == entry.procedure) (entry.statement == entry.statement)
     (eq-eqb entry.procedure entry.procedure refl) (eq-eqb entry.statement entry.statement refl) in
     record {
       culprit = culprits.Written entry.procedure entry.statement;
@@ -240,7 +221,7 @@ blamed plan sources (by_entry v) set fit e =
           let below : v < length plan.vars = entry_var_there plan sources v other h in
           any_number (entry_clashes plan sources entry.procedure entry.statement other) (numbers_below (length plan.vars)) v
           (range_has 0 (length plan.vars) v (omega arith) (omega (arith, below)))
-          (both_hold (is_by entry.procedure entry.statement (entry_of sources v))
+          (and_from (is_by entry.procedure entry.statement (entry_of sources v))
           (is_clash (gives plan sources (by_entry v) (seen_of other))) by h);
     }
 
@@ -258,16 +239,16 @@ clashes_are_blamed plan sources log giver fit accepts clear e =
     let read : are_of (culprit_reads plan b.culprit) premises ≡ true
     = ap (λ ts. are_of ts premises) b.reads ∙ all_filtered (is_of things) stand in
     let at : is_clash_at plan sources b.culprit premises ≡ true
-    = both_hold (is_clear plan (set_with premises))
+    = and_from (is_clear plan (set_with premises))
     (are_of (culprit_reads plan b.culprit) premises && culprit_clashes plan sources b.culprit (set_with premises)) clear_part
-    (both_hold (are_of (culprit_reads plan b.culprit) premises) (culprit_clashes plan sources b.culprit (set_with premises)) read
+    (and_from (are_of (culprit_reads plan b.culprit) premises) (culprit_clashes plan sources b.culprit (set_with premises)) read
     (b.clashes (set_with premises) (part_clashes plan sources giver stand clear e))) in
     let holds : contradicts plan sources refuting premises ≡ true
-    = or_first (is_clash_at plan sources b.culprit premises)
+    = or_left (is_clash_at plan sources b.culprit premises)
     (is_collision plan b.culprit premises (cited (map (λ step. step.origin) log) numbers)) at in (
       refuting,
       refl,
-      both_hold (is_accepted plan sources log && is_blamable plan b.culprit) (all_pass (contradicts plan sources refuting) (cited stand numbers))
-          (both_hold (is_accepted plan sources log) (is_blamable plan b.culprit) accepts b.blamable)
+      and_from (is_accepted plan sources log && is_blamable plan b.culprit) (all_pass (contradicts plan sources refuting) (cited stand numbers))
+          (and_from (is_accepted plan sources log) (is_blamable plan b.culprit) accepts b.blamable)
           (ap (all_pass (contradicts plan sources refuting)) cites ∙ holds),
     )
