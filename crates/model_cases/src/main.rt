@@ -2,13 +2,10 @@
 //! below make the text.
 #![tactic(auto)]
 
-mod showing;
-
-use crate::showing::shown;
 use std::alloc::{AllocError, Global};
 use std::io;
-use vc_model::reader::read_model;
-use vc_model::{ModelFault, ModelKind};
+use vc_model::{ModelFault, read_model};
+use vc_model_show::show;
 use vc_value::Word;
 
 /// How lines make a text.
@@ -91,7 +88,7 @@ fn reading_of(alloc: Global, text: &[u8]) -> Result<String, AllocError> {
         ),
         Err(ModelFault::Bad { kind, line }) => format!(in alloc;
             "{} {:?} at {}",
-            number_of(kind),
+            kind.number(),
             kind,
             line
         ),
@@ -101,28 +98,8 @@ fn reading_of(alloc: Global, text: &[u8]) -> Result<String, AllocError> {
 
 fn shown_reading(alloc: Global, text: &[u8]) -> Result<String, AllocError> {
     match read_model(alloc, text) {
-        Ok(model) => shown(alloc, &model),
+        Ok(model) => format!(in alloc; "{}", show(alloc, &model)),
         Err(_) => format!(in alloc; "refused"),
-    }
-}
-
-fn number_of(kind: ModelKind) -> u8 {
-    match kind {
-        ModelKind::NotText => 1,
-        ModelKind::LineTooLong => 2,
-        ModelKind::NotALine => 3,
-        ModelKind::Misplaced => 4,
-        ModelKind::BadName => 5,
-        ModelKind::Twice => 6,
-        ModelKind::Unknown => 7,
-        ModelKind::BadValue => 8,
-        ModelKind::Syntax => 9,
-        ModelKind::WrongDependency => 10,
-        ModelKind::Action => 11,
-        ModelKind::NoValues => 12,
-        ModelKind::TooMany => 13,
-        ModelKind::NoRoot => 14,
-        ModelKind::MultipleRestrictable => 15,
     }
 }
 

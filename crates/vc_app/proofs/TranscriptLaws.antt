@@ -4,9 +4,9 @@ use Rattle.std.specs.Io.KnownBytes.{Appends}
 use Rattle.std.proofs.KnownBytes.{Appends-trans}
 use Rattle.vc_base.proofs.RunLaws.{Run-push}
 use Rattle.vc_plan.specs.declared.first.plans.Plan.{Plan}
-use Rattle.vc_app.specs.State.{State, start_state}
+use Rattle.vc_app.specs.State.{State}
 use Rattle.vc_app.specs.Script.{lines_of, is_skipped}
-use Rattle.vc_app.specs.Transcript.{asked_by, AnswersAsked, AnswersLine, Transcript, LineDone, LineCut, IsAnswered, IsAnsweredSoFar, IsCutShort}
+use Rattle.vc_app.specs.Transcript.{asked_by, AnswersAsked, LeavesAsked, AnswersLine, Transcript, LineStands, done_unsaid, StandsAt, LineDone, LineUnsaid, LineCut, IsAnswered, IsAnsweredSoFar, IsCutShort}
 use Rattle.vc_app.specs.declared.requests.Request.{Request}
 
 -- a line that isn't skipped is answered as its request is
@@ -15,50 +15,57 @@ pub line_answer : (plan : Plan) (state : State) (line : List ℕ) (request : Opt
 line_answer plan state line request text next skipped asked answer =
     rw skipped (subst (λ r. AnswersAsked plan state r text next) asked answer)
 
--- what is so far, from the start
-pub record SoFar (plan : Plan) (script left : List ℕ) (state : State) (old new : Option (List ℕ)) : Type 0 where
+-- where some answer was made to a line that isn't skipped, the state is that after the line
+pub line_unsaid : (plan : Plan) (state : State) (line : List ℕ) (request : Option Request) (next : State)
+    → is_skipped line ≡ false → request ≡ asked_by line → LeavesAsked plan state request next → LineStands plan state line next
+line_unsaid plan state line request next skipped asked answer =
+    done_unsaid answer.0 (line_answer plan state line request answer.0 next skipped asked answer.1)
+
+-- what is so far, from the state before
+pub record SoFar (plan : Plan) (script left : List ℕ) (before state : State) (old new : Option (List ℕ)) : Type 0 where
   pub done : List (List ℕ)
   pub lines : lines_of script ≡ done ++ lines_of left
   pub bytes : List ℕ
-  pub transcript : Transcript plan done bytes state
+  pub transcript : Transcript plan before done bytes state
   pub written : Appends old new bytes
 
-pub so_far_push : (plan : Plan) (script left : List ℕ) (state : State) (old new : Option (List ℕ)) (line later : List ℕ) (next : State) (newer : Option (List ℕ))
-    → SoFar plan script left state old new → lines_of left ≡ line ∷ lines_of later → LineDone plan state line next new newer
-    → SoFar plan script later next old newer
-so_far_push plan script left state old new line later next newer s first d = record {
+pub so_far_push : (plan : Plan) (script left : List ℕ) (before state : State) (old new : Option (List ℕ)) (line later : List ℕ) (next : State) (newer : Option (List ℕ))
+    → SoFar plan script left before state old new → lines_of left ≡ line ∷ lines_of later → LineDone plan state line next new newer
+    → SoFar plan script later before next old newer
+so_far_push plan script left before state old new line later next newer s first d = record {
   done = s.done ++ line ∷ [];
   lines = s.lines ∙ ap (λ ls. s.done ++ ls) first ∙ sym (append_assoc s.done (line ∷ []) (lines_of later));
   bytes = s.bytes ++ d.bytes;
-  transcript = Run-push (AnswersLine plan) start_state s.done line s.bytes state d.bytes next s.transcript d.answer;
+  transcript = Run-push (AnswersLine plan) before s.done line s.bytes state d.bytes next s.transcript d.answer;
   written = Appends-trans old new newer s.bytes d.bytes s.written d.written;
 }
 
-pub all_done : (plan : Plan) (script left : List ℕ) (state : State) (old new : Option (List ℕ))
-    → SoFar plan script left state old new → lines_of left ≡ [] → IsAnswered plan script old new
-all_done plan script left state old new s none = record {
+pub all_done : (plan : Plan) (script left : List ℕ) (before state : State) (old new : Option (List ℕ))
+    → SoFar plan script left before state old new → lines_of left ≡ [] → IsAnswered plan script before state old new
+all_done plan script left before state old new s none = record {
   bytes = s.bytes;
-  last = state;
-  transcript = subst (λ ls. Transcript plan ls s.bytes state) (sym (s.lines ∙ ap (λ ls. s.done ++ ls) none ∙ append-nil s.done)) s.transcript;
+  transcript = subst (λ ls. Transcript plan before ls s.bytes state) (sym (s.lines ∙ ap (λ ls. s.done ++ ls) none ∙ append-nil s.done)) s.transcript;
   written = s.written;
 }
 
-pub some_done : (plan : Plan) (script left : List ℕ) (state : State) (old new newer : Option (List ℕ))
-    → SoFar plan script left state old new → Appends new newer [] → IsAnsweredSoFar plan script old newer
-some_done plan script left state old new newer s none = record {
+pub some_done : (plan : Plan) (script left : List ℕ) (before state : State) (old new : Option (List ℕ)) (line later : List ℕ) (next : State) (newer : Option (List ℕ))
+    → SoFar plan script left before state old new → lines_of left ≡ line ∷ lines_of later → LineUnsaid plan state line next new newer
+    → IsAnsweredSoFar plan script before next old newer
+some_done plan script left before state old new line later next newer s first d = record {
   done = s.done;
   left = lines_of left;
   lines = s.lines;
   bytes = s.bytes;
   last = state;
   transcript = s.transcript;
-  written = subst (λ b. Appends old newer b) (append-nil s.bytes) (Appends-trans old new newer s.bytes [] s.written none);
+  stands = subst (λ ls. StandsAt plan state ls next) (sym first) d.stands;
+  written = subst (λ b. Appends old newer b) (append-nil s.bytes) (Appends-trans old new newer s.bytes [] s.written d.written);
 }
 
-pub cut_short : (plan : Plan) (script left : List ℕ) (state : State) (old new : Option (List ℕ)) (line later : List ℕ) (newer : Option (List ℕ))
-    → SoFar plan script left state old new → lines_of left ≡ line ∷ lines_of later → LineCut plan state line new newer
-    → IsCutShort plan script old newer
-cut_short plan script left state old new line later newer s first d = record {
+pub cut_short : (plan : Plan) (script left : List ℕ) (before state : State) (old new : Option (List ℕ)) (line later : List ℕ) (next : State) (newer : Option (List ℕ))
+    → SoFar plan script left before state old new → lines_of left ≡ line ∷ lines_of later → LineCut plan state line next new newer
+    → IsCutShort plan script before next old newer
+cut_short plan script left before state old new line later next newer s first d = record {
   done = s.done;
   line = line;
   left = lines_of later;
@@ -68,7 +75,6 @@ cut_short plan script left state old new line later newer s first d = record {
   transcript = s.transcript;
   front = d.front;
   rest = d.rest;
-  next = d.next;
   answer = d.answer;
   written = Appends-trans old new newer s.bytes d.front s.written d.written;
 }

@@ -11,7 +11,7 @@ use Rattle.vc_outside.specs.declared.file.FileFault.{FileFault}
 use Rattle.vc_outside.specs.declared.file.FileFault.TheVariants as faults
 use Rattle.vc_outside.specs.declared.file.TheConstants.{FILE_LIMIT}
 use Rattle.vc_plan.specs.declared.first.plans.Plan.{Plan}
-use Rattle.vc_app.specs.Transcript.{IsAnswered, IsAnsweredSoFar, IsCutShort}
+use Rattle.vc_app.specs.Transcript.{AnswersAll, AnswersSome, BreaksOff}
 use Rattle.vc_first.specs.declared.form.FirstForm.{FirstForm}
 use Rattle.vc_first.specs.Lines.{Spells}
 use Rattle.vc_first.specs.Plans.{plan_of}
@@ -179,7 +179,7 @@ memory_line = codes "no memory\n"
 -- the first lines of the script are answered, and then the text is written, or a front of it
 pub record IsAnsweredThen (plan : Plan) (script : List ℕ) (old new : Option (List ℕ)) (Adds : Option (List ℕ) → Option (List ℕ) → Type 0) : Type 0 where
   pub between : Option (List ℕ)
-  pub answered : IsAnsweredSoFar plan script old between
+  pub answered : AnswersSome plan script old between
   pub added : Adds between new
 
 -- how saying that memory was wanting ends
@@ -193,9 +193,9 @@ EndsExhausted old new (endings.MessageCut stop) = ⊥
 
 -- how a job ends, and what it has written then
 abbrev pub EndsJob : Job → Option (List ℕ) → Option (List ℕ) → Ending → Type 0
-EndsJob job old new endings.Answered = IsAnswered job.plan job.script old new
+EndsJob job old new endings.Answered = AnswersAll job.plan job.script old new
 EndsJob job old new endings.Exhausted = IsAnsweredThen job.plan job.script old new (λ a b. Appends a b memory_line)
-EndsJob job old new endings.AnswerCut = IsCutShort job.plan job.script old new
+EndsJob job old new endings.AnswerCut = BreaksOff job.plan job.script old new
 EndsJob job old new endings.ExhaustedCut = IsAnsweredThen job.plan job.script old new (λ a b. AppendsFront a b memory_line)
 EndsJob job old new (endings.Stopped stop) = ⊥
 EndsJob job old new (endings.MessageCut stop) = ⊥

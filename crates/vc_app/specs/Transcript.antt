@@ -25,6 +25,10 @@ abbrev pub AnswersAsked : Plan → State → Option Request → List ℕ → Sta
 AnswersAsked plan state None bytes next = (bytes ≡ reply_text plan NotARequest) × (next ≡ state)
 AnswersAsked plan state (Some request) bytes next = (reply : Reply) × Apply plan state request reply next × (bytes ≡ reply_text plan reply)
 
+-- some answer to the request leaves that state
+abbrev pub LeavesAsked : Plan → State → Option Request → State → Type 0
+LeavesAsked plan state request next = (bytes : List ℕ) × AnswersAsked plan state request bytes next
+
 -- a skipped line is answered by nothing
 abbrev pub AnswersBy : Plan → State → Bool → List ℕ → List ℕ → State → Type 0
 AnswersBy plan state true line bytes next = (bytes ≡ []) × (next ≡ state)
@@ -34,41 +38,63 @@ AnswersBy plan state false line bytes next = AnswersAsked plan state (asked_by l
 abbrev pub AnswersLine : Plan → State → List ℕ → List ℕ → State → Type 0
 AnswersLine plan state line bytes next = AnswersBy plan state (is_skipped line) line bytes next
 
--- these lines, from the start, write these bytes and leave that state
-abbrev pub Transcript : Plan → List (List ℕ) → List ℕ → State → Type 0
-Transcript plan lines bytes next = Run (AnswersLine plan) start_state lines bytes next
+-- these lines, from a state, write these bytes and leave that state
+abbrev pub Transcript : Plan → State → List (List ℕ) → List ℕ → State → Type 0
+Transcript plan state lines bytes next = Run (AnswersLine plan) state lines bytes next
 
--- all lines of the script are answered
-pub record IsAnswered (plan : Plan) (script : List ℕ) (old new : Option (List ℕ)) : Type 0 where
+-- the state after a line that wasn't answered whole: that before it, or that after it
+pub data LineStands (plan : Plan) (state : State) (line : List ℕ) (after : State) : Type 0 where
+  untouched : after ≡ state → LineStands plan state line after
+  done_unsaid : (bytes : List ℕ) → AnswersLine plan state line bytes after → LineStands plan state line after
+
+-- the state is this one, or that after one line more
+abbrev pub StandsAt : Plan → State → List (List ℕ) → State → Type 0
+StandsAt plan state [] after = after ≡ state
+StandsAt plan state (line ∷ later) after = LineStands plan state line after
+
+-- all lines of the script are answered, from the state before to the state after
+pub record IsAnswered (plan : Plan) (script : List ℕ) (before after : State) (old new : Option (List ℕ)) : Type 0 where
   pub bytes : List ℕ
-  pub last : State
-  pub transcript : Transcript plan (lines_of script) bytes last
+  pub transcript : Transcript plan before (lines_of script) bytes after
   pub written : Appends old new bytes
 
--- the first lines of the script are answered, and no other
-pub record IsAnsweredSoFar (plan : Plan) (script : List ℕ) (old new : Option (List ℕ)) : Type 0 where
+-- the first lines of the script are answered, and no other; the state is that after these, or after one line more
+pub record IsAnsweredSoFar (plan : Plan) (script : List ℕ) (before after : State) (old new : Option (List ℕ)) : Type 0 where
   pub done : List (List ℕ)
   pub left : List (List ℕ)
   pub lines : lines_of script ≡ done ++ left
   pub bytes : List ℕ
   pub last : State
-  pub transcript : Transcript plan done bytes last
+  pub transcript : Transcript plan before done bytes last
+  pub stands : StandsAt plan last left after
   pub written : Appends old new bytes
 
--- the first lines of the script are answered, and of the answer to the next line a front was written
-pub record IsCutShort (plan : Plan) (script : List ℕ) (old new : Option (List ℕ)) : Type 0 where
+-- the first lines of the script are answered, and of the answer to the next line, after which the state is, a front was written
+pub record IsCutShort (plan : Plan) (script : List ℕ) (before after : State) (old new : Option (List ℕ)) : Type 0 where
   pub done : List (List ℕ)
   pub line : List ℕ
   pub left : List (List ℕ)
   pub lines : lines_of script ≡ done ++ (line ∷ left)
   pub bytes : List ℕ
   pub last : State
-  pub transcript : Transcript plan done bytes last
+  pub transcript : Transcript plan before done bytes last
   pub front : List ℕ
   pub rest : List ℕ
-  pub next : State
-  pub answer : AnswersLine plan last line (front ++ rest) next
+  pub answer : AnswersLine plan last line (front ++ rest) after
   pub written : Appends old new (bytes ++ front)
+
+-- the same with no session open at first: all lines, the first lines, and the first lines with a front of the next
+pub record AnswersAll (plan : Plan) (script : List ℕ) (old new : Option (List ℕ)) : Type 0 where
+  pub last : State
+  pub answered : IsAnswered plan script start_state last old new
+
+pub record AnswersSome (plan : Plan) (script : List ℕ) (old new : Option (List ℕ)) : Type 0 where
+  pub last : State
+  pub answered : IsAnsweredSoFar plan script start_state last old new
+
+pub record BreaksOff (plan : Plan) (script : List ℕ) (old new : Option (List ℕ)) : Type 0 where
+  pub last : State
+  pub answered : IsCutShort plan script start_state last old new
 
 -- the line is answered, and the answer written
 pub record LineDone (plan : Plan) (state : State) (line : List ℕ) (next : State) (old new : Option (List ℕ)) : Type 0 where
@@ -76,10 +102,14 @@ pub record LineDone (plan : Plan) (state : State) (line : List ℕ) (next : Stat
   pub answer : AnswersLine plan state line bytes next
   pub written : Appends old new bytes
 
+-- nothing is written of the line's answer
+pub record LineUnsaid (plan : Plan) (state : State) (line : List ℕ) (next : State) (old new : Option (List ℕ)) : Type 0 where
+  pub stands : LineStands plan state line next
+  pub written : Appends old new []
+
 -- a front of the line's answer is written
-pub record LineCut (plan : Plan) (state : State) (line : List ℕ) (old new : Option (List ℕ)) : Type 0 where
+pub record LineCut (plan : Plan) (state : State) (line : List ℕ) (next : State) (old new : Option (List ℕ)) : Type 0 where
   pub front : List ℕ
   pub rest : List ℕ
-  pub next : State
   pub answer : AnswersLine plan state line (front ++ rest) next
   pub written : Appends old new front

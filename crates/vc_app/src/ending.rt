@@ -140,8 +140,8 @@ fn write_fault<S: Sink>(out: &mut S, name: &str, fault: FileFault) -> Result<(),
     }
 }
 
-const USAGE: &str =
-    "usage: configd check MODEL, run MODEL SCRIPT [KEEPFILE], serve MODEL ADDRESS N [KEEPFILE], verify MODEL CHAIN, gen N\n";
+const USAGE: &str = "usage: configd check MODEL, run MODEL SCRIPT [KEEPFILE], \
+    serve MODEL ADDRESS N [KEEPFILE], verify MODEL CHAIN, gen N\n";
 
 fn write_stop<S: Sink>(out: &mut S, words: &[String], stop: Stop) -> Result<(), Failed>
     ensures ok { OnOk result (Appends (S.written out.old) (S.written out.new)

@@ -1,6 +1,7 @@
 //! The open session, and what is answered to a request.
 
-ghost use Rattle.std.specs.Prelude.{◌≡◌, ◌==◌, ◌<◌, length, position, replicate, slice_index_or, slice_set, Some, None, IfOk, IfSome};
+ghost use Rattle.std.specs.Prelude.{◌≡◌, ◌==◌, ◌<◌, length, position, replicate, slice_index_or, slice_set, Some};
+ghost use Rattle.std.specs.Prelude.{None, IfOk, IfSome};
 ghost use Rattle.vc_plan.specs.First.Entries.{reading_in};
 ghost use Rattle.vc_plan.specs.First.Evaluations.{evaluation_of};
 ghost use Rattle.vc_plan.specs.First.Plans.{IsValid, AreUsers, count_of};

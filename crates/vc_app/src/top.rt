@@ -1,17 +1,21 @@
 //! The top call.
 
-ghost use Rattle.std.specs.Prelude.{◌≡◌, ◌≤◌};
+ghost use Rattle.std.specs.Prelude.{◌≡◌, ◌≤◌, OnOk};
+ghost use Rattle.std.specs.Result.{IsErrOf};
+ghost use Rattle.vc_outside.specs.Faults.{Raised};
 ghost use Rattle.vc_plan.specs.First.Plans.{IsValid};
 ghost use Rattle.vc_app.specs.Endings as endings;
 ghost use Rattle.vc_app.specs.Endings.{outside};
 ghost use Rattle.vc_app.specs.Exactness.{IsExact};
 ghost use Rattle.vc_app.specs.Statuses.{IsStatus};
+ghost use Rattle.vc_app.specs.Transcript as transcript;
 
 use crate::ending::{Ending, say_stop, write_text};
 use crate::loading::{Job, load_job};
 use crate::transcript::{ScriptFault, answer_script};
 use std::alloc::Global;
 use vc_outside::{Failed, Shelf, Sink};
+use vc_plan::first::Plan;
 
 /// Says that memory was wanting at a line.
 fn say_exhausted<S: Sink>(out: &mut S) -> Ending
@@ -25,13 +29,36 @@ fn say_exhausted<S: Sink>(out: &mut S) -> Ending
     }
 }
 
+/// Answers a script with no session open at first.
+fn answer_from_start<S: Sink>(
+    alloc: Global,
+    plan: &Plan,
+    script: &[u8],
+    out: &mut S,
+) -> Result<(), ScriptFault>
+    requires { IsValid plan.now }
+    ensures done { OnOk result (transcript.AnswersAll plan.now script.now (S.written out.old)
+        (S.written out.new)) }
+    ensures memory { IsErrOf result ScriptFault.OutOfMemory → transcript.AnswersSome plan.now
+        script.now (S.written out.old) (S.written out.new) }
+    ensures cut { IsErrOf result ScriptFault.Sink → transcript.BreaksOff plan.now script.now
+        (S.written out.old) (S.written out.new) }
+    ensures cause { IsErrOf result ScriptFault.Sink → Raised (S.faults out.old) (S.faults out.new) }
+    ensures later { S.faults out.old ≤ S.faults out.new }
+{
+    let mut opened = None;
+    let answered = answer_script(alloc, plan, &mut opened, script, out);
+    drop(opened);
+    answered
+}
+
 fn run_job<S: Sink>(alloc: Global, job: &Job, out: &mut S) -> Ending
     requires { IsValid job.now.plan }
     ensures ends { endings.EndsJob job.now (S.written out.old) (S.written out.new) result }
     ensures cause { endings.HasSinkCause (S.faults out.old) (S.faults out.new) result }
     ensures later { S.faults out.old ≤ S.faults out.new }
 {
-    match answer_script(alloc, &job.plan, job.script.bytes(), out) {
+    match answer_from_start(alloc, &job.plan, job.script.bytes(), out) {
         Ok(()) => Ending::Answered,
         Err(ScriptFault::Sink) => Ending::AnswerCut,
         Err(ScriptFault::OutOfMemory) => say_exhausted(out),

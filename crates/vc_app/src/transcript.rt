@@ -1,8 +1,7 @@
 //! Answering the lines of a script, one after another.
 
-ghost use Rattle.std.specs.Prelude.{◌≡◌, ◌≤◌, [], IfOk, OnOk};
+ghost use Rattle.std.specs.Prelude.{◌≡◌, ◌≤◌, IfOk, OnOk};
 ghost use Rattle.std.specs.Result.{IsErrOf};
-ghost use Rattle.std.specs.Io.KnownBytes.{Appends};
 ghost use Rattle.vc_outside.specs.Faults.{Raised};
 ghost use Rattle.vc_plan.specs.First.Plans.{IsValid};
 ghost use Rattle.vc_app.specs.Sessions.{IsSound, state_of};
@@ -40,6 +39,8 @@ fn answer_asked(
     requires sound { IsSound plan.now opened.old }
     ensures answers { IfOk result (λ text. transcript.AnswersAsked plan.now (state_of opened.old)
         request text (state_of opened.new)) }
+    ensures leaves { transcript.LeavesAsked plan.now (state_of opened.old) request
+        (state_of opened.new) }
     ensures sound { IsSound plan.now opened.new }
 {
     let reply = match request {
@@ -84,10 +85,10 @@ fn answer_line<S: Sink>(
     requires sound { IsSound plan.now opened.old }
     ensures done { OnOk result (transcript.LineDone plan.now (state_of opened.old) line.now
         (state_of opened.new) (S.written out.old) (S.written out.new)) }
-    ensures memory { IsErrOf result ScriptFault.OutOfMemory → Appends (S.written out.old)
-        (S.written out.new) [] }
+    ensures memory { IsErrOf result ScriptFault.OutOfMemory → transcript.LineUnsaid plan.now
+        (state_of opened.old) line.now (state_of opened.new) (S.written out.old) (S.written out.new) }
     ensures cut { IsErrOf result ScriptFault.Sink → transcript.LineCut plan.now
-        (state_of opened.old) line.now (S.written out.old) (S.written out.new) }
+        (state_of opened.old) line.now (state_of opened.new) (S.written out.old) (S.written out.new) }
     ensures cause { IsErrOf result ScriptFault.Sink → Raised (S.faults out.old) (S.faults out.new) }
     ensures later { S.faults out.old ≤ S.faults out.new }
     ensures sound { IsSound plan.now opened.new }
@@ -101,27 +102,30 @@ fn answer_line<S: Sink>(
     Ok(())
 }
 
-/// Answers all lines of a script, each before the next is looked at.
+/// Answers all lines of a script, each before the next is looked at. After want of memory the state
+/// is that after the lines answered, or after one line more.
 pub fn answer_script<S: Sink>(
     alloc: Global,
     plan: &Plan,
+    opened: &mut Option<Session>,
     script: &[u8],
     out: &mut S,
 ) -> Result<(), ScriptFault>
-    requires { IsValid plan.now }
-    ensures done { OnOk result (transcript.IsAnswered plan.now script.now (S.written out.old)
-        (S.written out.new)) }
+    requires valid { IsValid plan.now }
+    requires sound { IsSound plan.now opened.old }
+    ensures done { OnOk result (transcript.IsAnswered plan.now script.now (state_of opened.old)
+        (state_of opened.new) (S.written out.old) (S.written out.new)) }
     ensures memory { IsErrOf result ScriptFault.OutOfMemory → transcript.IsAnsweredSoFar plan.now
-        script.now (S.written out.old) (S.written out.new) }
+        script.now (state_of opened.old) (state_of opened.new) (S.written out.old) (S.written out.new) }
     ensures cut { IsErrOf result ScriptFault.Sink → transcript.IsCutShort plan.now script.now
-        (S.written out.old) (S.written out.new) }
+        (state_of opened.old) (state_of opened.new) (S.written out.old) (S.written out.new) }
     ensures cause { IsErrOf result ScriptFault.Sink → Raised (S.faults out.old) (S.faults out.new) }
     ensures later { S.faults out.old ≤ S.faults out.new }
+    ensures sound { IsSound plan.now opened.new }
 {
-    let mut opened = None;
     let mut rest = script;
     while let Some((line, later)) = next_line(rest) {
-        answer_line(alloc, plan, &mut opened, line, out)?;
+        answer_line(alloc, plan, opened, line, out)?;
         rest = later;
     }
     Ok(())

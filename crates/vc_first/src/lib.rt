@@ -19,8 +19,8 @@ pub use form::{Block, Characteristic, FirstForm, Restriction};
 pub use plans::plan_of_form;
 use std::alloc::{AllocError, Global};
 
-/// The most lines of a model: a head, 64 characteristics of 65, a class of 65, 100 constraints of 5, a net of 101 and an
-/// object of 3.
+/// The most lines of a model: a head, 64 characteristics of 65, a class of 65, 100 constraints of 5, a net of 101 and
+/// an object of 3.
 const MOST_LINES: usize = 4_830;
 
 /// The model that the text spells, or `None` where it spells none of the first form.

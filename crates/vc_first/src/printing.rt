@@ -270,7 +270,8 @@ fn put_characteristics(
     out: &mut Word,
     characteristics: &[Characteristic],
 ) -> Result<(), AllocError>
-    ensures { OnOk result (out.new ≡ out.old ++ text_of_lines (flat_map grammar.characteristic_lines characteristics.now)) }
+    ensures { OnOk result (out.new ≡ out.old ++ text_of_lines (flat_map grammar.characteristic_lines
+        characteristics.now)) }
 {
     for characteristic in characteristics {
         put_characteristic(alloc, out, characteristic)?;

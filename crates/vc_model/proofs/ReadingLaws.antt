@@ -2,12 +2,12 @@
 use Rattle.std.proofs.Common.{◌≡◌, ◌↔◌, ℕ, Bool, true, false, ◌+◌, ◌<◌, ◌⊎◌, inl, inr, List, [], Option, Some, None, Result, Ok, Err, IsUtf8, IfOk, refl, sym, ap, subst, ◌∙◌, arith}
 use Rattle.vc_model_lines.specs.declared.line.Line.{Line}
 use Rattle.vc_model_lines.specs.Classified.{lines_of}
-use Rattle.vc_model_faults.specs.declared.fault.ModelKind.{ModelKind}
-use Rattle.vc_model_faults.specs.declared.fault.ModelKind.TheVariants.{NotText}
+use Rattle.vc_model_faults.specs.declared.fault.ModelFaultKind.{ModelFaultKind}
+use Rattle.vc_model_faults.specs.declared.fault.ModelFaultKind.TheVariants.{NotText}
 use Rattle.vc_model_faults.specs.declared.fault.ModelFault.{ModelFault}
 use Rattle.vc_model_faults.specs.declared.fault.ModelFault.TheVariants.{Bad, OutOfMemory}
-use Rattle.vc_model_scope.specs.Above.{above}
-use Rattle.vc_model_scope.specs.declared.above.Above.{Above}
+use Rattle.vc_model_scope.specs.Scope.{scope_of}
+use Rattle.vc_model_scope.specs.declared.scope.Scope.{Scope}
 use Rattle.vc_model_faults.specs.First.{IsFirstFault, HasNoFault, backwards, kind_of}
 use Rattle.vc_model_faults.proofs.FirstLaws.{Fault, first_fault, no_fault, is_first}
 use Rattle.vc_model_parts.specs.declared.parts.Model.{Model}
@@ -21,12 +21,12 @@ use Rattle.std.proofs.lemmas.Str.{IsUtf8-from_is_utf8, is_utf8-from_IsUtf8}
 use Rattle.std.proofs.lemmas.Bool.{false≢true}
 
 -- lines with a first fault don't have none
-pub not_both : (lines : List Line) (kind : ModelKind) (number : ℕ) → HasNoFault lines → IsFirstFault lines kind number → ⊥
+pub not_both : (lines : List Line) (kind : ModelFaultKind) (number : ℕ) → HasNoFault lines → IsFirstFault lines kind number → ⊥
 unfolding HasNoFault IsFirstFault
 not_both lines kind number none first = let here : kind_of lines first.0 ≡ None = none first.0 first.1 in let there : kind_of lines first.0 ≡ Some kind = first.3 in cc
 
 -- there is one first fault at most
-pub one_first : (lines : List Line) (kind other : ModelKind) (number count : ℕ) → IsFirstFault lines kind number → IsFirstFault lines other count → (kind ≡ other) × (number ≡ count)
+pub one_first : (lines : List Line) (kind other : ModelFaultKind) (number count : ℕ) → IsFirstFault lines kind number → IsFirstFault lines other count → (kind ≡ other) × (number ≡ count)
 unfolding IsFirstFault
 one_first lines kind other number count first second = by (order first.0 second.0)
   where
@@ -41,12 +41,12 @@ one_first lines kind other number count first second = by (order first.0 second.
         (cc, first.2 ∙ ap (λ n. n + 1) h ∙ sym second.2)
 
 -- a text with a fault spells no model
-pub spells_none : (text : List ℕ) (model : SeenModel) (kind : ModelKind) (number : ℕ) → Spells text model → IsFault text kind number → ⊥
+pub spells_none : (text : List ℕ) (model : SeenModel) (kind : ModelFaultKind) (number : ℕ) → Spells text model → IsFault text kind number → ⊥
 spells_none text model _ _ spelled (s.not_text refused) = refused spelled.utf8
 spells_none text model kind number spelled (s.at_line utf8 first) = not_both (lines_of text) kind number spelled.sound first
 
 -- a text has one fault at most
-pub one_fault : (text : List ℕ) (kind other : ModelKind) (number count : ℕ) → IsFault text kind number → IsFault text other count → (kind ≡ other) × (number ≡ count)
+pub one_fault : (text : List ℕ) (kind other : ModelFaultKind) (number count : ℕ) → IsFault text kind number → IsFault text other count → (kind ≡ other) × (number ≡ count)
 one_fault text _ _ _ _ (s.not_text refused) (s.not_text refused') = (refl, refl)
 one_fault text _ _ _ _ (s.not_text refused) (s.at_line utf8 first) = absurd (refused utf8)
 one_fault text _ _ _ _ (s.at_line utf8 first) (s.not_text refused) = absurd (refused utf8)
@@ -54,14 +54,14 @@ one_fault text kind other number count (s.at_line utf8 first) (s.at_line utf8' s
 
 -- an answer that says what it should is the only one
 pub only_model : (text : List ℕ) (answer : Result Model ModelFault) → IfOk answer (λ m. Spells text (seen_model m))
-    → ((kind : ModelKind) (line : ℕ) → answer ≡ Err (Bad kind line) → IsFault text kind line) → (model : SeenModel) → Spells text model → Answers answer (Ok model)
+    → ((kind : ModelFaultKind) (line : ℕ) → answer ≡ Err (Bad kind line) → IsFault text kind line) → (model : SeenModel) → Spells text model → Answers answer (Ok model)
 only_model text (Ok m) found told model spelled = ap Ok (spelled.model_is ∙ sym found.model_is)
 only_model text (Err OutOfMemory) found told model spelled = tt
 only_model text (Err (Bad kind line)) found told model spelled = absurd (spells_none text model kind line spelled (told kind line refl))
 
 pub only_fault : (text : List ℕ) (answer : Result Model ModelFault) → IfOk answer (λ m. Spells text (seen_model m))
-    → ((kind : ModelKind) (line : ℕ) → answer ≡ Err (Bad kind line) → IsFault text kind line)
-    → (kind : ModelKind) (line : ℕ) → IsFault text kind line → Answers answer (Err (Bad kind line))
+    → ((kind : ModelFaultKind) (line : ℕ) → answer ≡ Err (Bad kind line) → IsFault text kind line)
+    → (kind : ModelFaultKind) (line : ℕ) → IsFault text kind line → Answers answer (Err (Bad kind line))
 only_fault text (Ok m) found told kind line fault = absurd (spells_none text (seen_model m) kind line found fault)
 only_fault text (Err OutOfMemory) found told kind line fault = tt
 only_fault text (Err (Bad other count)) found told kind line fault =
@@ -69,10 +69,10 @@ only_fault text (Err (Bad other count)) found told kind line fault =
     ap (λ k. Err (Bad k line)) same.0 ∙ ap (λ n. Err (Bad other n)) same.1
 
 -- lines have a first fault or none
-pub judged : (lines : List Line) → HasNoFault lines ⊎ ((kind : ModelKind) × (number : ℕ) × IsFirstFault lines kind number)
-judged lines = by (first_fault 1 [] lines) refl
+pub judge : (lines : List Line) → HasNoFault lines ⊎ ((kind : ModelFaultKind) × (number : ℕ) × IsFirstFault lines kind number)
+judge lines = by (first_fault 1 [] lines) refl
   where
-    by : (o : Option Fault) → first_fault 1 [] lines ≡ o → HasNoFault lines ⊎ ((kind : ModelKind) × (number : ℕ) × IsFirstFault lines kind number)
+    by : (o : Option Fault) → first_fault 1 [] lines ≡ o → HasNoFault lines ⊎ ((kind : ModelFaultKind) × (number : ℕ) × IsFirstFault lines kind number)
     by None e = inl (no_fault lines e)
     by (Some fault) e = inr (fault.0, fault.1, is_first lines fault.0 fault.1 e)
 
@@ -80,12 +80,12 @@ judged lines = by (first_fault 1 [] lines) refl
 pub fault_or_model : (text : List ℕ) → HasFault text ↔ SpellsNone text
 fault_or_model text = (λ fault model spelled. spells_none text model fault.0 fault.1 spelled fault.2, λ none. by (is_utf8 text) refl none)
   where
-    at_lines : IsUtf8 text → (HasNoFault (lines_of text) ⊎ ((kind : ModelKind) × (number : ℕ) × IsFirstFault (lines_of text) kind number)) → SpellsNone text → HasFault text
+    at_lines : IsUtf8 text → (HasNoFault (lines_of text) ⊎ ((kind : ModelFaultKind) × (number : ℕ) × IsFirstFault (lines_of text) kind number)) → SpellsNone text → HasFault text
     at_lines utf8 (inl sound) none = absurd (none (model_of (lines_of text)) record { utf8 = utf8; sound = sound; model_is = refl })
     at_lines utf8 (inr first) none = (first.0, first.1, s.at_line utf8 first.2)
 
     by : (test : Bool) → is_utf8 text ≡ test → SpellsNone text → HasFault text
-    by true e none = at_lines (IsUtf8-from_is_utf8 text e) (judged (lines_of text)) none
+    by true e none = at_lines (IsUtf8-from_is_utf8 text e) (judge (lines_of text)) none
     by false e none = (NotText, 0, s.not_text (λ h. absurd (false≢true (sym e ∙ is_utf8-from_IsUtf8 text h))))
 
 -- what is read from the lines of a text, which is the same bytes, is read from the text
@@ -96,23 +96,23 @@ found_text inner text (Ok m) same utf8 sound is =
     record { utf8 = utf8; sound = subst P same sound; model_is = is ∙ ap (λ t. model_of (lines_of t)) same }
 found_text inner text (Err fault) same utf8 sound is = tt
 
-pub told_text : (inner text : List ℕ) (kind : ModelKind) (line : ℕ) → inner ≡ text → IsUtf8 text → IsFirstFault (lines_of inner) kind line
+pub told_text : (inner text : List ℕ) (kind : ModelFaultKind) (line : ℕ) → inner ≡ text → IsUtf8 text → IsFirstFault (lines_of inner) kind line
     → IsFault text kind line
 told_text inner text kind line same utf8 first =
     let P : List ℕ → Type 0 = λ t. IsFirstFault (lines_of t) kind line in s.at_line utf8 (subst P same first)
 
 -- a text that isn't UTF-8 has the fault NotText at line 0
-pub told_not_text : (text : List ℕ) (kind : ModelKind) (line : ℕ) → ¬ IsUtf8 text → Bad NotText 0 ≡ Bad kind line → IsFault text kind line
+pub told_not_text : (text : List ℕ) (kind : ModelFaultKind) (line : ℕ) → ¬ IsUtf8 text → Bad NotText 0 ≡ Bad kind line → IsFault text kind line
 told_not_text text kind line refused e =
     let k : NotText ≡ kind = cc in
     let n : 0 ≡ line = cc in
-    let P : ModelKind → Type 0 = λ kind. IsFault text kind line in
+    let P : ModelFaultKind → Type 0 = λ kind. IsFault text kind line in
     let Q : ℕ → Type 0 = λ line. IsFault text NotText line in
     subst P k (subst Q n (s.not_text refused))
 
--- the model of the draft of all lines, with the texts of the facts, is the model of the lines
-pub described_is : (lines : List Line) (facts : Above) (texts : List (List ℕ)) (draft : SeenDraft) (model : SeenModel) → model ≡ model_in texts draft
-    → draft ≡ draft_of facts 1 lines → texts ≡ facts.declared.texts → facts ≡ above (backwards [] lines) → model ≡ model_of lines
+-- the model of the draft of all lines, with the texts of the scope, is the model of the lines
+pub described_is : (lines : List Line) (scope : Scope) (texts : List (List ℕ)) (draft : SeenDraft) (model : SeenModel) → model ≡ model_in texts draft
+    → draft ≡ draft_of scope 1 lines → texts ≡ scope.declared.texts → scope ≡ scope_of (backwards [] lines) → model ≡ model_of lines
 unfolding draft_of
-described_is lines facts texts draft model m d t f =
-    m ∙ ap (λ x. model_in x draft) t ∙ ap (model_in facts.declared.texts) d ∙ ap (λ x. model_by x lines) f
+described_is lines scope texts draft model m d t f =
+    m ∙ ap (λ x. model_in x draft) t ∙ ap (model_in scope.declared.texts) d ∙ ap (λ x. model_by x lines) f

@@ -5,8 +5,8 @@ pub mod laws;
 pub mod reader;
 
 pub use reader::read_model;
-pub use vc_model_faults::fault::{ModelFault, ModelKind};
-pub use vc_model_parts::Model;
+pub use vc_model_faults::{ModelFault, ModelFaultKind};
+pub use vc_model_parts::{Model, header, table_count, table_file};
 
 #[cfg(test)]
 mod tests;

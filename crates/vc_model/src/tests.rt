@@ -3,7 +3,7 @@
 use crate::laws::a_text_has_a_fault_or_spells_a_model;
 use crate::reader::read_model;
 use std::test::Fail;
-use vc_model_faults::fault::{ModelFault, ModelKind};
+use vc_model_faults::{ModelFault, ModelFaultKind};
 use vc_model_parts::{Characteristic, Model, Values};
 
 const MACHINE: &str =
@@ -51,11 +51,11 @@ fn a_text_that_is_none_is_told(rt: HostRuntime) -> Result<(), Fail> {
         Err(ModelFault::Bad { kind, line }) => Some((kind, line)),
         _ => None,
     };
-    assert!(rt; told == Some((ModelKind::NotText, 0)));
+    assert!(rt; told == Some((ModelFaultKind::NotText, 0)));
     let told = match read_model(rt.alloc(), b"MODEL M VERSION 1\n") {
         Err(ModelFault::Bad { kind, line }) => Some((kind, line)),
         _ => None,
     };
-    assert!(rt; told == Some((ModelKind::NoRoot, 2)));
+    assert!(rt; told == Some((ModelFaultKind::NoRoot, 2)));
     Ok(())
 }

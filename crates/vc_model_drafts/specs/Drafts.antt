@@ -1,13 +1,13 @@
 -- What lines tell, gathered from the last line to the first.
-use Rattle.std.specs.Prelude.{ℕ, List, [], ◌∷◌, map, Option, option_map, unwrap_or}
+use Rattle.std.specs.Prelude.{◌≡◌, ℕ, List, [], ◌∷◌, map, Option, option_map, unwrap_or}
 use Rattle.std.specs.List.{cons_option}
 use Rattle.vc_model_lines.specs.declared.line.Line.{Line}
 use Rattle.vc_model_lines.specs.declared.line.Line.TheVariants as lines
-use Rattle.vc_model_scope.specs.declared.above.Above.{Above}
+use Rattle.vc_model_scope.specs.declared.scope.Scope.{Scope}
 use Rattle.vc_model_scope.specs.Names.{place_of}
 use Rattle.vc_model_scope.specs.Stands.{opens}
-use Rattle.vc_model_scope.specs.Tells.{entry_within}
-use Rattle.vc_syntax_terms.specs.Trees.{Dependency}
+use Rattle.vc_model_scope.specs.Contents.{entry_within}
+use Rattle.vc_model_faults.specs.Readings.{Reading, dependency_read, term_read}
 use Rattle.vc_model_parts.specs.declared.parts.Values.TheVariants as values
 use Rattle.vc_model_parts.specs.declared.parts.TextValue.{TextValue}
 use Rattle.vc_model_parts.specs.declared.parts.NumberValue.{NumberValue}
@@ -73,31 +73,31 @@ seen_draft d = record {
 }
 
 -- what belongs to a line below which these stand
-abbrev pub below_of : Above → ℕ → List Line → SeenBelow
-below_of a number below = record {
-  texts = until opens (text_at a) number below;
-  numbers = until opens (number_at a) number below;
-  members = until opens (member_at a) number below;
-  columns = until opens (column_at a) number below;
-  items = until opens (item_at a) number below;
-  operations = until opens (operation_at a) number below;
+abbrev pub below_of : Scope → ℕ → List Line → SeenBelow
+below_of scope number below = record {
+  texts = until opens (text_at scope) number below;
+  numbers = until opens (number_at scope) number below;
+  members = until opens (member_at scope) number below;
+  columns = until opens (column_at scope) number below;
+  items = until opens (item_at scope) number below;
+  operations = until opens (operation_at scope) number below;
 }
 
 -- what lines tell, of which the first has the number
-unfoldable pub draft_of : Above → ℕ → List Line → SeenDraft
-draft_of a number lines = record {
+unfoldable pub draft_of : Scope → ℕ → List Line → SeenDraft
+draft_of scope number lines = record {
   name = first_said [] name_at lines;
   version = first_said 0 version_at lines;
-  root = first_said 0 (root_at a) lines;
-  uses = uses_below a number lines;
-  used_nets = nets_below a number lines;
-  below = below_of a number lines;
-  characteristics = throughout (characteristic_at a) number lines;
-  classes = throughout (class_at a) number lines;
-  tables = throughout (table_at a) number lines;
-  dependencies = throughout (dependency_at a) number lines;
-  nets = throughout (net_at a) number lines;
-  objects = throughout (object_at a) number lines;
+  root = first_said 0 (root_at scope) lines;
+  uses = uses_below scope number lines;
+  used_nets = nets_below scope number lines;
+  below = below_of scope number lines;
+  characteristics = throughout (characteristic_at scope) number lines;
+  classes = throughout (class_at scope) number lines;
+  tables = throughout (table_at scope) number lines;
+  dependencies = throughout (dependency_at scope) number lines;
+  nets = throughout (net_at scope) number lines;
+  objects = throughout (object_at scope) number lines;
 }
 
 abbrev pub empty_below : Below
@@ -114,59 +114,59 @@ without_uses d = record d { uses = []; used_nets = [] }
 abbrev pub closed : SeenDraft → SeenDraft
 closed d = record d { uses = []; used_nets = []; below = nothing_below }
 
--- the same with a line in front, whose number and tree are given
-unfoldable pub with_front : Above → ℕ → Option Dependency → Line → SeenDraft → SeenDraft
-with_front a number tree lines.Skipped d = d
-with_front a number tree (lines.Inner text) d = d
-with_front a number tree lines.LongInner d = d
-with_front a number tree lines.End d = d
-with_front a number tree (lines.Uses name) d =
-    record d { uses = cons_option (place_of a.dependencies.all name) d.uses; used_nets = cons_option (place_of a.dependencies.nets name) d.used_nets }
-with_front a number tree (lines.Text text) d =
-    record (without_uses d) { below = record d.below { texts = (record { text = number_of a.declared.texts text; uses = d.uses }) ∷ d.below.texts } }
-with_front a number tree (lines.Interval interval) d =
+-- the same with a line in front, whose number is given and what it reads
+unfoldable pub with_front : Scope → ℕ → Option Reading → Line → SeenDraft → SeenDraft
+with_front scope number read lines.Skipped d = d
+with_front scope number read (lines.Inner text) d = d
+with_front scope number read lines.LongInner d = d
+with_front scope number read lines.End d = d
+with_front scope number read (lines.Uses name) d =
+    record d { uses = cons_option (place_of scope.dependencies.all name) d.uses; used_nets = cons_option (place_of scope.dependencies.nets name) d.used_nets }
+with_front scope number read (lines.Text text) d =
+    record (without_uses d) { below = record d.below { texts = (record { text = number_of scope.declared.texts text; uses = d.uses }) ∷ d.below.texts } }
+with_front scope number read (lines.Interval interval) d =
     record (without_uses d) {
       below = record d.below {
         numbers = cons_option
             (option_map (λ entry. record { low = entry.low; high = entry.high; uses = d.uses }) (entry_within interval.low interval.high)) d.below.numbers;
       };
     }
-with_front a number tree (lines.Has name) d =
-    record (without_uses d) { below = record d.below { members = number_of a.declared.characteristics name ∷ d.below.members } }
-with_front a number tree (lines.Column column) d =
+with_front scope number read (lines.Has name) d =
+    record (without_uses d) { below = record d.below { members = number_of scope.declared.characteristics name ∷ d.below.members } }
+with_front scope number read (lines.Column column) d =
     record (without_uses d) {
       below = record d.below {
         columns =
-            (record { characteristic = number_of a.declared.characteristics column.characteristic; key = column.key }) ∷ d.below.columns;
+            (record { characteristic = number_of scope.declared.characteristics column.characteristic; key = column.key }) ∷ d.below.columns;
       };
     }
-with_front a number tree (lines.Bill bill) d =
+with_front scope number read (lines.Bill bill) d =
     record (without_uses d) {
       below = record d.below {
-        items = cons_option (option_map (λ tree. record {
+        items = cons_option (option_map (λ term. record {
           item = unwrap_or bill.item 0;
-          component = component_or bill.material (place_of a.declared.objects bill.material);
+          component = component_or bill.material (place_of scope.declared.objects bill.material);
           unit = bill.unit;
-          quantity = tree;
+          quantity = term;
           uses = d.uses;
           line = number;
-        }) tree) d.below.items;
+        }) (term_read read)) d.below.items;
       };
     }
-with_front a number tree (lines.Operation operation) d =
+with_front scope number read (lines.Operation operation) d =
     record (without_uses d) {
       below = record d.below {
-        operations = cons_option (option_map (λ tree. record {
+        operations = cons_option (option_map (λ term. record {
           number = unwrap_or operation.number 0;
           centre = operation.centre;
           unit = operation.unit;
-          time = tree;
+          time = term;
           uses = d.uses;
           line = number;
-        }) tree) d.below.operations;
+        }) (term_read read)) d.below.operations;
       };
     }
-with_front a number tree (lines.Char char) d =
+with_front scope number read (lines.Char char) d =
     record (closed d) {
       characteristics = (record {
         name = char.name;
@@ -176,7 +176,7 @@ with_front a number tree (lines.Char char) d =
         values = values.Texts (unwrap_or char.length 0) char.multiple d.below.texts;
       }) ∷ d.characteristics;
     }
-with_front a number tree (lines.Num num) d =
+with_front scope number read (lines.Num num) d =
     record (closed d) {
       characteristics = (record {
         name = num.name;
@@ -186,33 +186,40 @@ with_front a number tree (lines.Num num) d =
         values = values.Numbers (unwrap_or num.decimals 0) num.unit d.below.numbers;
       }) ∷ d.characteristics;
     }
-with_front a number tree (lines.Class name) d = record (closed d) { classes = (record { name = name; members = d.below.members }) ∷ d.classes }
-with_front a number tree (lines.Table table) d =
+with_front scope number read (lines.Class name) d = record (closed d) { classes = (record { name = name; members = d.below.members }) ∷ d.classes }
+with_front scope number read (lines.Table table) d =
     record (closed d) { tables = (record { name = table.name; file = table.file; columns = d.below.columns }) ∷ d.tables }
-with_front a number tree (lines.Block block) d =
+with_front scope number read (lines.Block block) d =
     record (closed d) {
       dependencies = cons_option (option_map (λ tree. record {
-        kind = block.kind;
         name = block.name;
         tree = tree;
         line = number;
-      }) tree) d.dependencies;
+      }) (dependency_read read)) d.dependencies;
     }
-with_front a number tree (lines.Net name) d = record (closed d) { nets = (record { name = name; constraints = d.uses }) ∷ d.nets }
-with_front a number tree (lines.Object object) d =
+with_front scope number read (lines.Net name) d = record (closed d) { nets = (record { name = name; constraints = d.uses }) ∷ d.nets }
+with_front scope number read (lines.Object object) d =
     record (closed d) {
       objects = (record {
         material = object.material;
-        class = number_of a.declared.classes object.class;
+        class = number_of scope.declared.classes object.class;
         nets = d.used_nets;
         procedures = d.uses;
         bill = d.below.items;
         operations = d.below.operations;
       }) ∷ d.objects;
     }
-with_front a number tree (lines.Head head) d = record (closed d) { name = head.name; version = unwrap_or head.version 0 }
-with_front a number tree (lines.Root material) d = record (closed d) { root = number_of a.declared.objects material }
-with_front a number tree line d = closed d
+with_front scope number read (lines.Head head) d = record (closed d) { name = head.name; version = unwrap_or head.version 0 }
+with_front scope number read (lines.Root material) d = record (closed d) { root = number_of scope.declared.objects material }
+with_front scope number read line d = closed d
+
+-- in the draft that is kept in memory a line is put in front, whose number is given and what it reads
+abbrev pub Puts : Scope → ℕ → Option Reading → Line → Draft → Draft → Type 0
+Puts scope number read line old new = seen_draft new ≡ with_front scope number read line (seen_draft old)
+
+-- the same for a line whose number and reading don't matter
+abbrev pub PutsAny : Scope → Line → Draft → Draft → Type 0
+PutsAny scope line old new = (number : ℕ) (read : Option Reading) → Puts scope number read line old new
 
 -- the model of a draft, with the texts of the model
 abbrev pub model_in : List (List ℕ) → SeenDraft → SeenModel

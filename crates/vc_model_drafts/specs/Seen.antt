@@ -1,8 +1,6 @@
 -- A model with the trees of its dependencies and terms, without the places of their nodes in memory.
 use Rattle.std.specs.Prelude.{ℕ, List, map}
-use Rattle.vc_model_lines.specs.declared.line.BlockKind.{BlockKind}
-use Rattle.vc_syntax_terms.specs.Trees.{Dependency}
-use Rattle.vc_model_faults.specs.Trees.{tree_of}
+use Rattle.vc_syntax_terms.specs.Trees.{Dependency, Term, dependency_of, term_of}
 use Rattle.vc_model_parts.specs.declared.parts.Characteristic.{Characteristic}
 use Rattle.vc_model_parts.specs.declared.parts.Class.{Class}
 use Rattle.vc_model_parts.specs.declared.parts.Table.{Table}
@@ -16,7 +14,6 @@ use Rattle.vc_model_parts.specs.declared.parts.Model.{Model}
 
 -- a dependency
 pub record SeenDependency : Type 0 where
-  pub kind : BlockKind
   pub name : List ℕ
   pub tree : Dependency
   pub line : ℕ
@@ -26,7 +23,7 @@ pub record SeenItem : Type 0 where
   pub item : ℕ
   pub component : Component
   pub unit : List ℕ
-  pub quantity : Dependency
+  pub quantity : Term
   pub uses : List ℕ
   pub line : ℕ
 
@@ -35,7 +32,7 @@ pub record SeenOperation : Type 0 where
   pub number : ℕ
   pub centre : List ℕ
   pub unit : List ℕ
-  pub time : Dependency
+  pub time : Term
   pub uses : List ℕ
   pub line : ℕ
 
@@ -62,13 +59,27 @@ pub record SeenModel : Type 0 where
   pub root : ℕ
 
 abbrev pub seen_dependency : NamedDependency → SeenDependency
-seen_dependency d = record { kind = d.kind; name = d.name; tree = tree_of d.tree; line = d.line }
+seen_dependency d = record { name = d.name; tree = dependency_of d.tree; line = d.line }
 
 abbrev pub seen_item : BillItem → SeenItem
-seen_item i = record { item = i.item; component = i.component; unit = i.unit; quantity = tree_of i.quantity; uses = i.uses; line = i.line }
+seen_item i = record {
+  item = i.item;
+  component = i.component;
+  unit = i.unit;
+  quantity = term_of i.quantity.value;
+  uses = i.uses;
+  line = i.line;
+}
 
 abbrev pub seen_operation : Operation → SeenOperation
-seen_operation o = record { number = o.number; centre = o.centre; unit = o.unit; time = tree_of o.time; uses = o.uses; line = o.line }
+seen_operation o = record {
+  number = o.number;
+  centre = o.centre;
+  unit = o.unit;
+  time = term_of o.time.value;
+  uses = o.uses;
+  line = o.line;
+}
 
 abbrev pub seen_object : Object → SeenObject
 seen_object o = record {

@@ -1,23 +1,24 @@
 //! The parts of a model, gathered from the last line of the text to the first.
 
 ghost use Rattle.std.specs.Prelude.{◌≡◌, ◌+◌, ◌-◌, ◌^◌, ◌<◌, [], ◌∷◌, ◌++◌, List, length, option_to_list, option_map, unwrap_or, IfOk, OnOk, Option, ℕ};
-ghost use Rattle.std.specs.Option.{option_flatten};
 ghost use Rattle.vc_model_scope.specs.Names.{place_of};
-ghost use Rattle.vc_model_scope.specs.Tells.{entry_within};
-ghost use Rattle.vc_model_faults.specs.First.{backwards, trees_of};
-ghost use Rattle.vc_syntax_terms.specs.Trees.{Dependency as Tree};
-ghost use Rattle.vc_model_faults.specs.Trees.{tree_of as seen_tree, seen_trees, reading};
+ghost use Rattle.vc_model_scope.specs.Contents.{entry_within};
+ghost use Rattle.vc_model_faults.specs.First.{backwards, readings_of};
+ghost use Rattle.vc_model_faults.specs.Readings.{Reading as Readings, reading, seen_reading, seen_readings, dependency_read, term_read};
+ghost use Rattle.vc_syntax_terms.specs.Trees.{dependency_of, term_of};
 ghost use Rattle.vc_model_lines.specs.declared.line.Line.TheVariants as lines;
 ghost use Rattle.vc_model_lines.specs.declared.line.Line.{Line as Lines};
 ghost use Rattle.vc_model_lines.specs.declared.line.Keyword.{Keyword as Keywords};
-ghost use Rattle.vc_model_scope.specs.declared.above.Above.{Above as Facts};
+ghost use Rattle.vc_model_scope.specs.declared.scope.Scope.{Scope as Scopes};
 ghost use Rattle.vc_model_drafts.specs.Models as models;
 ghost use Rattle.vc_model_drafts.specs.Seen.{seen_model};
 ghost use Rattle.vc_model_drafts.specs.Drafts as drafts;
+ghost use Rattle.vc_model_drafts.specs.Drafts.{Puts, PutsAny};
 
 use crate::stack::Stack;
 use std::alloc::{AllocError, Global};
 use std::mem;
+use vc_model_faults::Reading;
 use vc_model_lines::{
     BillLine, BlockLine, CharLine, ColumnLine, HeadLine, IntervalLine, Line, NumLine, ObjectLine,
     OperationLine, TableLine,
@@ -26,9 +27,9 @@ use vc_model_parts::{
     BillItem, Characteristic, Class, Component, Model, NamedDependency, Net, NumberValue, Object,
     Operation, Table, TableColumn, TextValue, Values,
 };
-use vc_model_scope::above::Above;
 use vc_model_scope::names::Names;
-use vc_syntax_terms::tree::Dependency;
+use vc_model_scope::scope::Scope;
+use vc_syntax_terms::tree::{Dependency, Term};
 use vc_value::{Listed, Word};
 
 /// What belongs to a line that is still to come.
@@ -42,7 +43,7 @@ pub struct Below {
     operations: Stack<Operation>,
 }
 
-/// What the lines from some line on have told.
+/// What the lines from some line on say.
 pub struct Draft {
     name: Word,
     version: u32,
@@ -142,7 +143,7 @@ impl Below {
 impl Draft {
     #[tactic(auto, unfolding(crate::specs::Drafts::draft_of, crate::specs::Drafts::seen_draft))]
     fn new(alloc: Global) -> Draft
-        ensures { (above : Facts) (number : ℕ) → drafts.seen_draft result ≡ drafts.draft_of above number [] }
+        ensures { (scope : Scopes) (number : ℕ) → drafts.seen_draft result ≡ drafts.draft_of scope number [] }
     {
         Draft {
             name: Word::new(alloc),
@@ -190,10 +191,13 @@ impl Draft {
         let _uses = self.take_uses(alloc);
         let _below = self.take_below(alloc);
     }
+}
 
-    #[tactic(auto, unfolding(crate::specs::Drafts::with_front, crate::specs::Drafts::seen_draft))]
+// What a line of each form puts in front.
+#[tactic(auto, unfolding(crate::specs::Drafts::with_front, crate::specs::Drafts::seen_draft))]
+impl Draft {
     fn put_head(&mut self, alloc: Global, line: HeadLine) -> Result<(), AllocError>
-        ensures { OnOk result ((above : Facts) (n : ℕ) (tree : Option Tree) → drafts.seen_draft self.new ≡ drafts.with_front above n tree (lines.Head line) (drafts.seen_draft self.old)) }
+        ensures { OnOk result ((scope : Scopes) → PutsAny scope (lines.Head line) self.old self.new) }
     {
         self.close(alloc);
         let HeadLine { name, version } = line;
@@ -202,56 +206,51 @@ impl Draft {
         Ok(())
     }
 
-    #[tactic(auto, unfolding(crate::specs::Drafts::with_front, crate::specs::Drafts::seen_draft))]
-    fn put_use(&mut self, above: &Above, name: &Word) -> Result<(), AllocError>
-        ensures { OnOk result ((n : ℕ) (tree : Option Tree) → drafts.seen_draft self.new ≡ drafts.with_front above.now n tree (lines.Uses name.now) (drafts.seen_draft self.old)) }
+    fn put_use(&mut self, scope: &Scope, name: &Word) -> Result<(), AllocError>
+        ensures { OnOk result (PutsAny scope.now (lines.Uses name.now) self.old self.new) }
     {
-        let dependency = place_of(&above.dependencies.all, name)?;
-        let net = place_of(&above.dependencies.nets, name)?;
+        let dependency = place_of(&scope.dependencies.all, name)?;
+        let net = place_of(&scope.dependencies.nets, name)?;
         self.uses.push_option(dependency)?;
         self.used_nets.push_option(net)?;
         Ok(())
     }
 
-    #[tactic(auto, unfolding(crate::specs::Drafts::with_front, crate::specs::Drafts::seen_draft))]
-    fn put_text(&mut self, alloc: Global, above: &Above, text: &Word) -> Result<(), AllocError>
-        ensures { OnOk result ((n : ℕ) (tree : Option Tree) → drafts.seen_draft self.new ≡ drafts.with_front above.now n tree (lines.Text text.now) (drafts.seen_draft self.old)) }
+    fn put_text(&mut self, alloc: Global, scope: &Scope, text: &Word) -> Result<(), AllocError>
+        ensures { OnOk result (PutsAny scope.now (lines.Text text.now) self.old self.new) }
     {
-        let text = number_of(&above.declared.texts, text)?;
+        let text = number_of(&scope.declared.texts, text)?;
         let uses = self.take_uses(alloc);
         self.below.texts.push_front(TextValue { text, uses })?;
         Ok(())
     }
 
-    #[tactic(auto, unfolding(crate::specs::Drafts::with_front, crate::specs::Drafts::seen_draft))]
     fn put_numbers(&mut self, alloc: Global, line: IntervalLine) -> Result<(), AllocError>
-        ensures { OnOk result ((above : Facts) (n : ℕ) (tree : Option Tree) → drafts.seen_draft self.new ≡ drafts.with_front above n tree (lines.Interval line) (drafts.seen_draft self.old)) }
+        ensures { OnOk result ((scope : Scopes) → PutsAny scope (lines.Interval line) self.old self.new) }
     {
         let uses = self.take_uses(alloc);
         self.below.numbers.push_option(entry_in(line, uses))?;
         Ok(())
     }
 
-    #[tactic(auto, unfolding(crate::specs::Drafts::with_front, crate::specs::Drafts::seen_draft))]
-    fn put_member(&mut self, alloc: Global, above: &Above, name: &Word) -> Result<(), AllocError>
-        ensures { OnOk result ((n : ℕ) (tree : Option Tree) → drafts.seen_draft self.new ≡ drafts.with_front above.now n tree (lines.Has name.now) (drafts.seen_draft self.old)) }
+    fn put_member(&mut self, alloc: Global, scope: &Scope, name: &Word) -> Result<(), AllocError>
+        ensures { OnOk result (PutsAny scope.now (lines.Has name.now) self.old self.new) }
     {
-        let member = number_of(&above.declared.characteristics, name)?;
+        let member = number_of(&scope.declared.characteristics, name)?;
         let _uses = self.take_uses(alloc);
         self.below.members.push_front(member)?;
         Ok(())
     }
 
-    #[tactic(auto, unfolding(crate::specs::Drafts::with_front, crate::specs::Drafts::seen_draft))]
     fn put_column(
         &mut self,
         alloc: Global,
-        above: &Above,
+        scope: &Scope,
         line: &ColumnLine,
     ) -> Result<(), AllocError>
-        ensures { OnOk result ((n : ℕ) (tree : Option Tree) → drafts.seen_draft self.new ≡ drafts.with_front above.now n tree (lines.Column line.now) (drafts.seen_draft self.old)) }
+        ensures { OnOk result (PutsAny scope.now (lines.Column line.now) self.old self.new) }
     {
-        let characteristic = number_of(&above.declared.characteristics, &line.characteristic)?;
+        let characteristic = number_of(&scope.declared.characteristics, &line.characteristic)?;
         let _uses = self.take_uses(alloc);
         self.below.columns.push_front(TableColumn {
             characteristic,
@@ -260,16 +259,16 @@ impl Draft {
         Ok(())
     }
 
-    #[tactic(auto, unfolding(crate::specs::Drafts::with_front, crate::specs::Drafts::seen_draft))]
     fn put_item(
         &mut self,
         alloc: Global,
-        above: &Above,
+        scope: &Scope,
         number: u32,
         line: BillLine,
-        tree: Option<Dependency>,
+        read: Option<Reading>,
     ) -> Result<(), AllocError>
-        ensures { OnOk result (drafts.seen_draft self.new ≡ drafts.with_front above.now number (option_map seen_tree tree) (lines.Bill line) (drafts.seen_draft self.old)) }
+        ensures { OnOk result
+            (Puts scope.now number (option_map seen_reading read) (lines.Bill line) self.old self.new) }
     {
         let BillLine {
             item,
@@ -277,9 +276,9 @@ impl Draft {
             unit,
             quantity: _quantity,
         } = line;
-        let component = component_of(&above.declared.objects, material)?;
+        let component = component_of(&scope.declared.objects, material)?;
         let uses = self.take_uses(alloc);
-        if let Some(quantity) = tree {
+        if let Some(quantity) = term_read(read) {
             self.below.items.push_front(BillItem {
                 item: item.unwrap_or(0),
                 component,
@@ -292,15 +291,15 @@ impl Draft {
         Ok(())
     }
 
-    #[tactic(auto, unfolding(crate::specs::Drafts::with_front, crate::specs::Drafts::seen_draft))]
     fn put_operation(
         &mut self,
         alloc: Global,
         number: u32,
         line: OperationLine,
-        tree: Option<Dependency>,
+        read: Option<Reading>,
     ) -> Result<(), AllocError>
-        ensures { OnOk result ((above : Facts) → drafts.seen_draft self.new ≡ drafts.with_front above number (option_map seen_tree tree) (lines.Operation line) (drafts.seen_draft self.old)) }
+        ensures { OnOk result ((scope : Scopes)
+            → Puts scope number (option_map seen_reading read) (lines.Operation line) self.old self.new) }
     {
         let OperationLine {
             number: operation,
@@ -309,7 +308,7 @@ impl Draft {
             time: _time,
         } = line;
         let uses = self.take_uses(alloc);
-        if let Some(time) = tree {
+        if let Some(time) = term_read(read) {
             self.below.operations.push_front(Operation {
                 number: operation.unwrap_or(0),
                 centre,
@@ -322,9 +321,8 @@ impl Draft {
         Ok(())
     }
 
-    #[tactic(auto, unfolding(crate::specs::Drafts::with_front, crate::specs::Drafts::seen_draft))]
     fn put_char(&mut self, alloc: Global, line: CharLine) -> Result<(), AllocError>
-        ensures { OnOk result ((above : Facts) (n : ℕ) (tree : Option Tree) → drafts.seen_draft self.new ≡ drafts.with_front above n tree (lines.Char line) (drafts.seen_draft self.old)) }
+        ensures { OnOk result ((scope : Scopes) → PutsAny scope (lines.Char line) self.old self.new) }
     {
         let uses = self.take_uses(alloc);
         let below = self.take_below(alloc);
@@ -346,9 +344,8 @@ impl Draft {
         Ok(())
     }
 
-    #[tactic(auto, unfolding(crate::specs::Drafts::with_front, crate::specs::Drafts::seen_draft))]
     fn put_num(&mut self, alloc: Global, line: NumLine) -> Result<(), AllocError>
-        ensures { OnOk result ((above : Facts) (n : ℕ) (tree : Option Tree) → drafts.seen_draft self.new ≡ drafts.with_front above n tree (lines.Num line) (drafts.seen_draft self.old)) }
+        ensures { OnOk result ((scope : Scopes) → PutsAny scope (lines.Num line) self.old self.new) }
     {
         let uses = self.take_uses(alloc);
         let below = self.take_below(alloc);
@@ -370,9 +367,8 @@ impl Draft {
         Ok(())
     }
 
-    #[tactic(auto, unfolding(crate::specs::Drafts::with_front, crate::specs::Drafts::seen_draft))]
     fn put_class(&mut self, alloc: Global, name: Word) -> Result<(), AllocError>
-        ensures { OnOk result ((above : Facts) (n : ℕ) (tree : Option Tree) → drafts.seen_draft self.new ≡ drafts.with_front above n tree (lines.Class name) (drafts.seen_draft self.old)) }
+        ensures { OnOk result ((scope : Scopes) → PutsAny scope (lines.Class name) self.old self.new) }
     {
         let _uses = self.take_uses(alloc);
         let members = self.take_below(alloc).members.into_listed();
@@ -380,9 +376,8 @@ impl Draft {
         Ok(())
     }
 
-    #[tactic(auto, unfolding(crate::specs::Drafts::with_front, crate::specs::Drafts::seen_draft))]
     fn put_table(&mut self, alloc: Global, line: TableLine) -> Result<(), AllocError>
-        ensures { OnOk result ((above : Facts) (n : ℕ) (tree : Option Tree) → drafts.seen_draft self.new ≡ drafts.with_front above n tree (lines.Table line) (drafts.seen_draft self.old)) }
+        ensures { OnOk result ((scope : Scopes) → PutsAny scope (lines.Table line) self.old self.new) }
     {
         let _uses = self.take_uses(alloc);
         let columns = self.take_below(alloc).columns.into_listed();
@@ -395,21 +390,20 @@ impl Draft {
         Ok(())
     }
 
-    #[tactic(auto, unfolding(crate::specs::Drafts::with_front, crate::specs::Drafts::seen_draft))]
     fn put_block(
         &mut self,
         alloc: Global,
         number: u32,
         line: BlockLine,
-        tree: Option<Dependency>,
+        read: Option<Reading>,
     ) -> Result<(), AllocError>
-        ensures { OnOk result ((above : Facts) → drafts.seen_draft self.new ≡ drafts.with_front above number (option_map seen_tree tree) (lines.Block line) (drafts.seen_draft self.old)) }
+        ensures { OnOk result ((scope : Scopes)
+            → Puts scope number (option_map seen_reading read) (lines.Block line) self.old self.new) }
     {
         self.close(alloc);
-        let BlockLine { kind, name } = line;
-        if let Some(tree) = tree {
+        let BlockLine { kind: _, name } = line;
+        if let Some(tree) = dependency_read(read) {
             self.dependencies.push_front(NamedDependency {
-                kind,
                 name,
                 tree,
                 line: number,
@@ -418,9 +412,8 @@ impl Draft {
         Ok(())
     }
 
-    #[tactic(auto, unfolding(crate::specs::Drafts::with_front, crate::specs::Drafts::seen_draft))]
     fn put_net(&mut self, alloc: Global, name: Word) -> Result<(), AllocError>
-        ensures { OnOk result ((above : Facts) (n : ℕ) (tree : Option Tree) → drafts.seen_draft self.new ≡ drafts.with_front above n tree (lines.Net name) (drafts.seen_draft self.old)) }
+        ensures { OnOk result ((scope : Scopes) → PutsAny scope (lines.Net name) self.old self.new) }
     {
         let constraints = self.take_uses(alloc);
         let _below = self.take_below(alloc);
@@ -428,16 +421,15 @@ impl Draft {
         Ok(())
     }
 
-    #[tactic(auto, unfolding(crate::specs::Drafts::with_front, crate::specs::Drafts::seen_draft))]
     fn put_object(
         &mut self,
         alloc: Global,
-        above: &Above,
+        scope: &Scope,
         line: ObjectLine,
     ) -> Result<(), AllocError>
-        ensures { OnOk result ((n : ℕ) (tree : Option Tree) → drafts.seen_draft self.new ≡ drafts.with_front above.now n tree (lines.Object line) (drafts.seen_draft self.old)) }
+        ensures { OnOk result (PutsAny scope.now (lines.Object line) self.old self.new) }
     {
-        let class = number_of(&above.declared.classes, &line.class)?;
+        let class = number_of(&scope.declared.classes, &line.class)?;
         let nets = self.take_nets(alloc);
         let procedures = self.take_uses(alloc);
         let (bill, operations) = items_of(self.take_below(alloc));
@@ -456,53 +448,54 @@ impl Draft {
         Ok(())
     }
 
-    #[tactic(auto, unfolding(crate::specs::Drafts::with_front, crate::specs::Drafts::seen_draft))]
-    fn put_root(&mut self, alloc: Global, above: &Above, material: &Word) -> Result<(), AllocError>
-        ensures { OnOk result ((n : ℕ) (tree : Option Tree) → drafts.seen_draft self.new ≡ drafts.with_front above.now n tree (lines.Root material.now) (drafts.seen_draft self.old)) }
+    fn put_root(&mut self, alloc: Global, scope: &Scope, material: &Word) -> Result<(), AllocError>
+        ensures { OnOk result (PutsAny scope.now (lines.Root material.now) self.old self.new) }
     {
-        self.root = number_of(&above.declared.objects, material)?;
+        self.root = number_of(&scope.declared.objects, material)?;
         self.close(alloc);
         Ok(())
     }
 
     // A line that says nothing changes nothing.
-    #[tactic(auto, unfolding(crate::specs::Drafts::with_front))]
     fn pass_over(&mut self) -> Result<(), AllocError>
-        ensures skipped { OnOk result ((above : Facts) (n : ℕ) (tree : Option Tree) → drafts.seen_draft self.new ≡ drafts.with_front above n tree lines.Skipped (drafts.seen_draft self.old)) }
-        ensures inner { OnOk result ((above : Facts) (n : ℕ) (tree : Option Tree) → drafts.seen_draft self.new ≡ drafts.with_front above n tree lines.LongInner (drafts.seen_draft self.old)) }
-        ensures end { OnOk result ((above : Facts) (n : ℕ) (tree : Option Tree) → drafts.seen_draft self.new ≡ drafts.with_front above n tree lines.End (drafts.seen_draft self.old)) }
+        ensures skipped { OnOk result ((scope : Scopes) → PutsAny scope lines.Skipped self.old self.new) }
+        ensures inner { OnOk result ((scope : Scopes) → PutsAny scope lines.LongInner self.old self.new) }
+        ensures end { OnOk result ((scope : Scopes) → PutsAny scope lines.End self.old self.new) }
     {
         Ok(())
     }
 
-    #[tactic(auto, unfolding(crate::specs::Drafts::with_front))]
     fn pass_inner(&mut self, _text: Word) -> Result<(), AllocError>
-        ensures { OnOk result ((above : Facts) (n : ℕ) (tree : Option Tree) → drafts.seen_draft self.new ≡ drafts.with_front above n tree (lines.Inner _text) (drafts.seen_draft self.old)) }
+        ensures { OnOk result ((scope : Scopes) → PutsAny scope (lines.Inner _text) self.old self.new) }
     {
         Ok(())
     }
 
     // A line of no form ends what is open.
-    #[tactic(auto, unfolding(crate::specs::Drafts::with_front))]
     fn put_faulty(&mut self, alloc: Global) -> Result<(), AllocError>
-        ensures long { OnOk result ((above : Facts) (n : ℕ) (tree : Option Tree) (keyword : Option Keywords) → drafts.seen_draft self.new ≡ drafts.with_front above n tree (lines.TooLong keyword) (drafts.seen_draft self.old)) }
-        ensures formless { OnOk result ((above : Facts) (n : ℕ) (tree : Option Tree) (keyword : Option Keywords) → drafts.seen_draft self.new ≡ drafts.with_front above n tree (lines.NoForm keyword) (drafts.seen_draft self.old)) }
-        ensures action { OnOk result ((above : Facts) (n : ℕ) (tree : Option Tree) → drafts.seen_draft self.new ≡ drafts.with_front above n tree lines.Action (drafts.seen_draft self.old)) }
+        ensures long { OnOk result ((scope : Scopes) (keyword : Option Keywords)
+            → PutsAny scope (lines.TooLong keyword) self.old self.new) }
+        ensures formless { OnOk result ((scope : Scopes) (keyword : Option Keywords)
+            → PutsAny scope (lines.NoForm keyword) self.old self.new) }
+        ensures action { OnOk result ((scope : Scopes) → PutsAny scope lines.Action self.old self.new) }
     {
         self.close(alloc);
         Ok(())
     }
+}
 
-    // Puts a line of this number in front, with the tree of its block or term.
+impl Draft {
+    // Puts a line of this number in front, with what it reads.
     fn put(
         &mut self,
         alloc: Global,
-        above: &Above,
+        scope: &Scope,
         number: u32,
         line: Line,
-        tree: &mut Option<Dependency>,
+        read: &mut Option<Reading>,
     ) -> Result<(), AllocError>
-        ensures { OnOk result (drafts.seen_draft self.new ≡ drafts.with_front above.now number (option_map seen_tree tree.old) line (drafts.seen_draft self.old)) }
+        ensures { OnOk result
+            (Puts scope.now number (option_map seen_reading read.old) line self.old self.new) }
     {
         match line {
             Line::Skipped => self.pass_over(),
@@ -512,19 +505,19 @@ impl Draft {
             Line::Head(line) => self.put_head(alloc, line),
             Line::Char(line) => self.put_char(alloc, line),
             Line::Num(line) => self.put_num(alloc, line),
-            Line::Text(text) => self.put_text(alloc, above, &text),
+            Line::Text(text) => self.put_text(alloc, scope, &text),
             Line::Interval(line) => self.put_numbers(alloc, line),
-            Line::Uses(name) => self.put_use(above, &name),
+            Line::Uses(name) => self.put_use(scope, &name),
             Line::Class(name) => self.put_class(alloc, name),
-            Line::Has(name) => self.put_member(alloc, above, &name),
+            Line::Has(name) => self.put_member(alloc, scope, &name),
             Line::Table(line) => self.put_table(alloc, line),
-            Line::Column(line) => self.put_column(alloc, above, &line),
+            Line::Column(line) => self.put_column(alloc, scope, &line),
             Line::Net(name) => self.put_net(alloc, name),
-            Line::Object(line) => self.put_object(alloc, above, line),
-            Line::Bill(line) => self.put_item(alloc, above, number, line, tree.take()),
-            Line::Operation(line) => self.put_operation(alloc, number, line, tree.take()),
-            Line::Block(line) => self.put_block(alloc, number, line, tree.take()),
-            Line::Root(material) => self.put_root(alloc, above, &material),
+            Line::Object(line) => self.put_object(alloc, scope, line),
+            Line::Bill(line) => self.put_item(alloc, scope, number, line, read.take()),
+            Line::Operation(line) => self.put_operation(alloc, number, line, read.take()),
+            Line::Block(line) => self.put_block(alloc, number, line, read.take()),
+            Line::Root(material) => self.put_root(alloc, scope, &material),
             Line::TooLong(_) => self.put_faulty(alloc),
             Line::NoForm(_) => self.put_faulty(alloc),
             Line::Action => self.put_faulty(alloc),
@@ -566,7 +559,8 @@ impl Draft {
 }
 
 fn entry_in(line: IntervalLine, uses: Listed<u32>) -> Option<NumberValue>
-    ensures { result ≡ option_map (λ entry. record { low = entry.low; high = entry.high; uses = uses }) (entry_within line.low line.high) }
+    ensures { result ≡ option_map (λ entry. record { low = entry.low; high = entry.high; uses = uses })
+        (entry_within line.low line.high) }
 {
     match line.low {
         Some(low) => match line.high {
@@ -604,83 +598,111 @@ fn items_of(below: Below) -> (Listed<BillItem>, Listed<Operation>)
     (below.items.into_listed(), below.operations.into_listed())
 }
 
-// The last tree of the list.
-fn pop_tree(trees: &mut Listed<Option<Dependency>>) -> Option<Dependency>
-    ensures { (before : List (Option Tree)) (tree : Option Tree) → seen_trees trees.old ≡ before ++ tree ∷ []
-        → (seen_trees trees.new ≡ before) × (option_map seen_tree result ≡ tree) }
+// The dependency that a block is read as, if it is one.
+#[tactic(auto, unfolding(vc_model_faults::specs::Readings::seen_reading))]
+fn dependency_read(read: Option<Reading>) -> Option<Dependency>
+    ensures { option_map dependency_of result ≡ dependency_read (option_map seen_reading read) }
 {
-    match trees.pop() {
-        Some(tree) => tree,
+    match read {
+        Some(Reading::Dependency(tree)) => Some(tree),
+        Some(Reading::Term(_term)) => None,
+        Some(Reading::Unread) => None,
         None => None,
     }
 }
 
-// The tree of the line, which is the last of the list where the line has one.
-#[tactic(auto, unfolding(vc_model_faults::specs::Trees::reading))]
-fn tree_of(line: &Line, trees: &mut Listed<Option<Dependency>>) -> Option<Dependency>
-    ensures { (before : List (Option Tree)) (below : List Lines) → seen_trees trees.old ≡ before ++ option_to_list (reading line.now below)
-        → (seen_trees trees.new ≡ before) × (option_map seen_tree result ≡ option_flatten (reading line.now below)) }
+// The term that a line is read as, if it is one.
+#[tactic(auto, unfolding(vc_model_faults::specs::Readings::seen_reading))]
+fn term_read(read: Option<Reading>) -> Option<Box<Term>>
+    ensures { option_map (λ term. term_of term.value) result ≡ term_read (option_map seen_reading read) }
+{
+    match read {
+        Some(Reading::Term(term)) => Some(term),
+        Some(Reading::Dependency(_tree)) => None,
+        Some(Reading::Unread) => None,
+        None => None,
+    }
+}
+
+// Takes what the line reads, which is the last of the list where it reads something.
+#[tactic(auto, unfolding(vc_model_faults::specs::Readings::reading))]
+fn take_reading(line: &Line, readings: &mut Listed<Reading>) -> Option<Reading>
+    ensures { (before : List Readings) (below : List Lines)
+        → seen_readings readings.old ≡ before ++ option_to_list (reading line.now below)
+        → (seen_readings readings.new ≡ before) × (option_map seen_reading result ≡ reading line.now below) }
 {
     match line {
-        Line::Block(_) | Line::Bill(_) | Line::Operation(_) => pop_tree(trees),
+        Line::Block(_) | Line::Bill(_) | Line::Operation(_) => pop_reading(readings),
         _ => None,
     }
 }
 
-// Puts a line of this number in front of the draft, with its tree, which is the last of the trees where it has one.
+// The last of the list.
+fn pop_reading(readings: &mut Listed<Reading>) -> Option<Reading>
+    ensures { (before : List Readings) (read : Readings) → seen_readings readings.old ≡ before ++ read ∷ []
+        → (seen_readings readings.new ≡ before) × (option_map seen_reading result ≡ Some read) }
+{
+    match readings.pop() {
+        Some(read) => Some(read),
+        None => None,
+    }
+}
+
+// Puts a line of this number in front of the draft, with what it reads, which is the last of the readings.
 fn put_line(
     alloc: Global,
-    above: &Above,
+    scope: &Scope,
     number: u32,
     line: Line,
-    trees: &mut Listed<Option<Dependency>>,
+    readings: &mut Listed<Reading>,
     draft: &mut Draft,
 ) -> Result<(), AllocError>
-    ensures { OnOk result ((before : List (Option Tree)) (below : List Lines) → seen_trees trees.old ≡ before ++ option_to_list (reading line below)
-        → (seen_trees trees.new ≡ before)
-        × (drafts.seen_draft draft.new ≡ drafts.with_front above.now number (option_flatten (reading line below)) line (drafts.seen_draft draft.old))) }
+    ensures { OnOk result ((before : List Readings) (below : List Lines)
+        → seen_readings readings.old ≡ before ++ option_to_list (reading line below)
+        → (seen_readings readings.new ≡ before)
+        × Puts scope.now number (reading line below) line draft.old draft.new) }
 {
-    let mut tree = tree_of(&line, trees);
-    let result = draft.put(alloc, above, number, line, &mut tree);
-    // By a call, as a drop at the end splits each goal by what the tree may be.
-    drop(tree);
+    let mut read = take_reading(&line, readings);
+    let result = draft.put(alloc, scope, number, line, &mut read);
+    // By a call, as a drop at the end splits each goal by what the reading may be.
+    drop(read);
     result
 }
 
 // Puts all lines in front of the draft, from the last to the first.
 fn gather(
     alloc: Global,
-    above: &Above,
+    scope: &Scope,
     rest: &mut Listed<Line>,
-    trees: &mut Listed<Option<Dependency>>,
+    readings: &mut Listed<Reading>,
     draft: &mut Draft,
 ) -> Result<(), AllocError>
     requires few { length rest.old < 2 ^ 32 - 1 }
-    requires trees { seen_trees trees.old ≡ trees_of (backwards [] rest.old) [] }
-    requires draft { drafts.seen_draft draft.old ≡ drafts.draft_of above.now (length rest.old + 1) [] }
-    ensures { OnOk result (drafts.seen_draft draft.new ≡ drafts.draft_of above.now 1 rest.old) }
+    requires readings { seen_readings readings.old ≡ readings_of (backwards [] rest.old) [] }
+    requires draft { drafts.seen_draft draft.old ≡ drafts.draft_of scope.now (length rest.old + 1) [] }
+    ensures { OnOk result (drafts.seen_draft draft.new ≡ drafts.draft_of scope.now 1 rest.old) }
 {
     'lines: while let Some(line) = rest.pop() {
         let number = rest.len() as u32 + 1;
-        put_line(alloc, above, number, line, trees, draft)?;
+        put_line(alloc, scope, number, line, readings, draft)?;
     }
     Ok(())
 }
 
-/// What all lines tell, with the facts of the whole text and the trees of its blocks and terms.
-pub fn drafted(
+/// What all lines say, with the scope of the whole text and what its blocks and terms are read as.
+pub fn draft_lines(
     alloc: Global,
-    above: &Above,
+    scope: &Scope,
     lines: Listed<Line>,
-    trees: Listed<Option<Dependency>>,
+    readings: Listed<Reading>,
 ) -> Result<Draft, AllocError>
     requires few { length lines < 2 ^ 32 - 1 }
-    requires trees { seen_trees trees ≡ trees_of (backwards [] lines) [] }
-    ensures { IfOk result (λ draft. drafts.seen_draft draft ≡ drafts.draft_of above.now 1 lines) }
+    requires readings { seen_readings readings ≡ readings_of (backwards [] lines) [] }
+    ensures { IfOk result (λ draft. drafts.seen_draft draft ≡ drafts.draft_of scope.now 1 lines) }
 {
     let mut draft = Draft::new(alloc);
     let mut rest = lines;
-    let mut trees = trees;
-    gather(alloc, above, &mut rest, &mut trees, &mut draft)?;
+    let mut readings = readings;
+    gather(alloc, scope, &mut rest, &mut readings, &mut draft)?;
     Ok(draft)
 }

@@ -2,14 +2,14 @@
 use Rattle.std.specs.Prelude.{Bool, true, false, not, ◌&&◌, List, [], ◌∷◌, Option, find}
 use Rattle.vc_model_lines.specs.declared.line.Line.{Line}
 use Rattle.vc_model_lines.specs.declared.line.Line.TheVariants as lines
-use Rattle.vc_model_scope.specs.declared.above.Above.{Above}
-use Rattle.vc_model_faults.specs.declared.fault.ModelKind.{ModelKind}
-use Rattle.vc_model_faults.specs.declared.fault.ModelKind.TheVariants as kind
+use Rattle.vc_model_scope.specs.declared.scope.Scope.{Scope}
+use Rattle.vc_model_faults.specs.declared.fault.ModelFaultKind.{ModelFaultKind}
+use Rattle.vc_model_faults.specs.declared.fault.ModelFaultKind.TheVariants as kind
 use Rattle.vc_model_faults.specs.Limits.{is_too_many}
-use Rattle.vc_model_faults.specs.Looks.{has_long_line, has_value}
+use Rattle.vc_model_scope.specs.LookAhead.{has_long_line, has_value}
 use Rattle.vc_model_faults.specs.Misplaced.{is_misplaced}
 use Rattle.vc_model_faults.specs.Misspelled.{is_misspelled}
-use Rattle.vc_model_faults.specs.Trees.{is_unread}
+use Rattle.vc_model_faults.specs.Readings.{is_unread}
 use Rattle.vc_model_faults.specs.Twice.{is_twice}
 use Rattle.vc_model_faults.specs.Unknown.{is_unknown, is_wrong}
 use Rattle.vc_model_faults.specs.Values.{is_bad}
@@ -41,29 +41,29 @@ is_mixed (lines.Char char) = char.multiple && char.restrictable
 is_mixed line = false
 
 -- the kind stands at the line; NotText and NoRoot stand at no line
-abbrev pub stands : Above → Line → List Line → ModelKind → Bool
-stands a line after kind.NotText = false
-stands a line after kind.LineTooLong = is_too_long line after
-stands a line after kind.NotALine = is_no_form line
-stands a line after kind.Misplaced = is_misplaced a line after
-stands a line after kind.BadName = is_misspelled line
-stands a line after kind.Twice = is_twice a line
-stands a line after kind.Unknown = is_unknown a line
-stands a line after kind.BadValue = is_bad a line
-stands a line after kind.Syntax = is_unread line after
-stands a line after kind.WrongDependency = is_wrong a line
-stands a line after kind.Action = is_action line
-stands a line after kind.NoValues = lacks_values line after
-stands a line after kind.TooMany = is_too_many a line
-stands a line after kind.NoRoot = false
-stands a line after kind.MultipleRestrictable = is_mixed line
+abbrev pub stands : Scope → Line → List Line → ModelFaultKind → Bool
+stands scope line after kind.NotText = false
+stands scope line after kind.LineTooLong = is_too_long line after
+stands scope line after kind.NotALine = is_no_form line
+stands scope line after kind.Misplaced = is_misplaced scope line after
+stands scope line after kind.BadName = is_misspelled line
+stands scope line after kind.Twice = is_twice scope line
+stands scope line after kind.Unknown = is_unknown scope line
+stands scope line after kind.BadValue = is_bad scope line
+stands scope line after kind.Syntax = is_unread line after
+stands scope line after kind.WrongDependency = is_wrong scope line
+stands scope line after kind.Action = is_action line
+stands scope line after kind.NoValues = lacks_values line after
+stands scope line after kind.TooMany = is_too_many scope line
+stands scope line after kind.NoRoot = false
+stands scope line after kind.MultipleRestrictable = is_mixed line
 
 -- all kinds, the least first
-abbrev pub kinds : List ModelKind
+abbrev pub kinds : List ModelFaultKind
 kinds =
     kind.NotText ∷ kind.LineTooLong ∷ kind.NotALine ∷ kind.Misplaced ∷ kind.BadName ∷ kind.Twice ∷ kind.Unknown ∷ kind.BadValue
     ∷ kind.Syntax ∷ kind.WrongDependency ∷ kind.Action ∷ kind.NoValues ∷ kind.TooMany ∷ kind.NoRoot ∷ kind.MultipleRestrictable ∷ []
 
 -- the least kind that stands at the line
-unfoldable pub kind_at : Above → Line → List Line → Option ModelKind
-kind_at a line after = find (stands a line after) kinds
+unfoldable pub kind_at : Scope → Line → List Line → Option ModelFaultKind
+kind_at scope line after = find (stands scope line after) kinds

@@ -1,11 +1,11 @@
+pub mod Faults
 pub mod First
+pub mod Found
 pub mod Kinds
 pub mod Limits
-pub mod Looks
 pub mod Misplaced
 pub mod Misspelled
-pub mod Trees
+pub mod Readings
 pub mod Twice
 pub mod Unknown
 pub mod Values
-pub mod Words

@@ -7,7 +7,7 @@ use Rattle.vc_model_lines.specs.declared.line.NumLine.{NumLine}
 use Rattle.vc_model_lines.specs.declared.line.ObjectLine.{ObjectLine}
 use Rattle.vc_model_lines.specs.declared.line.BillLine.{BillLine}
 use Rattle.vc_model_lines.specs.declared.line.OperationLine.{OperationLine}
-use Rattle.vc_model_faults.specs.Words.{is_free_name, is_material, is_unit}
+use Rattle.vc_model_lines.specs.WordSpellings.{is_free_name, is_material, is_unit}
 
 abbrev pub is_misspelled_num : NumLine → Bool
 is_misspelled_num num = not (is_free_name num.name) || not (is_unit num.unit)

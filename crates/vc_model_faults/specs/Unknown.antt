@@ -2,7 +2,7 @@
 use Rattle.std.specs.Prelude.{ℕ, Bool, false, not, ◌||◌, List}
 use Rattle.vc_model_lines.specs.declared.line.Line.{Line}
 use Rattle.vc_model_lines.specs.declared.line.Line.TheVariants as lines
-use Rattle.vc_model_scope.specs.declared.above.Above.{Above}
+use Rattle.vc_model_scope.specs.declared.scope.Scope.{Scope}
 use Rattle.vc_model_scope.specs.declared.naming.Dependencies.{Dependencies}
 use Rattle.vc_model_scope.specs.declared.stands.UsesPlace.{UsesPlace}
 use Rattle.vc_model_scope.specs.declared.stands.UsesPlace.TheVariants as places
@@ -10,13 +10,13 @@ use Rattle.vc_model_scope.specs.Names.{is_among}
 use Rattle.vc_model_faults.specs.Twice.{is_declared}
 
 -- the name isn't declared above, or the root is no object
-unfoldable pub is_unknown : Above → Line → Bool
-is_unknown a (lines.Uses name) = not (is_declared a.dependencies name)
-is_unknown a (lines.Has name) = not (is_among a.declared.characteristics name)
-is_unknown a (lines.Column column) = not (is_among a.declared.characteristics column.characteristic)
-is_unknown a (lines.Object object) = not (is_among a.declared.classes object.class)
-is_unknown a (lines.Root material) = not (is_among a.declared.objects material)
-is_unknown a line = false
+unfoldable pub is_unknown : Scope → Line → Bool
+is_unknown scope (lines.Uses name) = not (is_declared scope.dependencies name)
+is_unknown scope (lines.Has name) = not (is_among scope.declared.characteristics name)
+is_unknown scope (lines.Column column) = not (is_among scope.declared.characteristics column.characteristic)
+is_unknown scope (lines.Object object) = not (is_among scope.declared.classes object.class)
+is_unknown scope (lines.Root material) = not (is_among scope.declared.objects material)
+is_unknown scope line = false
 
 -- a precondition or a procedure
 abbrev pub is_for_value : Dependencies → List ℕ → Bool
@@ -40,6 +40,6 @@ is_allowed places.Net d name = is_among d.constraints name
 is_allowed places.Object d name = is_for_object d name
 
 -- USES names no dependency of a kind that may be used there
-unfoldable pub is_wrong : Above → Line → Bool
-is_wrong a (lines.Uses name) = not (is_allowed a.uses.place a.dependencies name)
-is_wrong a line = false
+unfoldable pub is_wrong : Scope → Line → Bool
+is_wrong scope (lines.Uses name) = not (is_allowed scope.uses.place scope.dependencies name)
+is_wrong scope line = false

@@ -5,15 +5,15 @@ use Rattle.vc_value.specs.declared.decimal.Dec.{Dec}
 use Rattle.vc_value.specs.Grains.{has_decimals}
 use Rattle.vc_model_lines.specs.declared.line.Line.{Line}
 use Rattle.vc_model_lines.specs.declared.line.Line.TheVariants as lines
-use Rattle.vc_model_scope.specs.declared.above.Above.{Above}
-use Rattle.vc_model_scope.specs.declared.above.Standing.{Standing}
+use Rattle.vc_model_scope.specs.declared.scope.Scope.{Scope}
+use Rattle.vc_model_scope.specs.declared.scope.Standing.{Standing}
 use Rattle.vc_model_scope.specs.declared.entries.Interval.{Interval}
 use Rattle.vc_model_scope.specs.declared.stands.Under.{Under}
 use Rattle.vc_model_scope.specs.declared.stands.Under.TheVariants as unders
 use Rattle.vc_model_scope.specs.Entries.{last_entry}
 use Rattle.vc_model_scope.specs.Names.{is_among}
-use Rattle.vc_model_scope.specs.Tells.{entry_of}
-use Rattle.vc_model_faults.specs.Words.{is_value_text}
+use Rattle.vc_model_scope.specs.Contents.{entry_of}
+use Rattle.vc_model_lines.specs.WordSpellings.{is_value_text}
 
 -- a text of 1 to so many characters, none of them a control character
 abbrev pub text_fits : Under → List ℕ → Bool
@@ -56,13 +56,13 @@ follows numbers None = false
 follows numbers (Some number) = exceeds (last_of numbers) number
 
 -- a version, length or decimals that is none; a value that doesn't fit; a column with MULTIPLE; an item or operation that doesn't ascend
-unfoldable pub is_bad : Above → Line → Bool
-is_bad a (lines.Head head) = is_none head.version
-is_bad a (lines.Char char) = is_none char.length
-is_bad a (lines.Num num) = is_none num.decimals
-is_bad a (lines.Text text) = not (text_fits a.standing.under text)
-is_bad a (lines.Interval interval) = not (interval_fits a.standing (entry_of (lines.Interval interval)))
-is_bad a (lines.Column column) = is_among a.declared.multiples column.characteristic
-is_bad a (lines.Bill bill) = not (follows a.standing.items bill.item)
-is_bad a (lines.Operation operation) = not (follows a.standing.operations operation.number)
-is_bad a line = false
+unfoldable pub is_bad : Scope → Line → Bool
+is_bad scope (lines.Head head) = is_none head.version
+is_bad scope (lines.Char char) = is_none char.length
+is_bad scope (lines.Num num) = is_none num.decimals
+is_bad scope (lines.Text text) = not (text_fits scope.standing.under text)
+is_bad scope (lines.Interval interval) = not (interval_fits scope.standing (entry_of (lines.Interval interval)))
+is_bad scope (lines.Column column) = is_among scope.declared.multiples column.characteristic
+is_bad scope (lines.Bill bill) = not (follows scope.standing.items bill.item)
+is_bad scope (lines.Operation operation) = not (follows scope.standing.operations operation.number)
+is_bad scope line = false

@@ -1,13 +1,14 @@
 //! Why a text is no model.
 
 ghost use Rattle.std.specs.Prelude.{◌≡◌};
+ghost use Rattle.vc_model_faults.specs.Faults.{number_of};
 ghost use Rattle.vc_model_faults.specs.declared.fault.ModelFault.TheVariants.{OutOfMemory};
 
 use std::alloc::AllocError;
 
 /// What is wrong with a text. Of the kinds that stand at one line the first of this list counts.
 #[derive(Clone, Copy, Debug, PartialEq, Eq)]
-pub enum ModelKind {
+pub enum ModelFaultKind {
     /// The text isn't UTF-8.
     NotText,
     /// A line has over 1,000 bytes.
@@ -41,11 +42,36 @@ pub enum ModelKind {
     MultipleRestrictable,
 }
 
+impl ModelFaultKind {
+    /// Its number: 1 to 15, in the order of the list.
+    pub fn number(self) -> u8
+        ensures { result ≡ number_of self }
+    {
+        match self {
+            ModelFaultKind::NotText => 1,
+            ModelFaultKind::LineTooLong => 2,
+            ModelFaultKind::NotALine => 3,
+            ModelFaultKind::Misplaced => 4,
+            ModelFaultKind::BadName => 5,
+            ModelFaultKind::Twice => 6,
+            ModelFaultKind::Unknown => 7,
+            ModelFaultKind::BadValue => 8,
+            ModelFaultKind::Syntax => 9,
+            ModelFaultKind::WrongDependency => 10,
+            ModelFaultKind::Action => 11,
+            ModelFaultKind::NoValues => 12,
+            ModelFaultKind::TooMany => 13,
+            ModelFaultKind::NoRoot => 14,
+            ModelFaultKind::MultipleRestrictable => 15,
+        }
+    }
+}
+
 /// Why a text wasn't read.
 #[derive(Clone, Copy, Debug, PartialEq, Eq)]
 pub enum ModelFault {
     /// The first faulty line, counted from 1, with its kind; 0 where the text isn't UTF-8.
-    Bad { kind: ModelKind, line: u32 },
+    Bad { kind: ModelFaultKind, line: u32 },
     OutOfMemory,
 }
 

@@ -2,18 +2,18 @@
 
 ghost use Rattle.std.specs.Prelude.{◌≡◌};
 ghost use Rattle.vc_model_faults.specs.Kinds as kinds;
-ghost use Rattle.vc_model_faults.specs.Trees.{is_unread};
+ghost use Rattle.vc_model_faults.specs.Readings.{is_unread};
 
-use crate::fault::ModelKind;
+use crate::fault::ModelFaultKind;
 use crate::limits::is_too_many;
-use crate::looks::{has_long_line, has_value};
 use crate::misplaced::is_misplaced;
 use crate::misspelled::is_misspelled;
 use crate::twice::is_twice;
 use crate::unknown::{is_unknown, is_wrong};
 use crate::values::is_bad;
 use vc_model_lines::Line;
-use vc_model_scope::above::Above;
+use vc_model_scope::look_ahead::{has_long_line, has_value};
+use vc_model_scope::scope::Scope;
 
 #[tactic(auto, unfolding(crate::specs::Kinds::is_too_long))]
 fn is_too_long(line: &Line, after: &[Line]) -> bool
@@ -69,36 +69,36 @@ fn is_mixed(line: &Line) -> bool
 /// The least kind of fault that stands at the line, if one does. Whether its block or term is
 /// unread is told.
 #[tactic(auto, unfolding(crate::specs::Kinds::kind_at))]
-pub fn kind_at(above: &Above, line: &Line, after: &[Line], unread: bool) -> Option<ModelKind>
+pub fn kind_at(scope: &Scope, line: &Line, after: &[Line], unread: bool) -> Option<ModelFaultKind>
     requires { unread ≡ is_unread line.now after.now }
-    ensures { result ≡ kinds.kind_at above.now line.now after.now }
+    ensures { result ≡ kinds.kind_at scope.now line.now after.now }
 {
     if is_too_long(line, after) {
-        Some(ModelKind::LineTooLong)
+        Some(ModelFaultKind::LineTooLong)
     } else if is_no_form(line) {
-        Some(ModelKind::NotALine)
-    } else if is_misplaced(above, line, after) {
-        Some(ModelKind::Misplaced)
+        Some(ModelFaultKind::NotALine)
+    } else if is_misplaced(scope, line, after) {
+        Some(ModelFaultKind::Misplaced)
     } else if is_misspelled(line) {
-        Some(ModelKind::BadName)
-    } else if is_twice(above, line) {
-        Some(ModelKind::Twice)
-    } else if is_unknown(above, line) {
-        Some(ModelKind::Unknown)
-    } else if is_bad(above, line) {
-        Some(ModelKind::BadValue)
+        Some(ModelFaultKind::BadName)
+    } else if is_twice(scope, line) {
+        Some(ModelFaultKind::Twice)
+    } else if is_unknown(scope, line) {
+        Some(ModelFaultKind::Unknown)
+    } else if is_bad(scope, line) {
+        Some(ModelFaultKind::BadValue)
     } else if unread {
-        Some(ModelKind::Syntax)
-    } else if is_wrong(above, line) {
-        Some(ModelKind::WrongDependency)
+        Some(ModelFaultKind::Syntax)
+    } else if is_wrong(scope, line) {
+        Some(ModelFaultKind::WrongDependency)
     } else if is_action(line) {
-        Some(ModelKind::Action)
+        Some(ModelFaultKind::Action)
     } else if lacks_values(line, after) {
-        Some(ModelKind::NoValues)
-    } else if is_too_many(above, line) {
-        Some(ModelKind::TooMany)
+        Some(ModelFaultKind::NoValues)
+    } else if is_too_many(scope, line) {
+        Some(ModelFaultKind::TooMany)
     } else if is_mixed(line) {
-        Some(ModelKind::MultipleRestrictable)
+        Some(ModelFaultKind::MultipleRestrictable)
     } else {
         None
     }

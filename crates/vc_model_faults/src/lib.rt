@@ -1,17 +1,22 @@
-//! The first fault of a model text, by its lines.
+//! The first fault of a model text, by its lines; or, where there is none, their scope and readings.
 #![tactic(auto)]
 
+pub mod all_lines;
 pub mod fault;
-pub mod first;
 pub mod kinds;
 pub mod limits;
-pub mod looks;
+#[cfg(test)]
+mod line_tests;
 pub mod misplaced;
 pub mod misspelled;
+pub mod one_line;
+pub mod readings;
 #[cfg(test)]
 mod tests;
-pub mod trees;
 pub mod twice;
 pub mod unknown;
 pub mod values;
-pub mod words;
+
+pub use all_lines::{Sound, check_lines};
+pub use fault::{ModelFault, ModelFaultKind};
+pub use readings::Reading;

@@ -4,7 +4,7 @@ ghost use Rattle.std.specs.Prelude.{◌≡◌};
 ghost use Rattle.vc_model_faults.specs.Limits as limits;
 
 use vc_model_lines::Line;
-use vc_model_scope::above::Above;
+use vc_model_scope::scope::Scope;
 
 const MOST_CHARACTERISTICS: usize = 2_000;
 /// For each characteristic.
@@ -32,25 +32,25 @@ const MOST_USES: usize = 100;
 
 /// Whether the line would do so.
 #[tactic(auto, unfolding(crate::specs::Limits::is_too_many))]
-pub fn is_too_many(above: &Above, line: &Line) -> bool
-    ensures { result ≡ limits.is_too_many above.now line.now }
+pub fn is_too_many(scope: &Scope, line: &Line) -> bool
+    ensures { result ≡ limits.is_too_many scope.now line.now }
 {
     match line {
         Line::Char(_) | Line::Num(_) => {
-            above.declared.characteristics.len() >= MOST_CHARACTERISTICS
+            scope.declared.characteristics.len() >= MOST_CHARACTERISTICS
         }
-        Line::Text(_) => above.standing.texts.len() >= MOST_VALUES,
-        Line::Interval(_) => above.standing.entries.len() >= MOST_VALUES,
-        Line::Uses(_) => above.uses.names.len() >= MOST_USES,
-        Line::Class(_) => above.declared.classes.len() >= MOST_CLASSES,
-        Line::Has(_) => above.standing.members.len() >= MOST_MEMBERS,
-        Line::Table(_) => above.declared.tables.len() >= MOST_TABLES,
-        Line::Column(_) => above.standing.columns.len() >= MOST_COLUMNS,
-        Line::Net(_) => above.dependencies.nets.len() >= MOST_NETS,
-        Line::Object(_) => above.declared.objects.len() >= MOST_OBJECTS,
-        Line::Bill(_) => above.standing.items.len() >= MOST_ITEMS,
-        Line::Operation(_) => above.standing.operations.len() >= MOST_OPERATIONS,
-        Line::Block(_) => above.dependencies.all.len() >= MOST_DEPENDENCIES,
+        Line::Text(_) => scope.standing.texts.len() >= MOST_VALUES,
+        Line::Interval(_) => scope.standing.entries.len() >= MOST_VALUES,
+        Line::Uses(_) => scope.uses.names.len() >= MOST_USES,
+        Line::Class(_) => scope.declared.classes.len() >= MOST_CLASSES,
+        Line::Has(_) => scope.standing.members.len() >= MOST_MEMBERS,
+        Line::Table(_) => scope.declared.tables.len() >= MOST_TABLES,
+        Line::Column(_) => scope.standing.columns.len() >= MOST_COLUMNS,
+        Line::Net(_) => scope.dependencies.nets.len() >= MOST_NETS,
+        Line::Object(_) => scope.declared.objects.len() >= MOST_OBJECTS,
+        Line::Bill(_) => scope.standing.items.len() >= MOST_ITEMS,
+        Line::Operation(_) => scope.standing.operations.len() >= MOST_OPERATIONS,
+        Line::Block(_) => scope.dependencies.all.len() >= MOST_DEPENDENCIES,
         _ => false,
     }
 }

@@ -3,9 +3,9 @@
 ghost use Rattle.std.specs.Prelude.{◌≡◌};
 ghost use Rattle.vc_model_faults.specs.Misplaced as placed;
 
-use crate::looks::{is_closed, one_counts};
 use vc_model_lines::Line;
-use vc_model_scope::above::Above;
+use vc_model_scope::look_ahead::{is_closed, one_counts};
+use vc_model_scope::scope::Scope;
 use vc_model_scope::stands::{Under, UsesPlace};
 
 fn takes_texts(under: Under) -> bool
@@ -64,25 +64,25 @@ fn takes_uses(place: UsesPlace) -> bool
 
 /// Whether the line may not stand there, or opens a block that isn't closed.
 #[tactic(auto, unfolding(crate::specs::Misplaced::is_misplaced))]
-pub fn is_misplaced(above: &Above, line: &Line, after: &[Line]) -> bool
-    ensures { result ≡ placed.is_misplaced above.now line.now after.now }
+pub fn is_misplaced(scope: &Scope, line: &Line, after: &[Line]) -> bool
+    ensures { result ≡ placed.is_misplaced scope.now line.now after.now }
 {
     match line {
-        Line::Head(_) => above.counted,
+        Line::Head(_) => scope.counted,
         Line::Char(_)
         | Line::Num(_)
         | Line::Class(_)
         | Line::Table(_)
         | Line::Net(_)
-        | Line::Object(_) => !above.head,
-        Line::Text(_) => !takes_texts(above.standing.under),
-        Line::Interval(_) => !takes_intervals(above.standing.under),
-        Line::Has(_) => !takes_members(above.standing.under),
-        Line::Column(_) => !takes_columns(above.standing.under),
-        Line::Bill(_) | Line::Operation(_) => !takes_items(above.standing.under),
-        Line::Uses(_) => !takes_uses(above.uses.place),
-        Line::Block(_) => !above.head || !is_closed(after),
-        Line::Root(_) => !above.head || one_counts(after),
+        | Line::Object(_) => !scope.head,
+        Line::Text(_) => !takes_texts(scope.standing.under),
+        Line::Interval(_) => !takes_intervals(scope.standing.under),
+        Line::Has(_) => !takes_members(scope.standing.under),
+        Line::Column(_) => !takes_columns(scope.standing.under),
+        Line::Bill(_) | Line::Operation(_) => !takes_items(scope.standing.under),
+        Line::Uses(_) => !takes_uses(scope.uses.place),
+        Line::Block(_) => !scope.head || !is_closed(after),
+        Line::Root(_) => !scope.head || one_counts(after),
         _ => false,
     }
 }

@@ -3,7 +3,7 @@
 ghost use Rattle.std.specs.Prelude.{◌≡◌};
 ghost use Rattle.vc_model_faults.specs.Misspelled as spelled;
 
-use crate::words::{is_free_name, is_material, is_unit};
+use vc_model_lines::spelling::{is_free_name, is_material, is_unit};
 use vc_model_lines::{BillLine, Line, NumLine, ObjectLine, OperationLine};
 use vc_value::is_name;
 

@@ -1,87 +1,60 @@
-//! Texts with one fault each, and the limits that are quickly reached.
+//! First faults of short texts, and how much is read of a text without one.
 
-use crate::fault::ModelKind;
-use crate::first::pass;
-use std::alloc::{AllocError, Global};
+use crate::all_lines::check_lines;
+use crate::fault::{ModelFault, ModelFaultKind};
+use std::alloc::Global;
 use std::test::Fail;
 use vc_model_lines::classify;
-use vc_model_scope::above::Gathered;
-use vc_value::Listed;
 
-// The kind and the line of the first fault at a line; None where there is none.
-fn fault_of(alloc: Global, text: &str) -> Result<Option<(ModelKind, usize)>, AllocError> {
-    let lines = classify(alloc, text)?;
-    let mut facts = Gathered::new(alloc);
-    let mut trees = Listed::new(alloc);
-    let mut rest = lines.as_slice();
-    for number in 1..1_000 {
-        let Some((line, after)) = rest.split_first() else {
-            return Ok(None);
-        };
-        match pass(alloc, &mut facts, &mut trees, line, after)? {
-            Some(kind) => return Ok(Some((kind, number))),
-            None => rest = after,
-        }
+#[derive(Drop)]
+enum Outcome {
+    Sound(usize),
+    Bad(ModelFaultKind, u32),
+    Other,
+}
+
+// How many blocks and terms of a text without fault are read, or its first fault.
+fn outcome_of(alloc: Global, text: &str) -> Outcome {
+    let Ok(lines) = classify(alloc, text) else {
+        return Outcome::Other;
+    };
+    let lines = lines.as_slice();
+    if lines.len() > 1_000 {
+        return Outcome::Other;
     }
-    Ok(None)
+    match check_lines(alloc, lines) {
+        Ok(sound) => Outcome::Sound(sound.readings.len()),
+        Err(ModelFault::Bad { kind, line }) => Outcome::Bad(kind, line),
+        Err(ModelFault::OutOfMemory) => Outcome::Other,
+    }
 }
 
 #[test]
-fn each_kind_is_told_at_its_line(rt: HostRuntime) -> Result<(), Fail> {
+fn first_faults_are_told_at_their_lines(rt: HostRuntime) -> Result<(), Fail> {
     for (text, kind, line) in [
-        ("FOO", ModelKind::NotALine, 2),
-        ("CHAR AND 1\nVALUE 'X'", ModelKind::BadName, 2),
-        ("CHAR A 1\nFOO", ModelKind::NoValues, 2),
-        ("CHAR A 1\nUSES NOPE\nVALUE 'X'", ModelKind::Unknown, 3),
-        ("CHAR A 1\nVALUE 'X'\nVALUE 'X'", ModelKind::Twice, 4),
-        ("CHAR A 1\nVALUE 'XY'", ModelKind::BadValue, 3),
-        ("NUM N 1\nVALUE 5\nVALUE 4", ModelKind::BadValue, 4),
-        ("NUM N 1\nVALUE 'X'", ModelKind::Misplaced, 3),
-        ("ACTION X", ModelKind::Action, 2),
-        ("SELECTION S\nA =\nEND", ModelKind::Syntax, 2),
-        ("SELECTION S\nA = 1", ModelKind::Misplaced, 2),
+        ("", ModelFaultKind::NoRoot, 1),
+        ("MODEL A VERSION 1", ModelFaultKind::NoRoot, 2),
+        ("MODEL A VERSION 1\n* end\n", ModelFaultKind::NoRoot, 3),
+        ("NET N\nFOO\n", ModelFaultKind::Misplaced, 1),
         (
-            "CHAR A 1 MULTIPLE RESTRICTABLE\nVALUE 'X'",
-            ModelKind::MultipleRestrictable,
+            "MODEL A VERSION 1\nCHAR C 1\nFOO\n",
+            ModelFaultKind::NoValues,
             2,
         ),
         (
-            "SELECTION S\nA = 1\nEND\nCHAR A 1\nVALUE 'X'\nUSES S",
-            ModelKind::WrongDependency,
-            7,
-        ),
-        (
-            "CLASS C\nOBJECT M CLASS C\nROOT M\nNET N",
-            ModelKind::Misplaced,
-            4,
+            "MODEL A VERSION 1\nNET N\nNET N\nFOO\n",
+            ModelFaultKind::Twice,
+            3,
         ),
     ] {
-        let text = format!(in rt.alloc(); "MODEL A VERSION 1\n{text}\n")?;
+        let told = outcome_of(rt.alloc(), text);
         assert!(rt;
-            fault_of(rt.alloc(), text.as_str())? == Some((kind, line)),
+            matches!(&told, Outcome::Bad(k, n) if *k == kind && *n == line),
             "{text}"
         );
     }
-    assert!(rt; fault_of(rt.alloc(), "NET N\n")? == Some((ModelKind::Misplaced, 1)));
-    let sound = "MODEL A VERSION 1\nCLASS C\nOBJECT M CLASS C\nROOT M\n";
-    assert!(rt; fault_of(rt.alloc(), sound)?.is_none());
-    Ok(())
-}
-
-#[test]
-fn limits_hold_at_their_numbers(rt: HostRuntime) -> Result<(), Fail> {
-    let mut text = String::from_str(rt.alloc(), "MODEL A VERSION 1\n")?;
-    for number in 0..21 {
-        let characteristic = format!(in rt.alloc(); "CHAR C{number} 1\nVALUE 'X'\n")?;
-        text.push_str(characteristic.as_str())?;
-    }
-    text.push_str("TABLE T FILE t.csv\n")?;
-    for number in 0..20 {
-        let column = format!(in rt.alloc(); "COLUMN C{number}\n")?;
-        text.push_str(column.as_str())?;
-    }
-    assert!(rt; fault_of(rt.alloc(), text.as_str())?.is_none());
-    text.push_str("COLUMN C20\n")?;
-    assert!(rt; fault_of(rt.alloc(), text.as_str())? == Some((ModelKind::TooMany, 65)));
+    let text = "MODEL A VERSION 1\nCLASS C\nPRECONDITION P\nX = 1\nEND\nOBJECT M CLASS C\nROOT M\n";
+    let told = outcome_of(rt.alloc(), text);
+    assert!(rt; matches!(&told, Outcome::Sound(1)));
     Ok(())
 }

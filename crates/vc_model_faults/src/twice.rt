@@ -5,11 +5,11 @@ ghost use Rattle.vc_model_scope.specs.Names.{is_among};
 ghost use Rattle.vc_model_faults.specs.Twice as twice;
 
 use vc_model_lines::Line;
-use vc_model_scope::above::Above;
+use vc_model_scope::contents::entry_of;
 use vc_model_scope::entries::{Entries, Interval};
 use vc_model_scope::names::Names;
 use vc_model_scope::naming::{Declared, Dependencies};
-use vc_model_scope::tells::entry_of;
+use vc_model_scope::scope::Scope;
 use vc_value::Word;
 
 /// Whether the name is among these.
@@ -43,22 +43,22 @@ fn is_listed(entries: &Entries, entry: Option<Interval>) -> bool
 
 /// Whether the line does so.
 #[tactic(auto, unfolding(crate::specs::Twice::is_twice))]
-pub fn is_twice(above: &Above, line: &Line) -> bool
-    ensures { result ≡ twice.is_twice above.now line.now }
+pub fn is_twice(scope: &Scope, line: &Line) -> bool
+    ensures { result ≡ twice.is_twice scope.now line.now }
 {
     match line {
-        Line::Char(line) => has(&above.declared.characteristics, &line.name),
-        Line::Num(line) => has(&above.declared.characteristics, &line.name),
-        Line::Text(text) => has(&above.standing.texts, text),
-        Line::Interval(_) => is_listed(&above.standing.entries, entry_of(line)),
-        Line::Uses(name) => has(&above.uses.names, name),
-        Line::Class(name) => has(&above.declared.classes, name),
-        Line::Has(name) => has(&above.standing.members, name),
-        Line::Table(line) => has(&above.declared.tables, &line.name),
-        Line::Column(line) => has(&above.standing.columns, &line.characteristic),
-        Line::Net(name) => is_declared(&above.dependencies, name),
-        Line::Block(line) => is_declared(&above.dependencies, &line.name),
-        Line::Object(line) => is_material_taken(&above.declared, &line.material),
+        Line::Char(line) => has(&scope.declared.characteristics, &line.name),
+        Line::Num(line) => has(&scope.declared.characteristics, &line.name),
+        Line::Text(text) => has(&scope.standing.texts, text),
+        Line::Interval(_) => is_listed(&scope.standing.entries, entry_of(line)),
+        Line::Uses(name) => has(&scope.uses.names, name),
+        Line::Class(name) => has(&scope.declared.classes, name),
+        Line::Has(name) => has(&scope.standing.members, name),
+        Line::Table(line) => has(&scope.declared.tables, &line.name),
+        Line::Column(line) => has(&scope.standing.columns, &line.characteristic),
+        Line::Net(name) => is_declared(&scope.dependencies, name),
+        Line::Block(line) => is_declared(&scope.dependencies, &line.name),
+        Line::Object(line) => is_material_taken(&scope.declared, &line.material),
         _ => false,
     }
 }

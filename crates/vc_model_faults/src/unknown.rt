@@ -5,22 +5,22 @@ ghost use Rattle.vc_model_faults.specs.Unknown as unknown;
 
 use crate::twice::{has, is_declared};
 use vc_model_lines::Line;
-use vc_model_scope::above::Above;
 use vc_model_scope::naming::Dependencies;
+use vc_model_scope::scope::Scope;
 use vc_model_scope::stands::UsesPlace;
 use vc_value::Word;
 
 /// Whether a name of the line isn't declared above it, or its root is no object.
 #[tactic(auto, unfolding(crate::specs::Unknown::is_unknown))]
-pub fn is_unknown(above: &Above, line: &Line) -> bool
-    ensures { result ≡ unknown.is_unknown above.now line.now }
+pub fn is_unknown(scope: &Scope, line: &Line) -> bool
+    ensures { result ≡ unknown.is_unknown scope.now line.now }
 {
     match line {
-        Line::Uses(name) => !is_declared(&above.dependencies, name),
-        Line::Has(name) => !has(&above.declared.characteristics, name),
-        Line::Column(line) => !has(&above.declared.characteristics, &line.characteristic),
-        Line::Object(line) => !has(&above.declared.classes, &line.class),
-        Line::Root(material) => !has(&above.declared.objects, material),
+        Line::Uses(name) => !is_declared(&scope.dependencies, name),
+        Line::Has(name) => !has(&scope.declared.characteristics, name),
+        Line::Column(line) => !has(&scope.declared.characteristics, &line.characteristic),
+        Line::Object(line) => !has(&scope.declared.classes, &line.class),
+        Line::Root(material) => !has(&scope.declared.objects, material),
         _ => false,
     }
 }
@@ -58,11 +58,11 @@ fn is_allowed(place: UsesPlace, dependencies: &Dependencies, name: &Word) -> boo
 
 /// Whether the line uses a kind that isn't allowed there.
 #[tactic(auto, unfolding(crate::specs::Unknown::is_wrong))]
-pub fn is_wrong(above: &Above, line: &Line) -> bool
-    ensures { result ≡ unknown.is_wrong above.now line.now }
+pub fn is_wrong(scope: &Scope, line: &Line) -> bool
+    ensures { result ≡ unknown.is_wrong scope.now line.now }
 {
     match line {
-        Line::Uses(name) => !is_allowed(above.uses.place, &above.dependencies, name),
+        Line::Uses(name) => !is_allowed(scope.uses.place, &scope.dependencies, name),
         _ => false,
     }
 }

@@ -4,12 +4,12 @@ ghost use Rattle.std.specs.Prelude.{◌≡◌};
 ghost use Rattle.vc_model_faults.specs.Values as values;
 
 use crate::twice::has;
-use crate::words::is_value_text;
 use vc_model_lines::Line;
-use vc_model_scope::above::{Above, Standing};
+use vc_model_lines::spelling::is_value_text;
+use vc_model_scope::contents::entry_of;
 use vc_model_scope::entries::Interval;
+use vc_model_scope::scope::{Scope, Standing};
 use vc_model_scope::stands::Under;
-use vc_model_scope::tells::entry_of;
 use vc_value::{Dec, Word};
 
 fn text_fits(under: Under, text: &Word) -> bool
@@ -94,18 +94,18 @@ fn follows(numbers: &[u16], number: Option<u16>) -> bool
 
 /// Whether something on the line does so.
 #[tactic(auto, unfolding(crate::specs::Values::is_bad))]
-pub fn is_bad(above: &Above, line: &Line) -> bool
-    ensures { result ≡ values.is_bad above.now line.now }
+pub fn is_bad(scope: &Scope, line: &Line) -> bool
+    ensures { result ≡ values.is_bad scope.now line.now }
 {
     match line {
         Line::Head(line) => line.version.is_none(),
         Line::Char(line) => line.length.is_none(),
         Line::Num(line) => line.decimals.is_none(),
-        Line::Text(text) => !text_fits(above.standing.under, text),
-        Line::Interval(_) => !interval_fits(&above.standing, entry_of(line)),
-        Line::Column(line) => has(&above.declared.multiples, &line.characteristic),
-        Line::Bill(line) => !follows(above.standing.items.as_slice(), line.item),
-        Line::Operation(line) => !follows(above.standing.operations.as_slice(), line.number),
+        Line::Text(text) => !text_fits(scope.standing.under, text),
+        Line::Interval(_) => !interval_fits(&scope.standing, entry_of(line)),
+        Line::Column(line) => has(&scope.declared.multiples, &line.characteristic),
+        Line::Bill(line) => !follows(scope.standing.items.as_slice(), line.item),
+        Line::Operation(line) => !follows(scope.standing.operations.as_slice(), line.number),
         _ => false,
     }
 }

@@ -7,8 +7,8 @@ use Rattle.vc_value.specs.Decimals.{read_number}
 use Rattle.vc_value.specs.Words.{same_ignoring_case}
 use Rattle.vc_model_lines.specs.declared.line.Keyword.{Keyword}
 use Rattle.vc_model_lines.specs.declared.line.Keyword.TheVariants as keyword
-use Rattle.vc_model_lines.specs.declared.line.BlockKind.{BlockKind}
-use Rattle.vc_model_lines.specs.declared.line.BlockKind.TheVariants as block
+use Rattle.vc_syntax_tokens.specs.declared.fault.Kind.{Kind}
+use Rattle.vc_syntax_tokens.specs.declared.fault.Kind.TheVariants as kinds
 use Rattle.vc_model_lines.specs.declared.line.Line.{Line}
 use Rattle.vc_model_lines.specs.declared.line.Line.TheVariants as line
 use Rattle.vc_model_lines.specs.LineWords.{upper, has_word, after_words}
@@ -175,7 +175,7 @@ operation_line term (number ∷ centre ∷ unit ∷ colon ∷ words) =
 operation_line term words = None
 
 -- the name of a block
-abbrev pub block_line : BlockKind → List (List ℕ) → Option Line
+abbrev pub block_line : Kind → List (List ℕ) → Option Line
 block_line kind words = option_map (λ name. line.Block (record { kind = kind; name = name })) (one_name words)
 
 -- one word, whatever it is
@@ -198,9 +198,9 @@ form_of keyword.Net text words = net_line words
 form_of keyword.Object text words = object_line words
 form_of keyword.Line text words = bill_line (after_words 5 text) words
 form_of keyword.Operation text words = operation_line (after_words 5 text) words
-form_of keyword.Precondition text words = block_line block.Precondition words
-form_of keyword.Selection text words = block_line block.Selection words
-form_of keyword.Procedure text words = block_line block.Procedure words
-form_of keyword.Constraint text words = block_line block.Constraint words
+form_of keyword.Precondition text words = block_line kinds.Precondition words
+form_of keyword.Selection text words = block_line kinds.Selection words
+form_of keyword.Procedure text words = block_line kinds.Procedure words
+form_of keyword.Constraint text words = block_line kinds.Constraint words
 form_of keyword.Root text words = root_line words
 form_of keyword.Action text words = action_line words

@@ -4,3 +4,4 @@ pub mod Forms
 pub mod Keywords
 pub mod LineWords
 pub mod Quoted
+pub mod WordSpellings

@@ -11,12 +11,13 @@ ghost use Rattle.vc_model_lines.specs.LineWords as spelled;
 
 use crate::counts::{count_in, decimals, item_number, text_length};
 use crate::line::{
-    BillLine, BlockKind, BlockLine, CharLine, ColumnLine, HeadLine, IntervalLine, Keyword, Line,
-    NumLine, ObjectLine, OperationLine, TableLine,
+    BillLine, BlockLine, CharLine, ColumnLine, HeadLine, IntervalLine, Keyword, Line, NumLine,
+    ObjectLine, OperationLine, TableLine,
 };
 use crate::quoted::{begins_with_quote, quoted_text};
 use crate::words::{after_words, has_word, is_word};
 use std::alloc::{AllocError, Global};
+use vc_syntax_tokens::Kind;
 use vc_value::{Dec, Word};
 
 // `name VERSION n`
@@ -366,7 +367,7 @@ fn operation_line(alloc: Global, term: &[u8], words: &[&[u8]]) -> Result<Option<
     }
 }
 
-fn block_line(alloc: Global, kind: BlockKind, words: &[&[u8]]) -> Result<Option<Line>, AllocError>
+fn block_line(alloc: Global, kind: Kind, words: &[&[u8]]) -> Result<Option<Line>, AllocError>
     ensures { IfOk result (λ line. line ≡ forms.block_line kind (map (λ word. word.now) words.now)) }
 {
     match one_name(alloc, words)? {
@@ -409,10 +410,10 @@ pub fn form_of(
         Keyword::Object => object_line(alloc, words),
         Keyword::Line => bill_line(alloc, after_words(5, line), words),
         Keyword::Operation => operation_line(alloc, after_words(5, line), words),
-        Keyword::Precondition => block_line(alloc, BlockKind::Precondition, words),
-        Keyword::Selection => block_line(alloc, BlockKind::Selection, words),
-        Keyword::Procedure => block_line(alloc, BlockKind::Procedure, words),
-        Keyword::Constraint => block_line(alloc, BlockKind::Constraint, words),
+        Keyword::Precondition => block_line(alloc, Kind::Precondition, words),
+        Keyword::Selection => block_line(alloc, Kind::Selection, words),
+        Keyword::Procedure => block_line(alloc, Kind::Procedure, words),
+        Keyword::Constraint => block_line(alloc, Kind::Constraint, words),
         Keyword::Root => root_line(alloc, words),
         Keyword::Action => Ok(action_line(words)),
     }

@@ -7,12 +7,13 @@ pub mod forms;
 pub mod keywords;
 pub mod line;
 pub mod quoted;
+pub mod spelling;
 pub mod words;
 
 pub use classified::classify;
 pub use line::{
-    BillLine, BlockKind, BlockLine, CharLine, ColumnLine, HeadLine, IntervalLine, Keyword, Line,
-    NumLine, ObjectLine, OperationLine, TableLine,
+    BillLine, BlockLine, CharLine, ColumnLine, HeadLine, IntervalLine, Keyword, Line, NumLine,
+    ObjectLine, OperationLine, TableLine,
 };
 
 #[cfg(test)]

@@ -3,6 +3,7 @@
 //! Names, materials and units stand in upper case; texts in quotes, files and the texts of
 //! dependencies as they are written.
 
+use vc_syntax_tokens::Kind;
 use vc_value::{Dec, Word};
 
 /// The word that a line begins with.
@@ -103,19 +104,10 @@ pub struct OperationLine {
     pub time: Word,
 }
 
-/// What a block holds.
-#[derive(Clone, Copy, PartialEq, Eq)]
-pub enum BlockKind {
-    Precondition,
-    Selection,
-    Procedure,
-    Constraint,
-}
-
-/// `PRECONDITION name` and its like, which open a block.
+/// `PRECONDITION name` and its like, which open a block. No block holds a term.
 #[derive(Drop)]
 pub struct BlockLine {
-    pub kind: BlockKind,
+    pub kind: Kind,
     pub name: Word,
 }
 

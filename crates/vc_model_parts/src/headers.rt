@@ -162,7 +162,8 @@ fn header_of(alloc: Global, model: &Model, table: &Table) -> Result<TableHeader,
 /// of its characteristic.
 pub fn header(alloc: Global, model: &Model, table: u32) -> Result<TableHeader, AllocError>
     requires { table < length model.now.tables }
-    ensures { IfOk result (λ header. option_map (headers.header_of model.now.texts model.now.characteristics) (slice_get model.now.tables table) ≡ Some header) }
+    ensures { IfOk result (λ header. option_map (headers.header_of model.now.texts model.now.characteristics)
+        (slice_get model.now.tables table) ≡ Some header) }
 {
     header_of(alloc, model, &model.tables.as_slice()[table as usize])
 }

@@ -1,7 +1,6 @@
 //! A model as plain data: indices stand in place of names wherever a name is declared.
 
-use vc_model_lines::BlockKind;
-use vc_syntax_terms::tree::Dependency;
+use vc_syntax_terms::tree::{Dependency, Term};
 use vc_value::{Dec, Listed, Word};
 
 /// A text that a characteristic may have as its value.
@@ -73,10 +72,9 @@ pub struct Table {
     pub columns: Listed<TableColumn>,
 }
 
-/// A dependency with the number of the line that opens its block.
+/// A dependency, whose kind its tree tells, with the number of the line that opens its block.
 #[derive(Drop)]
 pub struct NamedDependency {
-    pub kind: BlockKind,
     pub name: Word,
     pub tree: Dependency,
     pub line: u32,
@@ -98,25 +96,25 @@ pub enum Component {
     Plain(Word),
 }
 
-/// A line of a bill, with the number of its line in the text.
+/// A line of a bill, with its number among the lines of the text.
 #[derive(Drop)]
 pub struct BillItem {
     pub item: u16,
     pub component: Component,
     pub unit: Word,
-    pub quantity: Dependency,
+    pub quantity: Box<Term>,
     /// Selection conditions, by their numbers among the dependencies.
     pub uses: Listed<u32>,
     pub line: u32,
 }
 
-/// An operation, with the number of its line in the text.
+/// An operation, with the number of its line among those of the text.
 #[derive(Drop)]
 pub struct Operation {
     pub number: u16,
     pub centre: Word,
     pub unit: Word,
-    pub time: Dependency,
+    pub time: Box<Term>,
     /// Selection conditions, by their numbers among the dependencies.
     pub uses: Listed<u32>,
     pub line: u32,

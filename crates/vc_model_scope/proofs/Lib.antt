@@ -1,2 +1,2 @@
-pub mod AboveLaws
+pub mod ScopeLaws
 pub mod NameLemmas

@@ -1,16 +1,16 @@
 -- The names that the lines before a line declare.
 use Rattle.std.specs.Prelude.{List}
 use Rattle.vc_model_lines.specs.declared.line.Line.{Line}
-use Rattle.vc_model_lines.specs.declared.line.BlockKind.TheVariants as kinds
+use Rattle.vc_syntax_tokens.specs.declared.fault.Kind.TheVariants as kinds
 use Rattle.vc_model_scope.specs.declared.naming.Declared.{Declared}
 use Rattle.vc_model_scope.specs.declared.naming.Dependencies.{Dependencies}
 use Rattle.vc_model_scope.specs.Names.{with_name}
 use Rattle.vc_model_scope.specs.Recursions.{declared, with_option}
-use Rattle.vc_model_scope.specs.Tells.{characteristic_of, multiple_of, class_of, table_of, object_of, component_of, text_of, net_of, dependency_of, dependency_as}
+use Rattle.vc_model_scope.specs.Contents.{characteristic_of, multiple_of, class_of, table_of, object_of, component_of, text_of, net_of, dependency_of, dependency_as}
 
 -- the names of things
-abbrev pub declared_above : List Line → Declared
-declared_above earlier = record {
+abbrev pub declared_in : List Line → Declared
+declared_in earlier = record {
   characteristics = declared characteristic_of earlier;
   multiples = declared multiple_of earlier;
   classes = declared class_of earlier;
@@ -33,8 +33,8 @@ with_declared d line = record {
 }
 
 -- the names of nets and dependencies
-abbrev pub dependencies_above : List Line → Dependencies
-dependencies_above earlier = record {
+abbrev pub dependencies_in : List Line → Dependencies
+dependencies_in earlier = record {
   nets = declared net_of earlier;
   all = declared dependency_of earlier;
   preconditions = declared (dependency_as kinds.Precondition) earlier;

@@ -1,17 +1,17 @@
--- What the lines before a line tell, the nearest of them first.
+-- What the lines before a line say, the nearest of them first.
 use Rattle.std.specs.Prelude.{ℕ, Bool, false, ◌||◌, List, [], ◌∷◌, ◌++◌, Option, Some, None, unwrap_or, if◌then◌else◌}
 use Rattle.vc_model_lines.specs.declared.line.Line.{Line}
 use Rattle.vc_model_scope.specs.Names.{with_name}
 
 -- one of the lines passes the test
-abbrev pub some_above : (Line → Bool) → List Line → Bool
-some_above test [] = false
-some_above test (line ∷ earlier) = test line || some_above test earlier
+abbrev pub some_line : (Line → Bool) → List Line → Bool
+some_line test [] = false
+some_line test (line ∷ earlier) = test line || some_line test earlier
 
 -- what the nearest line says that says something, or else the first
-abbrev pub last_above : {X : Type 0} → X → (Line → Option X) → List Line → X
-last_above none say [] = none
-last_above none say (line ∷ earlier) = unwrap_or (say line) (last_above none say earlier)
+abbrev pub last_said : {X : Type 0} → X → (Line → Option X) → List Line → X
+last_said none say [] = none
+last_said none say (line ∷ earlier) = unwrap_or (say line) (last_said none say earlier)
 
 -- a list with what is added to it, if there is something
 abbrev pub with_option : {X : Type 0} → (List X → X → List X) → List X → Option X → List X

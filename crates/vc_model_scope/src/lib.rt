@@ -1,12 +1,14 @@
-//! What the lines of a model text above a place have told: the names declared, and what stands open.
+//! What the lines round a line of a model text say: the scope that those above it make, and what those
+//! below it tell.
 #![tactic(auto)]
 
-pub mod above;
+pub mod contents;
 pub mod entries;
+pub mod look_ahead;
 pub mod names;
 pub mod naming;
+pub mod scope;
 pub mod stands;
 pub mod tables;
-pub mod tells;
 #[cfg(test)]
 mod tests;

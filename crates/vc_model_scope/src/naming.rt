@@ -3,14 +3,15 @@
 ghost use Rattle.std.specs.Prelude.{◌≡◌, [], OnOk};
 ghost use Rattle.vc_model_scope.specs.Naming as naming;
 
-use crate::names::Names;
-use crate::tables::declare;
-use crate::tells::{
+use crate::contents::{
     characteristic_of, class_of, component_of, dependency_as, dependency_of, multiple_of, net_of,
     object_of, table_of, text_of,
 };
+use crate::names::Names;
+use crate::tables::declare;
 use std::alloc::{AllocError, Global};
-use vc_model_lines::{BlockKind, Line};
+use vc_model_lines::Line;
+use vc_syntax_tokens::Kind;
 
 /// Names of things, each kind of thing by itself, in the order of the text.
 #[derive(Drop)]
@@ -43,7 +44,7 @@ pub struct Dependencies {
 impl Declared {
     /// What is declared above the first line.
     pub fn new(alloc: Global) -> Declared
-        ensures { result ≡ naming.declared_above [] }
+        ensures { result ≡ naming.declared_in [] }
     {
         Declared {
             characteristics: Names::new(alloc),
@@ -57,7 +58,7 @@ impl Declared {
     }
 
     /// Adds what a line declares.
-    pub fn note(&mut self, alloc: Global, line: &Line) -> Result<(), AllocError>
+    pub fn extend(&mut self, alloc: Global, line: &Line) -> Result<(), AllocError>
         ensures { OnOk result (self.new ≡ naming.with_declared self.old line.now) }
     {
         declare(alloc, &mut self.characteristics, characteristic_of(line))?;
@@ -74,7 +75,7 @@ impl Declared {
 impl Dependencies {
     /// What is declared above the first line.
     pub fn new(alloc: Global) -> Dependencies
-        ensures { result ≡ naming.dependencies_above [] }
+        ensures { result ≡ naming.dependencies_in [] }
     {
         Dependencies {
             nets: Names::new(alloc),
@@ -87,18 +88,18 @@ impl Dependencies {
     }
 
     /// Adds what a line declares.
-    pub fn note(&mut self, alloc: Global, line: &Line) -> Result<(), AllocError>
+    pub fn extend(&mut self, alloc: Global, line: &Line) -> Result<(), AllocError>
         ensures { OnOk result (self.new ≡ naming.with_dependencies self.old line.now) }
     {
         declare(alloc, &mut self.nets, net_of(line))?;
         declare(alloc, &mut self.all, dependency_of(line))?;
-        let precondition = dependency_as(BlockKind::Precondition, line);
+        let precondition = dependency_as(Kind::Precondition, line);
         declare(alloc, &mut self.preconditions, precondition)?;
-        let selection = dependency_as(BlockKind::Selection, line);
+        let selection = dependency_as(Kind::Selection, line);
         declare(alloc, &mut self.selections, selection)?;
-        let procedure = dependency_as(BlockKind::Procedure, line);
+        let procedure = dependency_as(Kind::Procedure, line);
         declare(alloc, &mut self.procedures, procedure)?;
-        let constraint = dependency_as(BlockKind::Constraint, line);
+        let constraint = dependency_as(Kind::Constraint, line);
         declare(alloc, &mut self.constraints, constraint)?;
         Ok(())
     }

@@ -1,32 +1,32 @@
-//! What lines have told, on a short text.
+//! The scope of a short text.
 
-use crate::above::Gathered;
 use crate::entries::{Entries, Interval};
+use crate::scope::ScopeBuilder;
 use crate::stands::{Under, UsesPlace};
 use std::test::Fail;
 use vc_model_lines::classify;
 use vc_value::Dec;
 
 #[test]
-fn lines_tell_what_stands_above(rt: HostRuntime) -> Result<(), Fail> {
+fn lines_make_a_scope(rt: HostRuntime) -> Result<(), Fail> {
     let text =
         "MODEL A VERSION 1\nCHAR SIZE 2 MULTIPLE\nVALUE 'S'\nVALUE 'L'\nNUM FLOW 1\nVALUE 5\nCLASS C\nHAS SIZE\n";
     let lines = classify(rt.alloc(), text)?;
-    let mut gathered = Gathered::new(rt.alloc());
+    let mut builder = ScopeBuilder::new(rt.alloc());
     for line in lines.as_slice() {
-        gathered.note(rt.alloc(), line)?;
+        builder.extend(rt.alloc(), line)?;
     }
-    let facts = gathered.facts();
-    assert!(rt; facts.counted && facts.head && !facts.root);
-    assert!(rt; facts.declared.characteristics.place(b"FLOW".as_slice()) == Some(1));
-    assert!(rt; facts.declared.multiples.has(b"SIZE".as_slice()));
-    assert!(rt; !facts.declared.multiples.has(b"FLOW".as_slice()));
-    assert!(rt; facts.declared.texts.len() == 2);
-    assert!(rt; facts.standing.under == Under::Class);
-    assert!(rt; facts.standing.members.has(b"SIZE".as_slice()));
-    assert!(rt; facts.standing.texts.is_empty());
-    assert!(rt; facts.uses.place == UsesPlace::Nowhere);
-    let words = facts.declared.texts.words(rt.alloc())?;
+    let scope = builder.scope();
+    assert!(rt; scope.counted && scope.head && !scope.root);
+    assert!(rt; scope.declared.characteristics.place(b"FLOW".as_slice()) == Some(1));
+    assert!(rt; scope.declared.multiples.has(b"SIZE".as_slice()));
+    assert!(rt; !scope.declared.multiples.has(b"FLOW".as_slice()));
+    assert!(rt; scope.declared.texts.len() == 2);
+    assert!(rt; scope.standing.under == Under::Class);
+    assert!(rt; scope.standing.members.has(b"SIZE".as_slice()));
+    assert!(rt; scope.standing.texts.is_empty());
+    assert!(rt; scope.uses.place == UsesPlace::Nowhere);
+    let words = scope.declared.texts.words(rt.alloc())?;
     match words.as_slice() {
         [first, second] => {
             assert!(rt; first.is(b"S".as_slice()) && second.is(b"L".as_slice()));

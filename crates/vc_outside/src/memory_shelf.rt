@@ -1,6 +1,7 @@
 //! Files in memory, for tests.
 
-ghost use Rattle.std.specs.Prelude.{◌≡◌, ◌+◌, ◌-◌, ◌^◌, ◌<◌, ◌≤◌, ◌↔◌, [], ◌∷◌, ◌++◌, take, drop, length, min, is_some, unwrap_or, Some, Ok, IsTrue, IfOk, IfSome, IfNone, OnOk, OnErr};
+ghost use Rattle.std.specs.Prelude.{◌≡◌, ◌+◌, ◌-◌, ◌^◌, ◌<◌, ◌≤◌, ◌↔◌, [], ◌∷◌, ◌++◌, take, drop, length, min};
+ghost use Rattle.std.specs.Prelude.{is_some, unwrap_or, Some, Ok, IsTrue, IfOk, IfSome, IfNone, OnOk, OnErr};
 ghost use Rattle.std.specs.Io.{ReadsAtMost};
 ghost use Rattle.std.specs.Io.KnownBytes.{ReadConsumes};
 ghost use Rattle.vc_outside.specs.Faults.{faults_of, HasCause};
@@ -69,7 +70,10 @@ impl MemShelf {
     /// Adds a file, behind others of its name. No file is begun afterwards. After an error the files
     /// are as before.
     pub fn add(&mut self, alloc: Global, name: &str, bytes: &[u8]) -> Result<(), AllocError>
-        ensures ok { OnOk result (self.new ≡ record self.old { files = self.old.files ++ (name.now, bytes.now) ∷ []; left = None }) }
+        ensures ok { OnOk result (self.new ≡ record self.old {
+          files = self.old.files ++ (name.now, bytes.now) ∷ [];
+          left = None;
+        }) }
         ensures err { OnErr result (self.new ≡ record self.old { left = None }) }
     {
         self.begun = None;
@@ -83,7 +87,8 @@ impl MemShelf {
 
     /// Lets the call of this number, counted from 1, fail. After an error nothing changed.
     pub fn fail_at(&mut self, call: u64) -> Result<(), AllocError>
-        ensures ok { OnOk result (self.new ≡ record self.old { calls = record self.old.calls { failing = self.old.calls.failing ++ call ∷ [] } }) }
+        ensures ok { OnOk result (self.new
+            ≡ record self.old { calls = record self.old.calls { failing = self.old.calls.failing ++ call ∷ [] } }) }
         ensures err { OnErr result (self.new ≡ self.old) }
     {
         self.failures.fail_at(call)
@@ -103,7 +108,8 @@ impl Shelf for MemShelf {
 
     // It fails where the call is one that is to fail, and nowhere else.
     fn begin(&mut self, name: &str) -> Result<Found, Failed>
-        ensures found { IfOk result (λ found. Begins (Some self.old.files) name.now found (Some (unwrap_or self.new.left []))) }
+        ensures found { IfOk result (λ found. Begins (Some self.old.files) name.now found
+            (Some (unwrap_or self.new.left []))) }
         ensures begun { IsTrue (is_some self.new.left) ↔ (result ≡ Ok Found.There) }
         ensures files { Some self.new.files ≡ Some self.old.files }
         ensures cause { HasCause (faults_of self.old.calls) (faults_of self.new.calls) result }
@@ -127,7 +133,8 @@ impl Shelf for MemShelf {
     fn read(&mut self, buffer: &mut [u8]) -> Result<usize, Failed>
         requires { IsTrue (is_some self.old.left) }
         ensures within { ReadsAtMost result buffer.new }
-        ensures bytes { ReadConsumes (Some (unwrap_or self.old.left [])) (Some (unwrap_or self.new.left [])) result buffer.new }
+        ensures bytes { ReadConsumes (Some (unwrap_or self.old.left [])) (Some (unwrap_or self.new.left [])) result
+            buffer.new }
         ensures begun { IsTrue (is_some self.new.left) }
         ensures files { Some self.new.files ≡ Some self.old.files }
         ensures cause { HasCause (faults_of self.old.calls) (faults_of self.new.calls) result }

@@ -1,6 +1,7 @@
 //! A sink in memory, for tests.
 
-ghost use Rattle.std.specs.Prelude.{◌≡◌, ◌+◌, ◌-◌, ◌^◌, ◌<◌, ◌≤◌, [], ◌∷◌, ◌++◌, length, vec_len, Some, Ok, IfOk, OnOk, OnErr};
+ghost use Rattle.std.specs.Prelude.{◌≡◌, ◌+◌, ◌-◌, ◌^◌, ◌<◌, ◌≤◌, [], ◌∷◌, ◌++◌, length, vec_len, Some, Ok, IfOk};
+ghost use Rattle.std.specs.Prelude.{OnOk, OnErr};
 ghost use Rattle.std.specs.Io.{WritesAtMost};
 ghost use Rattle.std.specs.Io.KnownBytes.{Keeps, WriteAppends};
 ghost use Rattle.vc_outside.specs.Faults.{faults_of, HasCause};
@@ -34,7 +35,12 @@ impl Model for MemSink {
 impl MemSink {
     /// An empty sink with room for so many bytes, of which no call is to fail.
     pub fn with_room(alloc: Global, room: usize) -> Result<MemSink, AllocError>
-        ensures { IfOk result (λ sink. sink ≡ record { written = []; room = room; refused = 0; calls = record { made = 0; failing = [] } }) }
+        ensures { IfOk result (λ sink. sink ≡ record {
+          written = [];
+          room = room;
+          refused = 0;
+          calls = record { made = 0; failing = [] };
+        }) }
     {
         let written = Vec::with_capacity(alloc, room)?;
         Ok(MemSink {
@@ -47,7 +53,8 @@ impl MemSink {
 
     /// Lets the call of this number, counted from 1, fail. After an error nothing changed.
     pub fn fail_at(&mut self, call: u64) -> Result<(), AllocError>
-        ensures ok { OnOk result (self.new ≡ record self.old { calls = record self.old.calls { failing = self.old.calls.failing ++ call ∷ [] } }) }
+        ensures ok { OnOk result (self.new
+            ≡ record self.old { calls = record self.old.calls { failing = self.old.calls.failing ++ call ∷ [] } }) }
         ensures err { OnErr result (self.new ≡ self.old) }
     {
         self.failures.fail_at(call)
@@ -73,7 +80,8 @@ impl Sink for MemSink {
         ensures within { WritesAtMost result bytes.now }
         ensures moves { 0 < length bytes.now → IfOk result (λ taken. 0 < taken) }
         ensures bytes { WriteAppends (Some self.old.written) (Some self.new.written) result bytes.now }
-        ensures cause { HasCause (faults_of self.old.calls + self.old.refused) (faults_of self.new.calls + self.new.refused) result }
+        ensures cause { HasCause (faults_of self.old.calls + self.old.refused) (faults_of self.new.calls +
+            self.new.refused) result }
         ensures answer { result ≡ write_answer self.old bytes.now }
         ensures state { self.new ≡ with_written self.old bytes.now }
     {
@@ -94,7 +102,8 @@ impl Sink for MemSink {
     // Nothing is kept back.
     fn flush(&mut self) -> Result<(), Failed>
         ensures bytes { Keeps (Some self.old.written) (Some self.new.written) }
-        ensures cause { HasCause (faults_of self.old.calls + self.old.refused) (faults_of self.new.calls + self.new.refused) result }
+        ensures cause { HasCause (faults_of self.old.calls + self.old.refused) (faults_of self.new.calls +
+            self.new.refused) result }
         ensures answer { result ≡ Ok tt }
         ensures state { self.new ≡ self.old }
     {

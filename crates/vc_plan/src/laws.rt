@@ -1,6 +1,7 @@
 //! Laws of the definitions, each the contract of a function that does nothing.
 
-ghost use Rattle.vc_plan.specs.Laws.{PartsAreClear, ClearSetsAreSmall, ClashesStay, GivesMonotonely, RoundsSuffice, SettlesLeast, SettlesBelowClosed};
+ghost use Rattle.vc_plan.specs.Laws.{PartsAreClear, ClearSetsAreSmall, ClashesStay, GivesMonotonely, RoundsSuffice};
+ghost use Rattle.vc_plan.specs.Laws.{SettlesLeast, SettlesBelowClosed};
 
 /// A part of a clear set of atoms is clear.
 pub fn clear_parts()
@@ -17,8 +18,8 @@ pub fn clashes_stay()
     ensures { ClashesStay }
 {}
 
-/// What a rule of any kind or a source gives at a set of atoms stands in each clear larger one, or is given there, or the
-/// rule or source clashes there: so it doesn't matter in which order they are applied.
+/// What a rule of any kind or a source gives at a set of atoms stands in each clear larger one, or is given there, or
+/// the rule or source clashes there: so it doesn't matter in which order they are applied.
 pub fn giving_is_monotone()
     ensures { GivesMonotonely }
 {}

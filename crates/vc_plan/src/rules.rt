@@ -60,7 +60,8 @@ pub enum Kind {
 pub struct Rule {
     /// The constraint that it is of, or the slot's selection condition.
     pub dependency: Option<u32>,
-    /// Which restriction of the constraint it is, or which selection condition of the line, from 1; 0 where it is of none.
+    /// Which restriction of the constraint it is, or which selection condition of the line, from 1; 0 where it is of
+    /// none.
     pub number: u32,
     /// The slots of a constraint's objects, in their order. No other rule has any.
     pub slots: Listed<u32>,

@@ -1,6 +1,9 @@
 //! Laws of stages and bills, each the contract of a function that does nothing.
 
-ghost use Rattle.vc_plan.specs.StageLaws.{UsersDecide, StagesWriteTheirOwn, SumsWriteTheirOwn, ItemsAscend, ComponentsAreTakenWhereHere, ParentsComeFirst, ComponentsFollow, OwnLinesInOrder, LevelsSuffice, BillsHaveTakenLines, ParentsAreHere, LastStageSettles, BillsShowTakenLines};
+ghost use Rattle.vc_plan.specs.StageLaws.{UsersDecide, StagesWriteTheirOwn, SumsWriteTheirOwn, ItemsAscend};
+ghost use Rattle.vc_plan.specs.StageLaws.{ComponentsAreTakenWhereHere, ParentsComeFirst, ComponentsFollow};
+ghost use Rattle.vc_plan.specs.StageLaws.{OwnLinesInOrder, LevelsSuffice, BillsHaveTakenLines, ParentsAreHere};
+ghost use Rattle.vc_plan.specs.StageLaws.{LastStageSettles, BillsShowTakenLines};
 
 /// What the user chose decides the evaluation.
 pub fn users_decide()
@@ -29,8 +32,8 @@ pub fn parents_come_first()
 {}
 
 /// The bill is in preorder: each line is followed at once by its component's own bill, which stands whole before the
-/// owner's next line; an instance's own lines come in item order; and no bill has more levels than there are slots. It has
-/// of each instance exactly the lines that it takes.
+/// owner's next line; an instance's own lines come in item order; and no bill has more levels than there are slots.
+/// It has of each instance exactly the lines that it takes.
 pub fn bills_are_in_preorder()
     ensures follow { ComponentsFollow }
     ensures own { OwnLinesInOrder }

@@ -23,7 +23,8 @@ fn domains(alloc: Global) -> Result<Listed<Domain>, AllocError>
 }
 
 fn variables(alloc: Global) -> Result<Listed<Var>, AllocError>
-    ensures { IfOk result (λ vars. vars ≡ record { slot = 0; characteristic = 0; domain = 0; restrictable = false } ∷ []) }
+    ensures { IfOk result (λ vars. vars ≡ record { slot = 0; characteristic = 0; domain = 0; restrictable = false }
+        ∷ []) }
 {
     let mut vars = Listed::new(alloc);
     vars.push(Var {

@@ -1,21 +1,20 @@
 -- What a text is found to be is what it spells, or its fault.
-use Rattle.std.proofs.Common.{◌≡◌, ℕ, Bool, true, false, cond, List, length, refl, sym, ap, subst, ◌∙◌, Option, Some, None, Result, Ok, Err}
+use Rattle.std.proofs.Common.{◌≡◌, ℕ, Bool, true, false, cond, List, length, refl, ap, subst, ◌∙◌, Option, Some, None, Result, Ok, Err}
 use Rattle.vc_syntax_tokens.specs.declared.token.Token.{Token}
-use Rattle.vc_syntax_terms.specs.declared.tree.Dependency.{Dependency as StoredDependency}
 use Rattle.vc_syntax_tokens.specs.declared.fault.Kind.{Kind}
 use Rattle.vc_syntax_tokens.specs.declared.fault.SyntaxKind.{SyntaxKind}
 use Rattle.vc_syntax_tokens.specs.declared.fault.SyntaxKind.TheVariants as faults
 use Rattle.vc_syntax_tokens.specs.declared.fault.SyntaxFault.{SyntaxFault}
 use Rattle.vc_syntax_tokens.specs.declared.fault.SyntaxFault.TheVariants.{Bad, OutOfMemory}
-use Rattle.std.specs.Result.{IfOk, IsErrOf}
+use Rattle.std.specs.Result.{IfOk}
 use Rattle.vc_syntax.specs.DependencyGrammar.{IsDependency}
 use Rattle.vc_syntax.specs.DependencyReading.{dependency}
-use Rattle.vc_syntax.specs.DependencyTexts.{Answers, spelled, judged, judged_if, dependency_in}
+use Rattle.vc_syntax.specs.DependencyTexts.{Answers, spelled, judged_if, dependency_in}
 use Rattle.vc_syntax_tokens.specs.Limits.{is_too_long, is_too_deep}
 use Rattle.vc_syntax.specs.Spelled as s
 use Rattle.vc_syntax.specs.Spelled.{Spells, IsFault}
 use Rattle.vc_syntax_tokens.specs.Tokens.{tokens_of}
-use Rattle.vc_syntax_terms.specs.Trees.{Dependency, dependency_of}
+use Rattle.vc_syntax_terms.specs.Trees.{Dependency}
 use Rattle.vc_syntax.proofs.DependencyLaws.{dependency_is, reads_dependency}
 
 -- what is found, with how it was found
@@ -93,16 +92,17 @@ fault_of_found kind text _ k place (fault {k = l} {place = at} p) e =
 fault_of_found kind text _ k place memory e = absurd (cc)
 
 -- the same of what a call answers
-pub answers_spell : (kind : Kind) (text : List ℕ) (answer : Result StoredDependency SyntaxFault) → Answers dependency_of answer (dependency_in kind text)
-    → IfOk answer (λ d. Spells kind text (dependency_of d))
-answers_spell kind text (Ok d) h = tree_of_found kind text (dependency_in kind text) (dependency_of d) (found kind text) h
-answers_spell kind text (Err f) h = tt
+pub answers_spell : {X : Type 0} (view : X → Dependency) (kind : Kind) (text : List ℕ) (answer : Result X SyntaxFault)
+    → Answers view answer (dependency_in kind text) → IfOk answer (λ x. Spells kind text (view x))
+answers_spell view kind text (Ok x) h = tree_of_found kind text (dependency_in kind text) (view x) (found kind text) h
+answers_spell view kind text (Err f) h = tt
 
-pub answers_tell : (kind : Kind) (text : List ℕ) (answer : Result StoredDependency SyntaxFault) → Answers dependency_of answer (dependency_in kind text)
+pub answers_tell : {X : Type 0} (view : X → Dependency) (kind : Kind) (text : List ℕ) (answer : Result X SyntaxFault)
+    → Answers view answer (dependency_in kind text)
     → (k : SyntaxKind) (place : ℕ) → answer ≡ Err (Bad k place) → IsFault kind text k place
-answers_tell kind text (Ok d) h k place e = absurd (cc)
-answers_tell kind text (Err OutOfMemory) h k place e = absurd (cc)
-answers_tell kind text (Err (Bad l at)) h k place e =
+answers_tell view kind text (Ok x) h k place e = absurd (cc)
+answers_tell view kind text (Err OutOfMemory) h k place e = absurd (cc)
+answers_tell view kind text (Err (Bad l at)) h k place e =
     let same : dependency_in kind text ≡ Err (Bad k place) = cc in
     fault_of_found kind text (dependency_in kind text) k place (found kind text) same
 

@@ -2,7 +2,10 @@
 use Rattle.std.specs.Prelude.{◌≡◌, ℕ, List, length, cond, Option, Some, None, Result, Ok, Err}
 use Rattle.vc_syntax_tokens.specs.declared.token.Token.{Token}
 use Rattle.vc_syntax_tokens.specs.declared.fault.Kind.{Kind}
+use Rattle.vc_syntax_tokens.specs.declared.fault.SyntaxKind.{SyntaxKind}
 use Rattle.vc_syntax_tokens.specs.declared.fault.SyntaxKind.TheVariants as faults
+use Rattle.vc_syntax_terms.specs.declared.reading.ReadFault.{ReadFault}
+use Rattle.vc_syntax_terms.specs.declared.reading.ReadFault.TheVariants as read_faults
 use Rattle.vc_syntax_tokens.specs.declared.fault.SyntaxFault.{SyntaxFault}
 use Rattle.vc_syntax_tokens.specs.declared.fault.SyntaxFault.TheVariants.{Bad, OutOfMemory}
 use Rattle.vc_syntax.specs.DependencyReading.{dependency}
@@ -13,6 +16,15 @@ use Rattle.vc_syntax_terms.specs.Trees.{Dependency}
 abbrev pub spelled : Option Dependency → Result Dependency SyntaxFault
 spelled None = Err (Bad faults.NotADependency 0)
 spelled (Some tree) = Ok tree
+
+-- the limit that tokens pass first
+abbrev pub passed_limit : List Token → Option SyntaxKind
+passed_limit ts = cond (is_too_long ts) (Some faults.TooLong) (cond (is_too_deep ts) (Some faults.TooDeep) None)
+
+-- why tokens within the limits are no dependency
+abbrev pub fault_of : ReadFault → SyntaxFault
+fault_of read_faults.Ungrammatical = Bad faults.NotADependency 0
+fault_of read_faults.OutOfMemory = OutOfMemory
 
 -- the limits come before the grammar
 abbrev pub judged : Kind → List Token → Result Dependency SyntaxFault

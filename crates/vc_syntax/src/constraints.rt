@@ -190,7 +190,8 @@ fn condition_section(
     tokens: &[Token],
     left: u32,
 ) -> Result<(Option<Box<Condition>>, &[Token]), ReadFault>
-    ensures { Gives (λ x. (option_map (λ b. condition_of b.value) x.0, x.1.now)) result (reads.condition_section left tokens.now) }
+    ensures { Gives (λ x. (option_map (λ b. condition_of b.value) x.0, x.1.now)) result
+        (reads.condition_section left tokens.now) }
 {
     match word_ahead(Reserved::Condition, tokens) {
         Some(rest) => {

@@ -49,7 +49,8 @@ fn is_end(tokens: &[Token]) -> bool
 }
 
 fn whole_condition(alloc: Global, tokens: &[Token], left: u32) -> Result<Box<Condition>, ReadFault>
-    ensures { Gives (λ b. condition_of b.value) result (reads.up_to reads.is_stop (conditions.condition left tokens.now)) }
+    ensures { Gives (λ b. condition_of b.value) result
+        (reads.up_to reads.is_stop (conditions.condition left tokens.now)) }
 {
     let (condition, rest) = condition(alloc, tokens, left)?;
     if is_stop(rest) {
@@ -64,7 +65,8 @@ fn whole_procedure(
     tokens: &[Token],
     left: u32,
 ) -> Result<Listed<Statement>, ReadFault>
-    ensures { Gives (map statement_of) result (reads.up_to reads.is_stop (listed signs.Comma (statements.statement left) tokens.now)) }
+    ensures { Gives (map statement_of) result
+        (reads.up_to reads.is_stop (listed signs.Comma (statements.statement left) tokens.now)) }
 {
     let (statements, rest) = statements(alloc, tokens, left)?;
     if is_stop(rest) {
@@ -117,43 +119,79 @@ fn dependency_within(
 pub fn dependency(alloc: Global, tokens: &[Token], kind: Kind) -> Result<Dependency, ReadFault>
     requires { length tokens.now < 2 ^ 32 }
     ensures found { IfOk result (λ d. IsDependency kind tokens.now (dependency_of d)) }
-    ensures only { (tree : trees.Dependency) → IsDependency kind tokens.now tree → Gives dependency_of result (Some tree) }
+    ensures only { (tree : trees.Dependency) → IsDependency kind tokens.now tree
+        → Gives dependency_of result (Some tree) }
 {
     dependency_within(alloc, tokens, kind, tokens.len() as u32)
 }
 
-fn judged(alloc: Global, tokens: &[Token], kind: Kind) -> Result<Dependency, SyntaxFault>
-    ensures { texts.Answers dependency_of result (texts.judged kind tokens.now) }
+// The limit that the tokens pass first, if they pass one.
+fn passed_limit(tokens: &[Token]) -> Option<SyntaxKind>
+    ensures { result ≡ texts.passed_limit tokens.now }
 {
     if is_too_long(tokens) {
-        return Err(SyntaxFault::Bad {
-            kind: SyntaxKind::TooLong,
-            at: 0,
-        });
-    }
-    if is_too_deep(tokens) {
-        return Err(SyntaxFault::Bad {
-            kind: SyntaxKind::TooDeep,
-            at: 0,
-        });
-    }
-    match dependency_within(alloc, tokens, kind, tokens.len() as u32) {
-        Ok(dependency) => Ok(dependency),
-        Err(ReadFault::Ungrammatical) => Err(SyntaxFault::Bad {
-            kind: SyntaxKind::NotADependency,
-            at: 0,
-        }),
-        Err(ReadFault::OutOfMemory) => Err(SyntaxFault::OutOfMemory),
+        Some(SyntaxKind::TooLong)
+    } else if is_too_deep(tokens) {
+        Some(SyntaxKind::TooDeep)
+    } else {
+        None
     }
 }
 
-/// What the text is as a dependency of this kind, by the reader of tokens.
+fn fault_of(fault: ReadFault) -> SyntaxFault
+    ensures { result ≡ texts.fault_of fault }
+{
+    match fault {
+        ReadFault::Ungrammatical => SyntaxFault::Bad {
+            kind: SyntaxKind::NotADependency,
+            at: 0,
+        },
+        ReadFault::OutOfMemory => SyntaxFault::OutOfMemory,
+    }
+}
+
+fn judge(alloc: Global, tokens: &[Token], kind: Kind) -> Result<Dependency, SyntaxFault>
+    ensures { texts.Answers dependency_of result (texts.judged kind tokens.now) }
+{
+    if let Some(limit) = passed_limit(tokens) {
+        return Err(SyntaxFault::Bad { kind: limit, at: 0 });
+    }
+    match dependency_within(alloc, tokens, kind, tokens.len() as u32) {
+        Ok(dependency) => Ok(dependency),
+        Err(fault) => Err(fault_of(fault)),
+    }
+}
+
+fn judge_term(alloc: Global, tokens: &[Token]) -> Result<Box<Term>, SyntaxFault>
+    ensures { texts.Answers (λ term. trees.Counts (term_of term.value)) result
+        (texts.judged Kind.Term tokens.now) }
+{
+    if let Some(limit) = passed_limit(tokens) {
+        return Err(SyntaxFault::Bad { kind: limit, at: 0 });
+    }
+    match whole_term(alloc, tokens, tokens.len() as u32) {
+        Ok(term) => Ok(term),
+        Err(fault) => Err(fault_of(fault)),
+    }
+}
+
+// What the text is as a dependency of this kind, by the reader of tokens.
 fn read_judged(alloc: Global, text: &[u8], kind: Kind) -> Result<Dependency, SyntaxFault>
     requires { length text.now < 2 ^ 32 }
     ensures { texts.Answers dependency_of result (texts.dependency_in kind text.now) }
 {
     let tokens = tokens_of(alloc, text)?;
-    judged(alloc, tokens.as_slice(), kind)
+    judge(alloc, tokens.as_slice(), kind)
+}
+
+// The same of a term.
+fn read_judged_term(alloc: Global, text: &[u8]) -> Result<Box<Term>, SyntaxFault>
+    requires { length text.now < 2 ^ 32 }
+    ensures { texts.Answers (λ term. trees.Counts (term_of term.value)) result
+        (texts.dependency_in Kind.Term text.now) }
+{
+    let all = tokens_of(alloc, text)?;
+    judge_term(alloc, all.as_slice())
 }
 
 /// The dependency of this kind that the text spells. A fault tells the first bad token by its kind
@@ -163,7 +201,8 @@ pub fn read_dependency(alloc: Global, text: &[u8], kind: Kind) -> Result<Depende
     // What is read is spelled by the text.
     ensures found { IfOk result (λ d. Spells kind text.now (dependency_of d)) }
     // What the text spells is read, unless memory ran out.
-    ensures only { (tree : trees.Dependency) → Spells kind text.now tree → texts.Answers dependency_of result (Ok tree) }
+    ensures only { (tree : trees.Dependency) → Spells kind text.now tree
+        → texts.Answers dependency_of result (Ok tree) }
     // A fault that is told is the text's, and the text's fault is told, unless memory ran out.
     ensures told { (fault : SyntaxKind) (place : ℕ) → result ≡ Err (SyntaxFault.Bad fault place)
         → IsFault kind text.now fault place }
@@ -173,7 +212,23 @@ pub fn read_dependency(alloc: Global, text: &[u8], kind: Kind) -> Result<Depende
     read_judged(alloc, text, kind)
 }
 
+/// The term that the text spells, as the dependency that is one. Faults are told as `read_dependency`
+/// tells them.
+pub fn read_term(alloc: Global, text: &[u8]) -> Result<Box<Term>, SyntaxFault>
+    requires { length text.now < 2 ^ 32 }
+    ensures found { IfOk result (λ term. Spells Kind.Term text.now (trees.Counts (term_of term.value))) }
+    ensures only { (term : trees.Term) → Spells Kind.Term text.now (trees.Counts term)
+        → texts.Answers (λ t. trees.Counts (term_of t.value)) result (Ok (trees.Counts term)) }
+    ensures told { (fault : SyntaxKind) (place : ℕ) → result ≡ Err (SyntaxFault.Bad fault place)
+        → IsFault Kind.Term text.now fault place }
+    ensures fault { (fault : SyntaxKind) (place : ℕ) → IsFault Kind.Term text.now fault place
+        → texts.Answers (λ t. trees.Counts (term_of t.value)) result (Err (SyntaxFault.Bad fault place)) }
+{
+    read_judged_term(alloc, text)
+}
+
 /// A text spells at most one dependency of a kind.
 pub fn one_tree_is_spelled()
-    ensures { (kind : Kind) (text : List ℕ) (one other : trees.Dependency) → Spells kind text one → Spells kind text other → one ≡ other }
+    ensures { (kind : Kind) (text : List ℕ) (one other : trees.Dependency) → Spells kind text one
+        → Spells kind text other → one ≡ other }
 {}

@@ -5,6 +5,7 @@ pub mod constraints;
 pub mod dependencies;
 pub mod statements;
 
+pub use dependencies::{read_dependency, read_term};
 pub use vc_syntax_tokens::{Dollar, Kind, Lexeme, Reserved, Sign, SyntaxFault, SyntaxKind, Token};
 
 #[cfg(test)]

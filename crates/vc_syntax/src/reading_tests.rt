@@ -1,6 +1,6 @@
 //! Texts and what they are read as.
 
-use crate::dependencies::read_dependency;
+use crate::{read_dependency, read_term};
 use std::alloc::{AllocError, Global};
 use std::test::Fail;
 use vc_syntax_tokens::fault::{Kind, SyntaxFault, SyntaxKind};
@@ -77,6 +77,8 @@ fn texts_are_read(rt: HostRuntime) -> Result<(), Fail> {
     for (kind, text) in SPELLED.iter() {
         assert!(rt; read_dependency(rt.alloc(), text.as_bytes(), *kind).is_ok());
     }
+    assert!(rt; read_term(rt.alloc(), b"A + 1").is_ok());
+    assert!(rt; read_term(rt.alloc(), b"A = 1").is_err());
     Ok(())
 }
 

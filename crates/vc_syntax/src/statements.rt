@@ -73,8 +73,10 @@ fn defaulted(
     tokens: &[Token],
     left: u32,
 ) -> Result<(NameLeaf, Box<Term>, &[Token]), ReadFault>
-    ensures set { Gives (λ x. (trees.SetDefault x.0 (term_of x.1.value), x.2.now)) result (reads.defaulted trees.SetDefault left tokens.now) }
-    ensures del { Gives (λ x. (trees.DelDefault x.0 (term_of x.1.value), x.2.now)) result (reads.defaulted trees.DelDefault left tokens.now) }
+    ensures set { Gives (λ x. (trees.SetDefault x.0 (term_of x.1.value), x.2.now)) result
+        (reads.defaulted trees.SetDefault left tokens.now) }
+    ensures del { Gives (λ x. (trees.DelDefault x.0 (term_of x.1.value), x.2.now)) result
+        (reads.defaulted trees.DelDefault left tokens.now) }
 {
     let (name, rest) = self_and_name(alloc, tokens)?;
     let rest = after_sign(Sign::Comma, rest)?;
@@ -144,7 +146,8 @@ fn condition_if(
     tokens: &[Token],
     left: u32,
 ) -> Result<(Option<Box<Condition>>, &[Token]), ReadFault>
-    ensures { Gives (λ x. (option_map (λ b. condition_of b.value) x.0, x.1.now)) result (reads.condition_if left tokens.now) }
+    ensures { Gives (λ x. (option_map (λ b. condition_of b.value) x.0, x.1.now)) result
+        (reads.condition_if left tokens.now) }
 {
     match word_ahead(Reserved::If, tokens) {
         Some(rest) => {
@@ -169,7 +172,8 @@ pub fn statements(
     tokens: &[Token],
     left: u32,
 ) -> Result<(Listed<Statement>, &[Token]), ReadFault>
-    ensures { Gives (λ x. (map statement_of x.0, x.1.now)) result (listed signs.Comma (reads.statement left) tokens.now) }
+    ensures { Gives (λ x. (map statement_of x.0, x.1.now)) result
+        (listed signs.Comma (reads.statement left) tokens.now) }
 {
     let mut statements = Listed::new(alloc);
     let (first, mut rest) = statement(alloc, tokens, left)?;
@@ -228,7 +232,8 @@ pub fn restrictions(
     tokens: &[Token],
     left: u32,
 ) -> Result<(Listed<Restriction>, &[Token]), ReadFault>
-    ensures { Gives (λ x. (map restriction_of x.0, x.1.now)) result (listed signs.Comma (reads.restriction left) tokens.now) }
+    ensures { Gives (λ x. (map restriction_of x.0, x.1.now)) result
+        (listed signs.Comma (reads.restriction left) tokens.now) }
 {
     let mut restrictions = Listed::new(alloc);
     let (first, mut rest) = restriction(alloc, tokens, left)?;

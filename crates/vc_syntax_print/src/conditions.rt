@@ -31,7 +31,8 @@ fn put_interval(
     low: SignedNumber,
     high: SignedNumber,
 ) -> Result<(), AllocError>
-    ensures { OnOk result (out.new ≡ out.old ++ (prints.signed_lexemes low ++ lexemes.Sign signs.Minus ∷ prints.signed_lexemes high)) }
+    ensures { OnOk result (out.new ≡ out.old
+        ++ (prints.signed_lexemes low ++ lexemes.Sign signs.Minus ∷ prints.signed_lexemes high)) }
 {
     put_signed(out, low)?;
     put_sign(out, Sign::Minus)?;
@@ -94,7 +95,8 @@ fn put_within(
     operand: &Operand,
     items: &[Item],
 ) -> Result<(), AllocError>
-    ensures { OnOk result (out.new ≡ out.old ++ (operand_lexemes operand.now ++ lexemes.Reserved words.In ∷ wrapped (prints.separated signs.Comma prints.item_lexemes items.now))) }
+    ensures { OnOk result (out.new ≡ out.old ++ (operand_lexemes operand.now
+        ++ lexemes.Reserved words.In ∷ wrapped (prints.separated signs.Comma prints.item_lexemes items.now))) }
 {
     put_operand(alloc, out, operand)?;
     put_word(out, Reserved::In)?;
@@ -138,7 +140,8 @@ fn put_two_variables(
     part: &NameLeaf,
     whole: &NameLeaf,
 ) -> Result<(), AllocError>
-    ensures { OnOk result (out.new ≡ out.old ++ lexemes.Variable part.now.name ∷ lexemes.Sign signs.Comma ∷ lexemes.Variable whole.now.name ∷ []) }
+    ensures { OnOk result (out.new ≡ out.old
+        ++ lexemes.Variable part.now.name ∷ lexemes.Sign signs.Comma ∷ lexemes.Variable whole.now.name ∷ []) }
 {
     put_variable(alloc, out, part)?;
     put_sign(out, Sign::Comma)?;
@@ -151,7 +154,8 @@ fn put_part_of(
     part: &NameLeaf,
     whole: &NameLeaf,
 ) -> Result<(), AllocError>
-    ensures { OnOk result (out.new ≡ out.old ++ lexemes.Reserved words.PartOf ∷ wrapped (lexemes.Variable part.now.name ∷ lexemes.Sign signs.Comma ∷ lexemes.Variable whole.now.name ∷ [])) }
+    ensures { OnOk result (out.new ≡ out.old ++ lexemes.Reserved words.PartOf ∷ wrapped
+        (lexemes.Variable part.now.name ∷ lexemes.Sign signs.Comma ∷ lexemes.Variable whole.now.name ∷ [])) }
 {
     put_word(out, Reserved::PartOf)?;
     put_sign(out, Sign::OpenParen)?;
@@ -179,7 +183,8 @@ fn put_side(
     condition: &Condition,
     needs: bool,
 ) -> Result<(), AllocError>
-    ensures { OnOk result (out.new ≡ out.old ++ wrapped_if needs (prints.condition_lexemes (condition_of condition.now))) }
+    ensures { OnOk result (out.new ≡ out.old
+        ++ wrapped_if needs (prints.condition_lexemes (condition_of condition.now))) }
 {
     if needs {
         put_sign(out, Sign::OpenParen)?;

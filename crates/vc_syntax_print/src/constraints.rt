@@ -39,7 +39,8 @@ fn put_class_type(out: &mut Listed<Lexeme>) -> Result<(), AllocError>
 }
 
 fn put_class(alloc: Global, out: &mut Listed<Lexeme>, name: &NameLeaf) -> Result<(), AllocError>
-    ensures { OnOk result (out.new ≡ out.old ++ lexemes.Reserved words.IsA ∷ (wrapped (lexemes.Number prints.class_type ∷ []) ++ lexeme_of_word name.now.name ∷ [])) }
+    ensures { OnOk result (out.new ≡ out.old ++ lexemes.Reserved words.IsA ∷
+        (wrapped (lexemes.Number prints.class_type ∷ []) ++ lexeme_of_word name.now.name ∷ [])) }
 {
     put_word(out, Reserved::IsA)?;
     put_class_type(out)?;
@@ -56,7 +57,8 @@ fn put_material_word(out: &mut Listed<Lexeme>) -> Result<(), AllocError>
 }
 
 fn put_nr_is(alloc: Global, out: &mut Listed<Lexeme>, text: &TextLeaf) -> Result<(), AllocError>
-    ensures { OnOk result (out.new ≡ out.old ++ lexemes.Reserved words.Nr ∷ lexemes.Sign signs.Equal ∷ lexemes.Text text.now.text ∷ []) }
+    ensures { OnOk result (out.new ≡ out.old
+        ++ lexemes.Reserved words.Nr ∷ lexemes.Sign signs.Equal ∷ lexemes.Text text.now.text ∷ []) }
 {
     put_word(out, Reserved::Nr)?;
     put_sign(out, Sign::Equal)?;
@@ -65,7 +67,8 @@ fn put_nr_is(alloc: Global, out: &mut Listed<Lexeme>, text: &TextLeaf) -> Result
 
 // Puts `( NR = 'M' )`.
 fn put_nr(alloc: Global, out: &mut Listed<Lexeme>, text: &TextLeaf) -> Result<(), AllocError>
-    ensures { OnOk result (out.new ≡ out.old ++ wrapped (lexemes.Reserved words.Nr ∷ lexemes.Sign signs.Equal ∷ lexemes.Text text.now.text ∷ [])) }
+    ensures { OnOk result (out.new ≡ out.old
+        ++ wrapped (lexemes.Reserved words.Nr ∷ lexemes.Sign signs.Equal ∷ lexemes.Text text.now.text ∷ [])) }
 {
     put_sign(out, Sign::OpenParen)?;
     put_nr_is(alloc, out, text)?;
@@ -196,7 +199,8 @@ fn put_object_section(
     out: &mut Listed<Lexeme>,
     objects: &[Object],
 ) -> Result<(), AllocError>
-    ensures { OnOk result (out.new ≡ out.old ++ prints.section_lexemes words.Objects (separated signs.Comma prints.object_lexemes objects.now)) }
+    ensures { OnOk result (out.new ≡ out.old
+        ++ prints.section_lexemes words.Objects (separated signs.Comma prints.object_lexemes objects.now)) }
 {
     put_head(out, Reserved::Objects)?;
     put_objects(alloc, out, objects)?;
@@ -208,7 +212,8 @@ fn put_condition_section(
     out: &mut Listed<Lexeme>,
     condition: &Option<Box<Condition>>,
 ) -> Result<(), AllocError>
-    ensures { OnOk result (out.new ≡ out.old ++ prints.condition_section (option_map (λ boxed. condition_of boxed.value) condition.now)) }
+    ensures { OnOk result (out.new ≡ out.old
+        ++ prints.condition_section (option_map (λ boxed. condition_of boxed.value) condition.now)) }
 {
     match condition {
         Some(condition) => {
@@ -225,7 +230,8 @@ fn put_restriction_section(
     out: &mut Listed<Lexeme>,
     restrictions: &[Restriction],
 ) -> Result<(), AllocError>
-    ensures { OnOk result (out.new ≡ out.old ++ prints.section_lexemes words.Restrictions (separated signs.Comma restriction_lexemes (map restriction_of restrictions.now))) }
+    ensures { OnOk result (out.new ≡ out.old ++ prints.section_lexemes words.Restrictions
+        (separated signs.Comma restriction_lexemes (map restriction_of restrictions.now))) }
 {
     put_head(out, Reserved::Restrictions)?;
     put_restrictions(alloc, out, restrictions)?;

@@ -4,7 +4,7 @@ ghost use Rattle.std.specs.Prelude.{◌≡◌, ◌++◌, ℕ, List, IfOk, OnOk};
 ghost use Rattle.vc_syntax_tokens.specs.declared.fault.Kind.{Kind};
 ghost use Rattle.vc_syntax.specs.Spelled.{Spells};
 ghost use Rattle.vc_syntax_terms.specs.Trees as trees;
-ghost use Rattle.vc_syntax_terms.specs.Trees.{dependency_of};
+ghost use Rattle.vc_syntax_terms.specs.Trees.{dependency_of, term_of};
 ghost use Rattle.vc_syntax_print.specs.DependencyLexemes as prints;
 ghost use Rattle.vc_syntax_print.specs.Places.{bare};
 
@@ -13,7 +13,7 @@ use crate::constraints::put_constraint;
 use crate::statements::put_statements;
 use crate::terms::put_term;
 use std::alloc::{AllocError, Global};
-use vc_syntax_terms::tree::Dependency;
+use vc_syntax_terms::tree::{Dependency, Term};
 use vc_syntax_tokens::printing::text_of;
 use vc_syntax_tokens::token::Lexeme;
 use vc_value::{Listed, Word};
@@ -41,6 +41,15 @@ pub fn print_dependency(alloc: Global, dependency: &Dependency) -> Result<Word, 
 {
     let mut lexemes = Listed::new(alloc);
     put_dependency(alloc, &mut lexemes, dependency)?;
+    text_of(alloc, lexemes.as_slice())
+}
+
+/// The canonical text of the term.
+pub fn print_term(alloc: Global, term: &Term) -> Result<Word, AllocError>
+    ensures { IfOk result (λ text. text ≡ prints.canonical_text (trees.Counts (term_of term.now))) }
+{
+    let mut lexemes = Listed::new(alloc);
+    put_term(alloc, &mut lexemes, term)?;
     text_of(alloc, lexemes.as_slice())
 }
 

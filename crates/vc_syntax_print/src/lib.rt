@@ -8,7 +8,7 @@ pub mod leaves;
 pub mod statements;
 pub mod terms;
 
-pub use dependencies::{canonical_text_is_read_again, print_dependency};
+pub use dependencies::{canonical_text_is_read_again, print_dependency, print_term};
 
 #[cfg(test)]
 mod model_tests;

@@ -3,7 +3,7 @@
 use crate::dependencies::print_dependency;
 use std::alloc::{AllocError, Global};
 use std::test::Fail;
-use vc_syntax::dependencies::read_dependency;
+use vc_syntax::read_dependency;
 use vc_syntax_tokens::Kind;
 
 // Those of PUMP, RING, STEP, PAINT, MACH and GEAR in this order, each with its canonical text.

@@ -26,7 +26,8 @@ fn put_assigned(
     name: &NameLeaf,
     term: &Term,
 ) -> Result<(), AllocError>
-    ensures { OnOk result (out.new ≡ out.old ++ lexemes.Name name.now.name ∷ lexemes.Sign signs.Equal ∷ term_lexemes (term_of term.now)) }
+    ensures { OnOk result (out.new ≡ out.old
+        ++ lexemes.Name name.now.name ∷ lexemes.Sign signs.Equal ∷ term_lexemes (term_of term.now)) }
 {
     put_name(alloc, out, name)?;
     put_sign(out, Sign::Equal)?;
@@ -44,7 +45,8 @@ fn put_bindings_behind(
     out: &mut Listed<Lexeme>,
     bindings: &[Binding],
 ) -> Result<(), AllocError>
-    ensures { OnOk result (out.new ≡ out.old ++ each_behind signs.Comma prints.binding_lexemes (map binding_of bindings.now)) }
+    ensures { OnOk result (out.new ≡ out.old
+        ++ each_behind signs.Comma prints.binding_lexemes (map binding_of bindings.now)) }
 {
     let mut rest = bindings;
     while let [binding, more @ ..] = rest {
@@ -60,7 +62,8 @@ fn put_bindings(
     out: &mut Listed<Lexeme>,
     bindings: &[Binding],
 ) -> Result<(), AllocError>
-    ensures { OnOk result (out.new ≡ out.old ++ separated signs.Comma prints.binding_lexemes (map binding_of bindings.now)) }
+    ensures { OnOk result (out.new ≡ out.old
+        ++ separated signs.Comma prints.binding_lexemes (map binding_of bindings.now)) }
 {
     match bindings {
         [binding, more @ ..] => {
@@ -76,7 +79,8 @@ fn put_wrapped_bindings(
     out: &mut Listed<Lexeme>,
     bindings: &[Binding],
 ) -> Result<(), AllocError>
-    ensures { OnOk result (out.new ≡ out.old ++ wrapped (separated signs.Comma prints.binding_lexemes (map binding_of bindings.now))) }
+    ensures { OnOk result (out.new ≡ out.old
+        ++ wrapped (separated signs.Comma prints.binding_lexemes (map binding_of bindings.now))) }
 {
     put_sign(out, Sign::OpenParen)?;
     put_bindings(alloc, out, bindings)?;
@@ -92,7 +96,8 @@ fn put_call(alloc: Global, out: &mut Listed<Lexeme>, call: &TableCall) -> Result
 }
 
 fn put_comma_term(alloc: Global, out: &mut Listed<Lexeme>, term: &Term) -> Result<(), AllocError>
-    ensures { OnOk result (out.new ≡ out.old ++ lexemes.Sign signs.Comma ∷ (term_lexemes (term_of term.now) ++ lexemes.Sign signs.CloseParen ∷ [])) }
+    ensures { OnOk result (out.new ≡ out.old
+        ++ lexemes.Sign signs.Comma ∷ (term_lexemes (term_of term.now) ++ lexemes.Sign signs.CloseParen ∷ [])) }
 {
     put_sign(out, Sign::Comma)?;
     put_term(alloc, out, term)?;
@@ -144,7 +149,8 @@ fn put_if(
     out: &mut Listed<Lexeme>,
     condition: &Option<Box<Condition>>,
 ) -> Result<(), AllocError>
-    ensures { OnOk result (out.new ≡ out.old ++ prints.if_lexemes (option_map (λ boxed. condition_of boxed.value) condition.now)) }
+    ensures { OnOk result (out.new ≡ out.old
+        ++ prints.if_lexemes (option_map (λ boxed. condition_of boxed.value) condition.now)) }
 {
     match condition {
         Some(condition) => {
@@ -172,7 +178,8 @@ fn put_statements_behind(
     out: &mut Listed<Lexeme>,
     statements: &[Statement],
 ) -> Result<(), AllocError>
-    ensures { OnOk result (out.new ≡ out.old ++ each_behind signs.Comma prints.statement_lexemes (map statement_of statements.now)) }
+    ensures { OnOk result (out.new ≡ out.old
+        ++ each_behind signs.Comma prints.statement_lexemes (map statement_of statements.now)) }
 {
     let mut rest = statements;
     while let [statement, more @ ..] = rest {
@@ -189,7 +196,8 @@ pub fn put_statements(
     out: &mut Listed<Lexeme>,
     statements: &[Statement],
 ) -> Result<(), AllocError>
-    ensures { OnOk result (out.new ≡ out.old ++ separated signs.Comma prints.statement_lexemes (map statement_of statements.now)) }
+    ensures { OnOk result (out.new ≡ out.old
+        ++ separated signs.Comma prints.statement_lexemes (map statement_of statements.now)) }
 {
     match statements {
         [statement, more @ ..] => {
@@ -227,7 +235,8 @@ fn put_restrictions_behind(
     out: &mut Listed<Lexeme>,
     restrictions: &[Restriction],
 ) -> Result<(), AllocError>
-    ensures { OnOk result (out.new ≡ out.old ++ each_behind signs.Comma prints.restriction_lexemes (map restriction_of restrictions.now)) }
+    ensures { OnOk result (out.new ≡ out.old
+        ++ each_behind signs.Comma prints.restriction_lexemes (map restriction_of restrictions.now)) }
 {
     let mut rest = restrictions;
     while let [restriction, more @ ..] = rest {
@@ -244,7 +253,8 @@ pub fn put_restrictions(
     out: &mut Listed<Lexeme>,
     restrictions: &[Restriction],
 ) -> Result<(), AllocError>
-    ensures { OnOk result (out.new ≡ out.old ++ separated signs.Comma prints.restriction_lexemes (map restriction_of restrictions.now)) }
+    ensures { OnOk result (out.new ≡ out.old
+        ++ separated signs.Comma prints.restriction_lexemes (map restriction_of restrictions.now)) }
 {
     match restrictions {
         [restriction, more @ ..] => {

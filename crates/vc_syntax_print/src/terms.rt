@@ -60,7 +60,8 @@ fn put_owned(
     owner: Owner,
     name: &NameLeaf,
 ) -> Result<(), AllocError>
-    ensures { OnOk result (out.new ≡ out.old ++ lexemes.Dollar (prints.owner_word owner) ∷ lexemes.Sign signs.Dot ∷ lexemes.Name name.now.name ∷ []) }
+    ensures { OnOk result (out.new ≡ out.old
+        ++ lexemes.Dollar (prints.owner_word owner) ∷ lexemes.Sign signs.Dot ∷ lexemes.Name name.now.name ∷ []) }
 {
     put_dollar(out, owner_word(owner))?;
     put_dotted(alloc, out, name)
@@ -72,7 +73,8 @@ fn put_member(
     variable: &NameLeaf,
     name: &NameLeaf,
 ) -> Result<(), AllocError>
-    ensures { OnOk result (out.new ≡ out.old ++ lexemes.Variable variable.now.name ∷ lexemes.Sign signs.Dot ∷ lexemes.Name name.now.name ∷ []) }
+    ensures { OnOk result (out.new ≡ out.old
+        ++ lexemes.Variable variable.now.name ∷ lexemes.Sign signs.Dot ∷ lexemes.Name name.now.name ∷ []) }
 {
     put_variable(alloc, out, variable)?;
     put_dotted(alloc, out, name)
@@ -167,7 +169,8 @@ fn put_sum_of_parts(
     out: &mut Listed<Lexeme>,
     name: &NameLeaf,
 ) -> Result<(), AllocError>
-    ensures { OnOk result (out.new ≡ out.old ++ lexemes.Dollar dollars.SumParts ∷ (prints.self_and_name name.now ++ lexemes.Sign signs.CloseParen ∷ [])) }
+    ensures { OnOk result (out.new ≡ out.old
+        ++ lexemes.Dollar dollars.SumParts ∷ (prints.self_and_name name.now ++ lexemes.Sign signs.CloseParen ∷ [])) }
 {
     put_dollar(out, Dollar::SumParts)?;
     put_self_and_name(alloc, out, name)?;
@@ -175,7 +178,8 @@ fn put_sum_of_parts(
 }
 
 fn put_count_of_parts(out: &mut Listed<Lexeme>) -> Result<(), AllocError>
-    ensures { OnOk result (out.new ≡ out.old ++ lexemes.Dollar dollars.CountParts ∷ prints.wrapped (lexemes.Dollar dollars.Itself ∷ [])) }
+    ensures { OnOk result (out.new ≡ out.old
+        ++ lexemes.Dollar dollars.CountParts ∷ prints.wrapped (lexemes.Dollar dollars.Itself ∷ [])) }
 {
     put_dollar(out, Dollar::CountParts)?;
     put_open_self(out)?;

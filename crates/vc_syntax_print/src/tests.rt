@@ -1,8 +1,8 @@
 //! Dependencies and their canonical texts.
 
-use crate::dependencies::print_dependency;
+use crate::{print_dependency, print_term};
 use std::test::Fail;
-use vc_syntax::dependencies::read_dependency;
+use vc_syntax::{read_dependency, read_term};
 use vc_syntax_tokens::Kind;
 
 // Each with its canonical text.
@@ -64,5 +64,15 @@ fn texts_are_printed(rt: HostRuntime) -> Result<(), Fail> {
             assert!(rt; false, "{text}");
         }
     }
+    Ok(())
+}
+
+#[test]
+fn a_term_is_printed(rt: HostRuntime) -> Result<(), Fail> {
+    let printed = match read_term(rt.alloc(), b"2*(a+1)") {
+        Ok(term) => print_term(rt.alloc(), &term)?.is(b"2 * ( A + 1 )"),
+        Err(_) => false,
+    };
+    assert!(rt; printed);
     Ok(())
 }

@@ -218,7 +218,8 @@ fn related(
     tokens: &[Token],
     left: u32,
 ) -> Result<(Box<Condition>, &[Token]), ReadFault>
-    ensures { Gives (λ x. (condition_of x.0.value, x.1.now)) result (made trees.Related (reads.relation left tokens.now)) }
+    ensures { Gives (λ x. (condition_of x.0.value, x.1.now)) result
+        (made trees.Related (reads.relation left tokens.now)) }
 {
     let (relation, rest) = relation(alloc, tokens, left)?;
     let condition = boxed(alloc, Condition::Relation(relation))?;
@@ -245,7 +246,8 @@ fn closed(
     condition: Box<Condition>,
     tokens: &[Token],
 ) -> Result<(Box<Condition>, &[Token]), ReadFault>
-    ensures { Gives (λ x. (condition_of x.0.value, x.1.now)) result (closed (Some (condition_of condition.value, tokens.now))) }
+    ensures { Gives (λ x. (condition_of x.0.value, x.1.now)) result
+        (closed (Some (condition_of condition.value, tokens.now))) }
 {
     let rest = after_sign(Sign::CloseParen, tokens)?;
     Ok((condition, rest))
@@ -262,7 +264,8 @@ fn both(
     left: Box<Condition>,
     right: Box<Condition>,
 ) -> Result<Box<Condition>, ReadFault>
-    ensures { Gives (λ b. condition_of b.value) result (Some (trees.And (condition_of left.value) (condition_of right.value))) }
+    ensures { Gives (λ b. condition_of b.value) result
+        (Some (trees.And (condition_of left.value) (condition_of right.value))) }
 {
     boxed(alloc, Condition::And(left, right))
 }
@@ -272,7 +275,8 @@ fn either(
     left: Box<Condition>,
     right: Box<Condition>,
 ) -> Result<Box<Condition>, ReadFault>
-    ensures { Gives (λ b. condition_of b.value) result (Some (trees.Or (condition_of left.value) (condition_of right.value))) }
+    ensures { Gives (λ b. condition_of b.value) result
+        (Some (trees.Or (condition_of left.value) (condition_of right.value))) }
 {
     boxed(alloc, Condition::Or(left, right))
 }
@@ -313,7 +317,8 @@ fn related_or_grouped<'a>(
     inside: &'a [Token],
     left: u32,
 ) -> Result<(Box<Condition>, &'a [Token]), ReadFault>
-    ensures { Gives (λ x. (condition_of x.0.value, x.1.now)) result (or_else (made trees.Related (reads.relation left tokens.now)) (closed (reads.condition left inside.now))) }
+    ensures { Gives (λ x. (condition_of x.0.value, x.1.now)) result
+        (or_else (made trees.Related (reads.relation left tokens.now)) (closed (reads.condition left inside.now))) }
 {
     match related(alloc, tokens, left) {
         Ok((condition, rest)) => Ok((condition, rest)),
@@ -331,7 +336,8 @@ fn negation_below(
     tokens: &[Token],
     left: u32,
 ) -> Result<(Box<Condition>, &[Token]), ReadFault>
-    ensures { Gives (λ x. (condition_of x.0.value, x.1.now)) result (reads.negation_by left (reads.negation left) (reads.condition left) tokens.now) }
+    ensures { Gives (λ x. (condition_of x.0.value, x.1.now)) result
+        (reads.negation_by left (reads.negation left) (reads.condition left) tokens.now) }
 {
     match tokens {
         [

@@ -173,7 +173,8 @@ fn operand_term<'a>(
     token: &Token,
     rest: &'a [Token],
 ) -> Result<(Box<Term>, &'a [Token]), ReadFault>
-    ensures { Gives (λ x. (term_of x.0.value, x.1.now)) result (made trees.Operand (reads.operand_in token.now.lexeme token.now rest.now)) }
+    ensures { Gives (λ x. (term_of x.0.value, x.1.now)) result
+        (made trees.Operand (reads.operand_in token.now.lexeme token.now rest.now)) }
 {
     let (operand, rest) = operand_from(alloc, token, rest)?;
     let term = boxed(alloc, Term::Operand(operand))?;
@@ -181,7 +182,8 @@ fn operand_term<'a>(
 }
 
 fn sum_of_parts(alloc: Global, tokens: &[Token]) -> Result<(Box<Term>, &[Token]), ReadFault>
-    ensures { Gives (λ x. (term_of x.0.value, x.1.now)) result (made trees.SumOfParts (closed (reads.self_and_name tokens.now))) }
+    ensures { Gives (λ x. (term_of x.0.value, x.1.now)) result
+        (made trees.SumOfParts (closed (reads.self_and_name tokens.now))) }
 {
     let (name, rest) = self_and_name(alloc, tokens)?;
     let rest = after_sign(Sign::CloseParen, rest)?;
@@ -203,7 +205,8 @@ fn plain_factor<'a>(
     token: &Token,
     rest: &'a [Token],
 ) -> Result<(Box<Term>, &'a [Token]), ReadFault>
-    ensures { Gives (λ x. (term_of x.0.value, x.1.now)) result (reads.plain_factor token.now.lexeme token.now rest.now) }
+    ensures { Gives (λ x. (term_of x.0.value, x.1.now)) result
+        (reads.plain_factor token.now.lexeme token.now rest.now) }
 {
     match &token.lexeme {
         Lexeme::Number(_) => {
@@ -278,7 +281,8 @@ fn factor_from<'a>(
     rest: &'a [Token],
     left: u32,
 ) -> Result<(Box<Term>, &'a [Token]), ReadFault>
-    ensures { Gives (λ x. (term_of x.0.value, x.1.now)) result (reads.factor_in (reads.factor left) (reads.sum left) token.now.lexeme token.now rest.now) }
+    ensures { Gives (λ x. (term_of x.0.value, x.1.now)) result
+        (reads.factor_in (reads.factor left) (reads.sum left) token.now.lexeme token.now rest.now) }
 {
     match &token.lexeme {
         Lexeme::Sign(Sign::Minus) => {

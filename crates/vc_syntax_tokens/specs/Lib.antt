@@ -1,3 +1,4 @@
+pub mod Faults
 pub mod Lexemes
 pub mod Limits
 pub mod Spellings

@@ -2,6 +2,7 @@
 
 ghost use Rattle.std.specs.Prelude.{◌≡◌};
 ghost use Rattle.vc_syntax_tokens.specs.declared.fault.SyntaxFault.TheVariants.{OutOfMemory};
+ghost use Rattle.vc_syntax_tokens.specs.Faults.{number_of};
 
 use std::alloc::AllocError;
 
@@ -36,6 +37,25 @@ pub enum SyntaxKind {
     TooDeep,
     /// There are over 4,000 tokens.
     TooLong,
+}
+
+impl SyntaxKind {
+    /// Its number: 1 to 9, in the order of the list.
+    pub fn number(self) -> u8
+        ensures { result ≡ number_of self }
+    {
+        match self {
+            SyntaxKind::BadByte => 1,
+            SyntaxKind::OpenText => 2,
+            SyntaxKind::TextTooLong => 3,
+            SyntaxKind::NumberTooWide => 4,
+            SyntaxKind::NameTooLong => 5,
+            SyntaxKind::UnknownWord => 6,
+            SyntaxKind::NotADependency => 7,
+            SyntaxKind::TooDeep => 8,
+            SyntaxKind::TooLong => 9,
+        }
+    }
 }
 
 /// Why a text wasn't read.

@@ -401,8 +401,9 @@ pub fn tokens_of(alloc: Global, text: &[u8]) -> Result<Listed<Token>, SyntaxFaul
     Ok(tokens)
 }
 
-/// Each token of a text is a name in upper case of at most 30 bytes, a text of 1 to 30 characters, a stored number without a
-/// minus, a reserved word, a `$` word or a sign.
+/// Each token of a text is a name in upper case of at most 30 bytes, a text of 1 to 30 characters, a
+/// stored number without a minus, a reserved word, a `$` word or a sign.
 pub fn tokens_are_lexemes()
-    ensures { (text : List ℕ) (found : List Token) → tokens.tokens_of text ≡ Ok found → list_all (λ token. is_lexeme token.lexeme) found ≡ true }
+    ensures { (text : List ℕ) (found : List Token) → tokens.tokens_of text ≡ Ok found
+        → list_all (λ token. is_lexeme token.lexeme) found ≡ true }
 {}

@@ -15,7 +15,8 @@ use vc_value::{Dec, Word};
 
 /// The canonical text of lexemes that some text has is cut into the same lexemes again.
 pub fn text_is_cut_again()
-    ensures { (lexemes : List Lexeme) → are_lexemes lexemes ≡ true → (tokens : List Token) × (tokens_of (texts.text_of lexemes) ≡ Ok tokens) × (map (λ token. token.lexeme) tokens ≡ lexemes) }
+    ensures { (lexemes : List Lexeme) → are_lexemes lexemes ≡ true → (tokens : List Token)
+        × (tokens_of (texts.text_of lexemes) ≡ Ok tokens) × (map (λ token. token.lexeme) tokens ≡ lexemes) }
 {}
 
 // Puts a text's byte, a quote twice.
@@ -110,7 +111,8 @@ fn gap_after(lexeme: &Lexeme, following: &[Lexeme]) -> &'static str
     }
 }
 
-/// The lexemes' canonical text: a space between two, but none round a dot, and a line's end after each period but the last.
+/// The lexemes' canonical text: a space between two, but none round a dot, and a line's end after each
+/// period but the last.
 pub fn text_of(alloc: Global, lexemes: &[Lexeme]) -> Result<Word, AllocError>
     ensures { IfOk result (λ text. text ≡ texts.text_of lexemes.now) }
 {

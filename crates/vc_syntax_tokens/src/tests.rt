@@ -97,6 +97,7 @@ fn texts_are_cut_into_tokens(rt: HostRuntime) -> Result<(), Fail> {
 
 #[test]
 fn the_first_fault_is_told(rt: HostRuntime) -> Result<(), Fail> {
+    assert_eq!(rt; SyntaxKind::TooLong.number(), 9);
     for (text, kind, at) in FAULTS.iter() {
         let wanted = SyntaxFault::Bad {
             kind: *kind,

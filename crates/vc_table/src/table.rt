@@ -86,7 +86,8 @@ pub fn read_table(
     bytes: &[u8],
 ) -> Result<VariantTable, TableFault>
     ensures ok { IfOk result (λ table. rows_of header.now.columns (records_of bytes.now) ≡ Ok table.rows) }
-    ensures err { IfErr result (λ fault. fault ≢ TableFault.OutOfMemory → rows_of header.now.columns (records_of bytes.now) ≡ Err fault) }
+    ensures err { IfErr result (λ fault. fault ≢ TableFault.OutOfMemory → rows_of header.now.columns
+        (records_of bytes.now) ≡ Err fault) }
 {
     let Some(records) = all_records(alloc, bytes, MOST_ROWS + 1)? else {
         return Err(TableFault::TooManyRows);
@@ -109,7 +110,8 @@ fn read_rows(
 ) -> Result<Listed<Row>, TableFault>
     requires { length records.now ≤ 10000 }
     ensures ok { IfOk result (λ rows. rows_from columns.now 2 [] (map fields_of records.now) ≡ Ok rows) }
-    ensures err { IfErr result (λ fault. fault ≢ TableFault.OutOfMemory → rows_from columns.now 2 [] (map fields_of records.now) ≡ Err fault) }
+    ensures err { IfErr result (λ fault. fault ≢ TableFault.OutOfMemory → rows_from columns.now 2 []
+        (map fields_of records.now) ≡ Err fault) }
 {
     let indexed = index_columns(alloc, columns)?;
     let mut rows = Listed::new(alloc);
@@ -135,7 +137,8 @@ fn read_cells(
     row: &ByteRecord,
 ) -> Result<Vec<Value>, TableFault>
     ensures ok { IfOk result (λ cells. cells_of columns.now number (fields_of row.now) ≡ Ok cells.items) }
-    ensures err { IfErr result (λ fault. fault ≢ TableFault.OutOfMemory → cells_of columns.now number (fields_of row.now) ≡ Err fault) }
+    ensures err { IfErr result (λ fault. fault ≢ TableFault.OutOfMemory → cells_of columns.now number
+        (fields_of row.now) ≡ Err fault) }
 {
     if row.len() != columns.len() {
         return Err(TableFault::Columns { row: number });
@@ -153,8 +156,10 @@ fn repeats(
     keys: &mut Keys,
     cells: &[Value],
 ) -> Result<bool, AllocError>
-    ensures repeats { IfOk result (λ repeats. repeats ≡ (has_keys columns.now && is_among (key_of columns.now cells.now) keys.old)) }
-    ensures kept { IfOk result (λ repeats. repeats ≡ false → has_keys columns.now ≡ true → keys.new ≡ keys.old ++ key_of columns.now cells.now ∷ []) }
+    ensures repeats { IfOk result (λ repeats. repeats
+        ≡ (has_keys columns.now && is_among (key_of columns.now cells.now) keys.old)) }
+    ensures kept { IfOk result (λ repeats. repeats ≡ false → has_keys columns.now ≡ true → keys.new
+        ≡ keys.old ++ key_of columns.now cells.now ∷ []) }
 {
     if !has_keys(columns) {
         return Ok(false);

@@ -40,7 +40,8 @@ impl TextIndex {
 
     // Adds an entry, unless its text is there.
     fn add(&mut self, alloc: Global, entry: &Entry) -> Result<(), AllocError>
-        ensures { OnOk result ((text : List ℕ) → text_number self.new text ≡ text_number (self.old ++ entry.now ∷ []) text) }
+        ensures { OnOk result ((text : List ℕ) → text_number self.new text
+            ≡ text_number (self.old ++ entry.now ∷ []) text) }
     {
         let text = entry.text.bytes();
         if self.find(text).is_none() {

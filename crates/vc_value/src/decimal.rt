@@ -1,10 +1,13 @@
 //! Stored numbers, in millionths.
 
-ghost use Rattle.std.specs.Prelude.{◌≡◌, ◌==◌, ◌&&◌, ◌+◌, ◌-◌, ◌*◌, ◌^◌, ◌<◌, ◌≤◌, not, length, position, IsTrue, IfOk, unsigned_abs};
+ghost use Rattle.std.specs.Prelude.{◌≡◌, ◌==◌, ◌&&◌, ◌+◌, ◌-◌, ◌*◌, ◌^◌, ◌<◌, ◌≤◌, not, length, position, IsTrue};
+ghost use Rattle.std.specs.Prelude.{IfOk, unsigned_abs};
 ghost use Rattle.std.specs.List.{list_all};
 ghost use Rattle.std.specs.Option.{option_copied};
 ghost use Rattle.std.specs.Char.{is_ascii_digit};
-ghost use Rattle.vc_value.specs.Decimals.{is_negative, unsigned_text, is_point, whole_part, fraction_part, are_digits, is_fraction, significant, fraction_fits, number_of, fraction_of, millionths_of, signed, number_from, read_number};
+ghost use Rattle.vc_value.specs.Decimals.{is_negative, unsigned_text, is_point, whole_part, fraction_part};
+ghost use Rattle.vc_value.specs.Decimals.{are_digits, is_fraction, significant, fraction_fits, number_of};
+ghost use Rattle.vc_value.specs.Decimals.{fraction_of, millionths_of, signed, number_from, read_number};
 
 /// A stored number: a whole count of millionths, of at most nine digits before the point.
 #[derive(Clone, Copy, Debug, PartialEq, Eq, Hash)]

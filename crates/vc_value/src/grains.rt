@@ -1,9 +1,12 @@
 //! The numbers that a characteristic may have, as closed intervals that ascend and share no number.
 
-ghost use Rattle.std.specs.Prelude.{◌≡◌, ◌+◌, ◌-◌, ◌^◌, ◌<◌, ◌≤◌, ◌↔◌, pos, ◌≤ℤ◌, ◌<ℤ◌, FitsSigned, option_to_list, [], ◌∷◌, ◌++◌, length, position, slice_get, flat_map, IsTrue, IfOk, OnOk, OnErr};
+ghost use Rattle.std.specs.Prelude.{◌≡◌, ◌+◌, ◌-◌, ◌^◌, ◌<◌, ◌≤◌, ◌↔◌, pos, ◌≤ℤ◌, ◌<ℤ◌, FitsSigned, option_to_list};
+ghost use Rattle.std.specs.Prelude.{[], ◌∷◌, ◌++◌, length, position, slice_get, flat_map, IsTrue, IfOk, OnOk, OnErr};
 ghost use Rattle.std.specs.List.{list_all};
 ghost use Rattle.std.specs.Int.{int_rem_euclid, w64};
-ghost use Rattle.vc_value.specs.Grains.{interval, holds, is_below, is_ordered, is_ascending, unit_of, has_decimals, next_below, next_above, part_between, part_below, part_at, part_above, parts_of, cut_at, is_apart, hold};
+ghost use Rattle.vc_value.specs.Grains.{interval, holds, is_below, is_ordered, is_ascending, unit_of, has_decimals};
+ghost use Rattle.vc_value.specs.Grains.{next_below, next_above, part_between, part_below, part_at, part_above};
+ghost use Rattle.vc_value.specs.Grains.{parts_of, cut_at, is_apart, hold};
 
 use crate::decimal::Dec;
 use std::alloc::{AllocError, Global};

@@ -2,7 +2,8 @@
 
 ghost use Rattle.std.specs.Prelude.{◌≡◌, IsTrue, ◌↔◌};
 ghost use Rattle.std.specs.List.{list_all};
-ghost use Rattle.vc_plan.specs.First.Plans.{count_of, has_some_text, has_restricted, has_condition, is_valid_rule, is_text_of, IsValid, AreUsers};
+ghost use Rattle.vc_plan.specs.First.Plans.{count_of, has_some_text, has_restricted, has_condition, is_valid_rule};
+ghost use Rattle.vc_plan.specs.First.Plans.{is_text_of, IsValid, AreUsers};
 
 use vc_value::{Listed, Word};
 

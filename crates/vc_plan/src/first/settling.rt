@@ -1,6 +1,7 @@
 //! Settling a plan with a user's values.
 
-ghost use Rattle.std.specs.Prelude.{◌≡◌, ℕ, ◌+◌, ◌<◌, false, List, [], length, slice_index_or, Option, None, Some, All, IfOk, IfNone};
+ghost use Rattle.std.specs.Prelude.{◌≡◌, ℕ, ◌+◌, ◌<◌, false, List, [], length, slice_index_or, Option, None, Some};
+ghost use Rattle.std.specs.Prelude.{All, IfOk, IfNone};
 ghost use Rattle.vc_plan.specs.declared.first.plans.Plan.{Plan};
 ghost use Rattle.vc_plan.specs.First.Agendas.{unknown_count};
 ghost use Rattle.vc_plan.specs.First.Entries.{reading_in};
@@ -96,7 +97,8 @@ fn follow(standing: &mut Standing, plan: &Plan, rules: &[usize]) -> Option<usize
     requires valid { IsValid plan.now }
     requires fits { Fits plan.now standing.old.entries }
     requires rules { All (λ rule. rule < length plan.now.rules) rules.now }
-    ensures follows { (users : List (Option ℕ)) → AreUsers plan.now users → Working plan.now users standing.old rules.now
+    ensures follows { (users : List (Option ℕ)) → AreUsers plan.now users → Working plan.now users standing.old
+        rules.now
         → FollowsUp plan.now users standing.new result }
     ensures fits { Fits plan.now standing.new.entries }
     ensures work { IfNone result (length standing.new.waiting + unknown_count standing.new.entries

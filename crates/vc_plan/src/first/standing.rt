@@ -1,6 +1,7 @@
 //! What stands of all variables while rules are followed, and the agenda of what is still to be followed.
 
-ghost use Rattle.std.specs.Prelude.{◌≡◌, ◌<◌, ◌≤◌, ◌+◌, if◌then◌else◌, false, [], ◌∷◌, ◌++◌, length, map, slice_index_or, slice_set, Option, None, Some, IfOk, IfSome, IfNone};
+ghost use Rattle.std.specs.Prelude.{◌≡◌, ◌<◌, ◌≤◌, ◌+◌, if◌then◌else◌, false, [], ◌∷◌, ◌++◌, length, map};
+ghost use Rattle.std.specs.Prelude.{slice_index_or, slice_set, Option, None, Some, IfOk, IfSome, IfNone};
 ghost use Rattle.vc_plan.specs.First.Agendas.{with_value, with_start, with_rule, refused_entry};
 ghost use Rattle.vc_plan.specs.First.Entries.{blank, no_entry, narrowed_of};
 ghost use Rattle.vc_plan.specs.First.Plans.{counts_of};
@@ -116,9 +117,11 @@ impl Standing {
     /// Applies a rule whose condition holds. False where it contradicts what stands.
     pub fn apply(&mut self, rule: &Rule) -> bool
         requires variable { rule.now.variable < length self.old.entries }
-        requires allowed { length rule.now.allowed ≡ length (slice_index_or self.old.entries rule.now.variable no_entry).out }
+        requires allowed { length rule.now.allowed ≡ length (slice_index_or self.old.entries rule.now.variable
+            no_entry).out }
         ensures applied { with_rule rule.now self.old ≡ (if result then Some self.new else None) }
-        ensures flags { map (λ entry. length entry.out) self.new.entries ≡ map (λ entry. length entry.out) self.old.entries }
+        ensures flags { map (λ entry. length entry.out) self.new.entries ≡ map (λ entry. length entry.out)
+            self.old.entries }
     {
         match self.refuse(rule) {
             Narrowed::Contradicted => return false,
@@ -131,8 +134,10 @@ impl Standing {
     /// Puts out what the rule refuses, and tells what its variable's entry comes to.
     fn refuse(&mut self, rule: &Rule) -> Narrowed
         requires variable { rule.now.variable < length self.old.entries }
-        requires allowed { length rule.now.allowed ≡ length (slice_index_or self.old.entries rule.now.variable no_entry).out }
-        ensures entries { self.new.entries ≡ slice_set self.old.entries rule.now.variable (refused_entry rule.now self.old.entries) }
+        requires allowed { length rule.now.allowed ≡ length (slice_index_or self.old.entries rule.now.variable
+            no_entry).out }
+        ensures entries { self.new.entries ≡ slice_set self.old.entries rule.now.variable
+            (refused_entry rule.now self.old.entries) }
         ensures waiting { self.new.waiting ≡ self.old.waiting }
         ensures narrowed { result ≡ narrowed_of (refused_entry rule.now self.old.entries) }
     {

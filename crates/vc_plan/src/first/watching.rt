@@ -55,7 +55,8 @@ impl Watchers {
 
 /// An empty list for each text of each variable.
 fn empty_lists(alloc: Global, plan: &Plan) -> Result<Vec<Vec<Listed<usize>>>, AllocError>
-    ensures { IfOk result (λ lists. map (λ texts. texts.items) lists.items ≡ map (λ count. replicate count []) (counts_of plan.now)) }
+    ensures { IfOk result (λ lists. map (λ texts. texts.items) lists.items ≡ map (λ count. replicate count [])
+        (counts_of plan.now)) }
 {
     let mut lists = Vec::new(alloc);
     for variable in plan.variables.as_slice() {

@@ -1,9 +1,9 @@
--- A front of the answer to the line's request was written.
-use Rattle.std.proofs.Common.{◌≡◌, false, sym, subst, ◌∙◌}
+-- A front of the answer to the line's request was written, or nothing of it.
+use Rattle.std.proofs.Common.{◌≡◌, false, sym, subst, ◌∙◌, rules}
 use Rattle.vc_app.specs.Sessions.{state_of}
 use Rattle.vc_app.specs.Script.{is_skipped}
 use Rattle.vc_app.specs.Transcript.{AnswersLine}
-use Rattle.vc_app.proofs.TranscriptLaws.{line_answer}
+use Rattle.vc_app.proofs.TranscriptLaws.{line_answer, line_unsaid}
 use Rattle.vc_app.proofs.transcript.answer_line.Goals as goal
 
 pub returns-in_err-write_all-clause-cut : goal.returns-in_err-write_all-clause-cut
@@ -14,8 +14,16 @@ returns-in_err-write_all-clause-cut g c = λ _.
     record {
       front = front.0;
       rest = front.1;
-      next = next;
       answer = subst (λ b. AnswersLine c.args.plan.now (state_of c.args.opened.now) c.args.line.now b next) (sym c.bytes.ensures ∙ front.2)
           (line_answer c.args.plan.now (state_of c.args.opened.now) c.args.line.now c.in_ok-request.request c.in_ok-text.text next skipped c.in_ok-request.ensures c.in_ok-text.ensures.answers);
       written = front.3;
+    }
+
+pub returns-in_err-text-clause-memory : goal.returns-in_err-text-clause-memory
+returns-in_err-text-clause-memory g c = λ _.
+    let skipped : is_skipped c.args.line.now ≡ false = sym c.is_skipped.ensures ∙ c.if-is_skipped.false in
+    record {
+      stands = line_unsaid c.args.plan.now (state_of c.args.opened.now) c.args.line.now c.in_ok-request.request (state_of c.answer_asked.new.opened)
+          skipped c.in_ok-request.ensures c.in_err-text.ensures.leaves;
+      written = search rules;
     }

@@ -1,0 +1,71 @@
+//! Sources of a plan of two variables.
+
+ghost use Rattle.std.specs.Prelude.{◌≡◌, length, IfOk};
+
+use crate::Sources;
+use std::alloc::{AllocError, Global};
+use std::test::Fail;
+use vc_plan::{Mark, Plan, Var};
+use vc_value::{Dec, Listed, Value, Word};
+
+fn variables(alloc: Global) -> Result<Listed<Var>, AllocError>
+    ensures { IfOk result (λ vars. length vars ≡ 2) }
+{
+    let var = Var {
+        slot: 0,
+        characteristic: 0,
+        domain: 0,
+        restrictable: false,
+    };
+    let mut vars = Listed::new(alloc);
+    vars.push(var)?;
+    vars.push(var)?;
+    Ok(vars)
+}
+
+fn plan_of_two(alloc: Global) -> Result<Plan, AllocError>
+    ensures { IfOk result (λ plan. length plan.vars ≡ 2) }
+{
+    Ok(Plan {
+        name: Word::from_bytes(alloc, b"LAMP")?,
+        version: 1,
+        texts: Listed::new(alloc),
+        dependencies: Listed::new(alloc),
+        characteristics: Listed::new(alloc),
+        objects: Listed::new(alloc),
+        domains: Listed::new(alloc),
+        tables: Listed::new(alloc),
+        slots: Listed::new(alloc),
+        vars: variables(alloc)?,
+        sets: Listed::new(alloc),
+        conditions: Listed::new(alloc),
+        terms: Listed::new(alloc),
+        rules: Listed::new(alloc),
+        procedures: Listed::new(alloc),
+        lines: Listed::new(alloc),
+        operations: Listed::new(alloc),
+        guards: Listed::new(alloc),
+        requirements: Listed::new(alloc),
+    })
+}
+
+#[test]
+fn keeps_what_is_set(rt: HostRuntime) -> Result<(), Fail> {
+    let plan = plan_of_two(rt.alloc())?;
+    let mut sources = Sources::new(rt.alloc(), &plan)?;
+    assert_eq!(rt; sources.user(1), None);
+    assert_eq!(rt; sources.written(1), None);
+    sources.set_user(0, Some(Value::Text(4)));
+    sources.set_written(1, Some((Mark::Outside, 2, 3)));
+    assert_eq!(rt; sources.user(0), Some(Value::Text(4)));
+    assert_eq!(rt; sources.user(1), None);
+    assert_eq!(rt; sources.written(0), None);
+    assert_eq!(rt; sources.written(1), Some((Mark::Outside, 2, 3)));
+    let held = Mark::Held(Value::Num(Dec { millionths: 7 }));
+    sources.set_written(0, Some((held, 0, 1)));
+    sources.set_user(0, None);
+    assert_eq!(rt; sources.user(0), None);
+    assert_eq!(rt; sources.written(0), Some((held, 0, 1)));
+    assert_eq!(rt; sources.user(2), None);
+    Ok(())
+}

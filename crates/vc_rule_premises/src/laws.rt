@@ -1,0 +1,13 @@
+//! Laws of premises, each the contract of a function that does nothing.
+
+ghost use Rattle.vc_rule_premises.specs.Laws.{DecidingSuffices, DecidingIsRead};
+
+/// What makes a condition true, or false, does so alone.
+pub fn deciding_suffices()
+    ensures { DecidingSuffices }
+{}
+
+/// What makes a condition true, or false, is among what it reads.
+pub fn deciding_is_read()
+    ensures { DecidingIsRead }
+{}

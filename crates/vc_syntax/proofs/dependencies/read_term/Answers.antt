@@ -1,0 +1,28 @@
+-- What the text is found to be is the term that it spells, or its fault.
+use Rattle.std.proofs.Common.{Result, subst}
+use Rattle.vc_syntax_tokens.specs.declared.fault.Kind.TheVariants as kinds
+use Rattle.vc_syntax_tokens.specs.declared.fault.SyntaxFault.{SyntaxFault}
+use Rattle.vc_syntax.specs.DependencyTexts.{Answers}
+use Rattle.vc_syntax_terms.specs.Trees as trees
+use Rattle.vc_syntax_terms.specs.Trees.{Dependency, term_of}
+use Rattle.vc_syntax.proofs.SpelledLaws.{answers_spell, answers_tell, spelled_is_found, fault_is_found}
+use Rattle.vc_syntax.proofs.dependencies.read_term.Goals as goal
+
+pub returns-clause-found : goal.returns-clause-found
+returns-clause-found c =
+    answers_spell (λ t. trees.Counts (term_of t.value)) kinds.Term c.args.text.now c.read_judged_term.result c.read_judged_term.ensures
+
+pub returns-clause-only : goal.returns-clause-only
+returns-clause-only c = λ term p.
+    let P : Result Dependency SyntaxFault → Type 0 = λ r. Answers (λ t. trees.Counts (term_of t.value)) c.read_judged_term.result r in
+    subst P (spelled_is_found kinds.Term c.args.text.now (trees.Counts term) p) c.read_judged_term.ensures
+
+pub returns-clause-told : goal.returns-clause-told
+returns-clause-told c = λ fault place e.
+    answers_tell (λ t. trees.Counts (term_of t.value)) kinds.Term c.args.text.now c.read_judged_term.result
+    c.read_judged_term.ensures fault place e
+
+pub returns-clause-fault : goal.returns-clause-fault
+returns-clause-fault c = λ fault place p.
+    let P : Result Dependency SyntaxFault → Type 0 = λ r. Answers (λ t. trees.Counts (term_of t.value)) c.read_judged_term.result r in
+    subst P (fault_is_found kinds.Term c.args.text.now fault place p) c.read_judged_term.ensures

@@ -1,0 +1,10 @@
+pub mod Faults
+pub mod Kinds
+pub mod Looking
+pub mod Meanings
+pub mod NameFaults
+pub mod Occurrences
+pub mod PlaceFaults
+pub mod RangeFaults
+pub mod Settings
+pub mod SortFaults
