@@ -1,5 +1,6 @@
 -- Laws of reasons, of what is kept and of what rules read and write.
 pub mod Agreeing
+pub mod Blaming
 pub mod Closed
 pub mod Dropping
 pub mod Few

@@ -1,5 +1,6 @@
 //! Laws of reasons, each the contract of a function that does nothing.
 
+ghost use Rattle.vc_plan_reasons.specs.Blaming.{ClashesAreBlamed};
 ghost use Rattle.vc_plan_reasons.specs.Fitting.{EvaluationsFit};
 ghost use Rattle.vc_plan_reasons.specs.Trimming.{TrimmedClashesRefute, TrimmedIsAChain, TrimmingKeepsAcceptance};
 ghost use Rattle.vc_plan_reasons.specs.Laws.{AcceptedUnrefused, ChainsStand, ConclusionsStand, WholeSettles};
@@ -29,6 +30,12 @@ pub fn whole_lists_settle()
 pub fn refuting_breaks()
     ensures breaks { RefutingBreaks }
     ensures blames { RefutingBlames }
+{}
+
+/// Where the sources fit a plan and a rule or source clashes at what an accepted list concludes, some clash of the list
+/// refutes them.
+pub fn clashes_are_blamed()
+    ensures { ClashesAreBlamed }
 {}
 
 /// What is kept of an accepted list is accepted with the new sources, and is what the least set of dropped steps

@@ -2,7 +2,7 @@
 use Rattle.std.proofs.Common.{◌≡◌, ℕ, zero, suc, ◌<◌, Bool, true, false, cond, ◌&&◌, ◌||◌, ◌⊎◌, List, [], ◌∷◌, ◌++◌, length, map, refl, sym, ap, ◌∙◌, subst, inl, inr, arith, append_assoc, length-append}
 use Rattle.std.specs.Prelude.{Option, None, Some, slice_get, flat_map, nat_eq, ◌==◌}
 use Rattle.std.specs.List.{filter, list_any}
-use Rattle.std.proofs.lemmas.Bool.{and_parts, eqb-true, or_cases}
+use Rattle.std.proofs.lemmas.Bool.{or_left, or_right, and_parts, eqb-true, or_cases}
 use Rattle.vc_base.specs.Chains.{accepted, cited}
 use Rattle.vc_base.specs.Kept.{IsDropping, has_step}
 use Rattle.vc_base.specs.Rounds.{atoms_of}
@@ -66,13 +66,9 @@ any_has : (p : Thing → Bool) (things : List Thing) (t : Thing) → has_thing t
 any_has p [] t h e = absurd (cc h)
 any_has p (x ∷ things) t h e =
     elim (has_cases same_thing thing_exact thing_itself x things t h) [
-      | inl same ↦ ap (λ b. b || list_any p things) (ap p (sym same) ∙ e)
-      | inr k ↦ or_true (p x) (list_any p things) (any_has p things t k e)
+      | inl same ↦ or_left (p x) (list_any p things) (ap p (sym same) ∙ e)
+      | inr k ↦ or_right (p x) (list_any p things) (any_has p things t k e)
     ]
-  where
-    or_true : (b c : Bool) → c ≡ true → (b || c) ≡ true
-    or_true true c q = refl
-    or_true false c q = q
 
 abbrev written_by : Plan → List Thing → PlanRule → List Thing
 written_by plan all rule = cond (reads_some (links_of plan) all rule) (rule_writes plan rule) []
@@ -189,18 +185,14 @@ source_of old new (Rule r) o giver is e = absurd (cc e)
 source_of old new User None giver is e = absurd (cc e)
 source_of old new User (Some v) giver is e =
     let same : by_user v ≡ giver = cc is in
-    record { var = v; is = inl (sym same); differs = ap (λ b. b || entry_differs old new v) e }
+    record { var = v; is = inl (sym same); differs = or_left (user_differs old new v) (entry_differs old new v) e }
 source_of old new (Written procedure statement) None giver is e = absurd (cc e)
 source_of old new (Written procedure statement) (Some v) giver is e = choice (is_by procedure statement (entry_of old v)) is
   where
-    or_true : (b c : Bool) → c ≡ true → (b || c) ≡ true
-    or_true true c q = refl
-    or_true false c q = q
-
     choice : (b : Bool) → cond b (Some (by_entry v)) None ≡ Some giver → Source old new giver
     choice true k =
         let same : by_entry v ≡ giver = cc k in
-        record { var = v; is = inr (sym same); differs = or_true (user_differs old new v) (entry_differs old new v) e }
+        record { var = v; is = inr (sym same); differs = or_right (user_differs old new v) (entry_differs old new v) e }
     choice false k = absurd (cc k)
 
 gone_reached : (plan : Plan) (old new : Sources) (all : List Thing) → Within same_thing (map var_at (changed plan old new)) all
@@ -238,7 +230,7 @@ get_front [] ys i x e = absurd (cc e)
 get_front (y ∷ xs) ys zero x e = e
 get_front (y ∷ xs) ys (suc i) x e = get_front xs ys i x e
 
-get_middle : (xs ys : List Atom) (y : Atom) → slice_get (xs ++ y ∷ ys) (length xs) ≡ Some y
+pub get_middle : (xs ys : List Atom) (y : Atom) → slice_get (xs ++ y ∷ ys) (length xs) ≡ Some y
 get_middle [] ys y = refl
 get_middle (x ∷ xs) ys y = get_middle xs ys y
 

@@ -2,7 +2,7 @@
 use Rattle.std.proofs.Common.{◌≡◌, ℕ, zero, suc, ◌+◌, Bool, true, false, ◌&&◌, ◌||◌, List, [], ◌∷◌, ◌++◌, length, map, refl, ap, ◌∙◌, subst, arith}
 use Rattle.std.specs.Prelude.{Option, reverse, flat_map, None, Some, option_map, slice_get, slice_set, slice_index_or, if◌then◌else◌, is_none, ◌==◌}
 use Rattle.std.specs.List.{find, list_all, list_any}
-use Rattle.std.proofs.lemmas.Bool.{and_parts, eq-eqb}
+use Rattle.std.proofs.lemmas.Bool.{and_from, and_parts, eq-eqb}
 use Rattle.vc_base.specs.Rounds.{Settlement, broken, settled}
 use Rattle.vc_base.proofs.Settling.{any_at}
 use Rattle.vc_value.specs.declared.value.Value.{Value}
@@ -71,16 +71,12 @@ mark_held plan v a false e = refl
 abbrev Writes : Plan → Place → ℕ → Type 0
 Writes plan place v = procedure_writes plan v place.statement (slice_get plan.procedures place.procedure) ≡ true
 
-both_hold : (a b : Bool) → a ≡ true → b ≡ true → (a && b) ≡ true
-both_hold true b p q = q
-both_hold false b p q = absurd (cc p)
-
 hard_fits : (plan : Plan) (place : Place) (v : ℕ) (a : Value) (entries : Entries) → Writes plan place v → AllFit plan entries
     → AllFit plan (with_hard plan place v a entries)
 hard_fits plan place v a entries writes all =
     let b = fitted plan v a in
     entry_put plan v (entered place (mark_of plan v b) true) entries all
-    (both_hold (mark_fits plan v (mark_of plan v b)) (procedure_writes plan v place.statement (slice_get plan.procedures place.procedure))
+    (and_from (mark_fits plan v (mark_of plan v b)) (procedure_writes plan v place.statement (slice_get plan.procedures place.procedure))
     (mark_held plan v b (lies_in_some (grains_of plan v) b) refl) writes)
 
 -- a value that is left lies in a grain
@@ -106,7 +102,7 @@ default_fits plan seen place v a entries writes all =
     let b = fitted plan v a in
     either plan (takes_default plan seen v b entries) (with_entry v (entered place (Held b) false) entries) entries
     (λ taken. entry_put plan v (entered place (Held b) false) entries all
-    (both_hold (lies_in_some (grains_of plan v) b)
+    (and_from (lies_in_some (grains_of plan v) b)
     (procedure_writes plan v place.statement (slice_get plan.procedures place.procedure))
     (left_lies plan seen v b (and_parts (is_none (seen.value v) && is_soft (written_at entries v)) (has_left plan seen v b) taken).1)
     writes)) all
@@ -169,7 +165,7 @@ named_written plan place procedure statement [] is here within at = tt
 named_written plan place procedure statement (v ∷ vs) is here within at =
     let p = and_parts (is_at plan (procedure.slot ∷ []) v) (list_all (is_at plan (procedure.slot ∷ [])) vs) at in (
       ap (procedure_writes plan v place.statement) is
-          ∙ both_hold (is_at plan (procedure.slot ∷ []) v) (statement_writes v (slice_get procedure.statements place.statement)) p.0
+          ∙ and_from (is_at plan (procedure.slot ∷ []) v) (statement_writes v (slice_get procedure.statements place.statement)) p.0
           (ap (statement_writes v) here ∙ within v (first v vs)),
       named_written plan place procedure statement vs is here (λ u h. within u (more v u vs h)) p.1,
     )
@@ -299,7 +295,7 @@ as_source (written ∷ entries) (suc v) = as_source entries v
 
 all_pass : (p : ℕ → Bool) (xs : List ℕ) → ((x : ℕ) → p x ≡ true) → list_all p xs ≡ true
 all_pass p [] h = refl
-all_pass p (x ∷ xs) h = both_hold (p x) (list_all p xs) (h x) (all_pass p xs h)
+all_pass p (x ∷ xs) h = and_from (p x) (list_all p xs) (h x) (all_pass p xs h)
 
 -- what the user may have lies in a grain
 user_fits : (plan : Plan) (v : ℕ) (a : Option Value) → may_have_if plan v a ≡ true → value_fits plan v a ≡ true
@@ -321,6 +317,6 @@ evaluations_fit plan users own fit =
     = all_pass (λ v. entry_fits plan v (slice_index_or (sources_in end.entries) v None)) (numbers_below (length (sources_in end.entries)))
     (λ v. ap (entry_fits plan v) (as_source end.entries v) ∙ end.fit v) in
     ap (sources_fit plan) end.are
-    ∙ both_hold (list_all (λ v. value_fits plan v (slice_index_or users.values v None)) (numbers_below (length users.values)))
+    ∙ and_from (list_all (λ v. value_fits plan v (slice_index_or users.values v None)) (numbers_below (length users.values)))
     (list_all (λ v. entry_fits plan v (slice_index_or (sources_in end.entries) v None)) (numbers_below (length (sources_in end.entries))))
     values entries

@@ -106,6 +106,13 @@ giver_var_there plan sources giver v (inr e) set a h =
     var_there plan (seen_of set) v (entry_says v (entry_of sources v)) (slice_get plan.vars v) refl
     (not_nothing_atom (gives plan sources (by_entry v) (seen_of set)) a given)
 
+-- and so is that of an entry that clashes
+pub entry_var_there : (plan : Plan) (sources : Sources) (v : ℕ) (set : List Atom)
+    → is_clash (gives plan sources (by_entry v) (seen_of set)) ≡ true → v < length plan.vars
+entry_var_there plan sources v set h =
+    var_there plan (seen_of set) v (entry_says v (entry_of sources v)) (slice_get plan.vars v) refl
+    (not_nothing_clash (gives plan sources (by_entry v) (seen_of set)) h)
+
 -- what follows: its premises are clear, and a giver of the plan gives it at them
 pub record Following (plan : Plan) (sources : Sources) (step : Step) (premises : List Atom) : Type 0 where
   pub clear : is_clear plan (set_with premises) ≡ true

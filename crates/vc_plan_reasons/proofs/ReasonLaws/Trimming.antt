@@ -1,8 +1,8 @@
 -- What is left of an accepted list without the steps in vain is accepted, and none of it is in vain.
 use Rattle.std.proofs.Common.{◌≡◌, ℕ, zero, suc, ◌+◌, ◌≤◌, ◌<◌, Bool, true, false, cond, not, ◌&&◌, ◌||◌, ◌⊎◌, List, [], ◌∷◌, ◌++◌, length, map, refl, sym, ap, ◌∙◌, subst, inl, inr, arith, length-append, append_assoc}
-use Rattle.std.specs.Prelude.{Option, None, Some, slice_get, slice_index_or, nat_lt, ◌==◌}
+use Rattle.std.specs.Prelude.{Some, slice_get, slice_index_or, nat_lt, ◌==◌}
 use Rattle.std.specs.List.{list_all, list_any}
-use Rattle.std.proofs.lemmas.Bool.{and_parts, cases_lt, eqb-true, eq-eqb, ltb-true, or_cases}
+use Rattle.std.proofs.lemmas.Bool.{and_from, or_left, or_right, and_parts, cases_lt, eqb-true, eq-eqb, ltb-true, or_cases}
 use Rattle.vc_base.specs.Chains.{accepted, all_pass, are_cited, before_all, cited, is_among}
 use Rattle.vc_base.specs.Kept.{number_left, without}
 use Rattle.vc_base.proofs.ChainLaws.{accepted_parts, all_there, cited_earlier, get_mapped}
@@ -10,24 +10,11 @@ use Rattle.vc_base.proofs.KeptLaws.{get_cases, get_end, get_front}
 use Rattle.vc_plan.specs.declared.atoms.Atom.{Atom}
 use Rattle.vc_plan.specs.declared.atoms.Step.{Step}
 use Rattle.vc_plan.specs.declared.plans.Plan.{Plan}
-use Rattle.vc_plan.specs.Seen.{same_atom}
 use Rattle.vc_plan.specs.Sources.{Sources}
 use Rattle.vc_plan_reasons.specs.Checking.{concluded, ends_with, follows, is_accepted, is_trimmed_chain, step_form}
 use Rattle.vc_plan_reasons.specs.Trimming.{TrimmedClashesRefute, TrimmedIsAChain, TrimmingKeepsAcceptance, is_cited_by, is_vain, needed, numbers_left, trimmed, trimmed_chain, trimmed_clash}
 use Rattle.vc_plan_reasons.specs.Refuting.{contradicts, is_blamable, is_clash_at, is_collision}
 use Rattle.vc_plan_reasons.proofs.ReasonLaws.Refuting.{Refuted, refuted}
-
-both_hold : (a b : Bool) → a ≡ true → b ≡ true → (a && b) ≡ true
-both_hold true b p q = q
-both_hold false b p q = absurd (cc p)
-
-or_first : (b c : Bool) → b ≡ true → (b || c) ≡ true
-or_first true c e = refl
-or_first false c e = absurd (cc e)
-
-or_second : (b c : Bool) → c ≡ true → (b || c) ≡ true
-or_second true c e = refl
-or_second false c e = e
 
 not_flag : (b : Bool) → not b ≡ false → b ≡ true
 not_flag true e = refl
@@ -55,12 +42,8 @@ matching all before [] is = tt
 matching all before (flag ∷ flags) is =
     let longer : length (before ++ flag ∷ []) ≡ suc (length before) = omega (arith, length-append before (flag ∷ [])) in (
       ap (λ xs. not (slice_index_or xs (length before) true)) (sym is) ∙ ap not (flag_at before flags flag),
-      subst (λ n. Matches (is_vain all) (suc n) flags) longer (matching all (before ++ flag ∷ []) flags (joined before flag flags ∙ is)),
+      subst (λ n. Matches (is_vain all) (suc n) flags) longer (matching all (before ++ flag ∷ []) flags (append_assoc before (flag ∷ []) flags ∙ is)),
     )
-  where
-    joined : (xs : List Bool) (x : Bool) (ys : List Bool) → (xs ++ x ∷ []) ++ ys ≡ xs ++ x ∷ ys
-    joined [] x ys = refl
-    joined (y ∷ xs) x ys = ap (λ zs. y ∷ zs) (joined xs x ys)
 
 -- numbers: that of a step that isn't dropped is one more than that before it, and else the same
 left_next : (dropped : ℕ → Bool) (n : ℕ) → dropped (suc n) ≡ false → number_left dropped (suc n) ≡ suc (number_left dropped n)
@@ -76,9 +59,9 @@ among_left dropped m [] e = absurd (cc e)
 among_left dropped m (k ∷ numbers) e =
     let new = number_left dropped in
     elim (or_cases (k == m) (is_among m numbers) e) [
-      | inl same ↦ or_first (new k == new m) (is_among (new m) (map new numbers))
+      | inl same ↦ or_left (new k == new m) (is_among (new m) (map new numbers))
           (eq-eqb (new k) (new m) (ap new (eqb-true k m same)))
-      | inr later ↦ or_second (new k == new m) (is_among (new m) (map new numbers)) (among_left dropped m numbers later)
+      | inr later ↦ or_right (new k == new m) (is_among (new m) (map new numbers)) (among_left dropped m numbers later)
     ]
 
 -- what a needed step cites, a step that is left cites
@@ -105,10 +88,10 @@ cited_left_by dropped m n (step ∷ steps) (flag ∷ flags) match e =
     choice true d (inl here) later = absurd (not_needed flag d (and_parts flag (is_among m step.premises) here).0 match.0)
     choice true d (inr there) later = later there
     choice false d (inl here) later =
-        or_first (cites (renumbered dropped step)) (list_any cites (without step_form dropped (suc n) steps))
+        or_left (cites (renumbered dropped step)) (list_any cites (without step_form dropped (suc n) steps))
         (among_left dropped m step.premises (and_parts flag (is_among m step.premises) here).1)
     choice false d (inr there) later =
-        or_second (cites (renumbered dropped step)) (list_any cites (without step_form dropped (suc n) steps)) (later there)
+        or_right (cites (renumbered dropped step)) (list_any cites (without step_form dropped (suc n) steps)) (later there)
 
 -- so each step that is left is a premise of a later one, or of the ending
 left_cited : (dropped : ℕ → Bool) (ending : List ℕ) (k : ℕ) (steps : List Step)
@@ -138,8 +121,8 @@ left_cited dropped ending k (step ∷ later) match =
         let here = is_among (number_left dropped (suc k)) (map (number_left dropped) ending) in
         let there = list_any (λ s. is_among (number_left dropped (suc k)) s.premises) (without step_form dropped (suc (suc k)) later) in
         elim (or_cases (is_among (suc k) ending) (is_cited_by (suc k) later (needed ending (suc (suc k)) later)) (is_needed d)) [
-          | inl e ↦ or_first here there (among_left dropped (suc k) ending e)
-          | inr e ↦ or_second here there
+          | inl e ↦ or_left here there (among_left dropped (suc k) ending e)
+          | inr e ↦ or_right here there
               (cited_left_by dropped (suc k) (suc (suc k)) later (needed ending (suc (suc k)) later) match.1 e)
         ]
 
@@ -154,7 +137,7 @@ left_cited dropped ending k (step ∷ later) match =
         (left_same dropped k d) all
     choice false d all =
         let next : number_left dropped (suc k) ≡ suc (number_left dropped k) = left_next dropped k d in
-        both_hold
+        and_from
         (is_among (suc (number_left dropped k)) (map (number_left dropped) ending)
         || list_any (λ s. is_among (suc (number_left dropped k)) s.premises) (without step_form dropped (suc (suc k)) later))
         (are_cited step_form (map (number_left dropped) ending) (suc (suc (number_left dropped k))) (without step_form dropped (suc (suc k)) later))
@@ -201,12 +184,12 @@ cited_again : {X : Type 0} (dropped : ℕ → Bool) (earlier left : List X) → 
     → cited left (map (number_left dropped) numbers) ≡ Some atoms
 cited_again dropped earlier left p [] atoms e kept = e
 cited_again dropped earlier left p (zero ∷ numbers) atoms e kept =
-    cited_again dropped earlier left p numbers atoms e (λ m h. kept m (or_second (zero == m) (is_among m numbers) h))
+    cited_again dropped earlier left p numbers atoms e (λ m h. kept m (or_right (zero == m) (is_among m numbers) h))
 cited_again dropped earlier left p (suc n ∷ numbers) atoms e kept =
     let r = all_there (slice_get earlier n) (cited earlier numbers) atoms e in
     let own : dropped (suc n) ≡ false
-    = kept (suc n) (or_first (suc n == suc n) (is_among (suc n) numbers) (eq-eqb (suc n) (suc n) refl)) in
-    let later = cited_again dropped earlier left p numbers r.1 r.3 (λ m h. kept m (or_second (suc n == m) (is_among m numbers) h)) in
+    = kept (suc n) (or_left (suc n == suc n) (is_among (suc n) numbers) (eq-eqb (suc n) (suc n) refl)) in
+    let later = cited_again dropped earlier left p numbers r.1 r.3 (λ m h. kept m (or_right (suc n == m) (is_among m numbers) h)) in
     ap (λ k. cited left (k ∷ map (number_left dropped) numbers)) (left_next dropped n own)
     ∙ ap (λ o. before_all o (cited left (map (number_left dropped) numbers))) (p.place n r.0 r.2 own)
     ∙ ap (before_all (Some r.0)) later ∙ ap Some (sym r.4)
@@ -242,11 +225,11 @@ left_accepted plan sources dropped ending earlier left (step ∷ later) p match 
         let own = is_among (suc (length earlier)) ending || is_cited_by (suc (length earlier)) later flags in
         elim (cases_lt m (suc (length earlier))) [
           | inl before ↦ kept m (omega (arith, before))
-              (or_second (own && is_among m step.premises) (is_cited_by m later flags) cites)
+              (or_right (own && is_among m step.premises) (is_cited_by m later flags) cites)
           | inr past ↦
               let same : m ≡ suc (length earlier) = omega (arith, small, past) in
               ap dropped same ∙ match.0
-              ∙ ap not (or_second (is_among (suc (length earlier)) ending) (is_cited_by (suc (length earlier)) later flags)
+              ∙ ap not (or_right (is_among (suc (length earlier)) ending) (is_cited_by (suc (length earlier)) later flags)
               (ap (λ n. is_cited_by n later flags) (sym same) ∙ cites))
         ]
 
@@ -257,8 +240,8 @@ left_accepted plan sources dropped ending earlier left (step ∷ later) p match 
         let own = is_among (suc (length earlier)) ending || is_cited_by (suc (length earlier)) later flags in
         let below : m ≤ length earlier = among_below m step.premises (cited_earlier earlier step.premises atoms cites) h in
         kept m below
-        (or_first (own && is_among m step.premises) (is_cited_by m later flags)
-        (both_hold own (is_among m step.premises) (not_flag own (sym match.0 ∙ d)) h))
+        (or_left (own && is_among m step.premises) (is_cited_by m later flags)
+        (and_from own (is_among m step.premises) (not_flag own (sym match.0 ∙ d)) h))
       where
         among_below : (k : ℕ) (numbers : List ℕ) → list_all (λ n. nat_lt n (suc (length earlier))) numbers ≡ true
             → is_among k numbers ≡ true → k ≤ length earlier
@@ -283,7 +266,7 @@ left_accepted plan sources dropped ending earlier left (step ∷ later) p match 
     choice atoms cites from true d onwards = onwards left (placed_dropped dropped earlier left step.conclusion p d)
     choice atoms cites from false d onwards =
         let again = cited_again dropped earlier left p step.premises atoms cites (premises_kept atoms cites d) in
-        both_hold (all_pass (follows plan sources step) (cited left (map (number_left dropped) step.premises)))
+        and_from (all_pass (follows plan sources step) (cited left (map (number_left dropped) step.premises)))
         (accepted step_form (follows plan sources) (left ++ step.conclusion ∷ [])
         (without step_form dropped (suc (suc (length earlier))) later))
         (ap (all_pass (follows plan sources step)) again ∙ from)
@@ -325,7 +308,7 @@ last_needed : (ending : List ℕ) (k : ℕ) (steps : List Step) (i : ℕ) → is
 last_needed ending k [] i e = refl
 last_needed ending k (step ∷ later) zero e =
     let same : suc (k + 0) ≡ suc k = omega arith in
-    or_first (is_among (suc k) ending) (is_cited_by (suc k) later (needed ending (suc (suc k)) later))
+    or_left (is_among (suc k) ending) (is_cited_by (suc k) later (needed ending (suc (suc k)) later))
     (ap (λ n. is_among n ending) (sym same) ∙ e)
 last_needed ending k (step ∷ later) (suc i) e =
     let same : suc (k + suc i) ≡ suc (suc k + i) = omega arith in
@@ -366,8 +349,8 @@ trimmed_is_a_chain plan sources atom steps e ends =
     let trims : is_trimmed_chain left ≡ true = ap (λ n. are_cited step_form (n ∷ []) 1 left) long ∙ all_cited in
     let same : 0 + count ≡ count = omega arith in
     let last : ends_with atom left ≡ true = ends_left dropped atom 0 steps (ap dropped same ∙ stays steps) ends in
-    both_hold (is_accepted plan sources left && is_trimmed_chain left) (ends_with atom left)
-    (both_hold (is_accepted plan sources left) (is_trimmed_chain left) accepts trims) last
+    and_from (is_accepted plan sources left && is_trimmed_chain left) (ends_with atom left)
+    (and_from (is_accepted plan sources left) (is_trimmed_chain left) accepts trims) last
   where
     stays : (all : List Step) → is_vain (needed (length all ∷ []) 1 all) (length all) ≡ false
     stays [] = refl
@@ -375,7 +358,7 @@ trimmed_is_a_chain plan sources atom steps e ends =
         let n = length later in
         let same : suc (0 + n) ≡ suc n = omega arith in
         ap not (last_needed (suc n ∷ []) 0 (step ∷ later) n
-        (ap (λ k. is_among k (suc n ∷ [])) same ∙ or_first (suc n == suc n) false (eq-eqb (suc n) (suc n) refl)))
+        (ap (λ k. is_among k (suc n ∷ [])) same ∙ or_left (suc n == suc n) false (eq-eqb (suc n) (suc n) refl)))
 
 -- a number of the ending is that of a needed step
 ending_stays : (ending : List ℕ) (steps : List Step) (m : ℕ) → is_among m ending ≡ true → is_vain (needed ending 1 steps) m ≡ false
@@ -454,9 +437,9 @@ trimmed_clashes_refute plan sources clash e =
     = ending_cites (λ step. step.origin) (λ step numbers. refl) clash.premises clash.steps by.0 by.1 ∙ sym by.1 in
     let holds : contradicts plan sources left r.premises ≡ true
     = ap (λ o. is_clash_at plan sources clash.culprit r.premises || is_collision plan clash.culprit r.premises o) same ∙ r.holds in (
-      both_hold (is_accepted plan sources left.steps && is_blamable plan clash.culprit)
+      and_from (is_accepted plan sources left.steps && is_blamable plan clash.culprit)
           (all_pass (contradicts plan sources left) (cited (concluded left.steps) left.premises))
-          (both_hold (is_accepted plan sources left.steps) (is_blamable plan clash.culprit)
+          (and_from (is_accepted plan sources left.steps) (is_blamable plan clash.culprit)
           (trimming_keeps_acceptance plan sources clash.premises clash.steps r.accepted) r.blamable)
           (ap (all_pass (contradicts plan sources left)) atoms ∙ holds),
       left_cited (is_vain flags) clash.premises 0 clash.steps (matching flags [] flags refl),
