@@ -17,8 +17,8 @@ use Rattle.vc_plan_reasons.specs.Checking.{concluded, is_accepted, set_with}
 use Rattle.vc_plan_reasons.specs.Fitting.{sources_fit}
 use Rattle.vc_plan_reasons.specs.Refuting.{refutes}
 
--- whether this is the status after an evaluation. Where a stage is broken, it blames the culprit of some clash that refutes
--- the stage's sources; which one is free
+-- whether this is the status after an evaluation. Where a stage is broken, it blames the culprit of some clash that
+-- refutes the stage's sources; which one is free
 abbrev pub IsStatusAfter : Plan → Users → Evaluated → Status → Type 0
 IsStatusAfter plan users (broken_at k entries) status =
     (clash : Clash) × (refutes plan (sources_of users entries) clash ≡ true) × (status ≡ Contradiction clash.culprit)
@@ -32,6 +32,7 @@ IsStatus plan users status = IsStatusAfter plan users (evaluation_of plan users)
 -- where the sources fit, and a rule or source clashes at what an accepted log concludes, some clash of that log refutes
 abbrev pub ClashesAreBlamed : Type 0
 ClashesAreBlamed = (plan : Plan) (sources : Sources) (log : List Step) (giver : Giver)
-    → sources_fit plan sources ≡ true → is_accepted plan sources log ≡ true → is_clear plan (set_with (concluded log)) ≡ true
+    → sources_fit plan sources ≡ true → is_accepted plan sources log ≡ true
+    → is_clear plan (set_with (concluded log)) ≡ true
     → is_clash (gives plan sources giver (seen_of (set_with (concluded log)))) ≡ true
     → (clash : Clash) × (clash.steps ≡ log) × (refutes plan sources clash ≡ true)

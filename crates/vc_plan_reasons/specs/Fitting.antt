@@ -40,8 +40,8 @@ entry_fits plan v None = true
 entry_fits plan v (Some entry) =
     mark_fits plan v entry.mark && procedure_writes plan v entry.statement (slice_get plan.procedures entry.procedure)
 
--- whether all sources fit the plan. Without that nobody may be to blame: a user's value in no grain contradicts alone, and an
--- entry by a statement that isn't there is nobody's
+-- whether all sources fit the plan. Without that nobody may be to blame: a user's value in no grain contradicts alone,
+-- and an entry by a statement that isn't there is nobody's
 abbrev pub sources_fit : Plan → Sources → Bool
 sources_fit plan sources =
     list_all (λ v. value_fits plan v (user_of sources v)) (numbers_below (length sources.user))
@@ -52,8 +52,9 @@ abbrev pub sources_at_end : Users → Evaluated → Sources
 sources_at_end users (broken_at k entries) = sources_of users entries
 sources_at_end users (reached sets entries) = sources_of users entries
 
--- what a valid plan's statements write fits it, and so do the sources at the end of an evaluation, where the user's values do:
--- those of the stage that is broken, or of the last
+-- what a valid plan's statements write fits it, and so do the sources at the end of an evaluation, where the user's
+-- values do: those of the stage that is broken, or of the last
 abbrev pub EvaluationsFit : Type 0
-EvaluationsFit = (plan : Plan) (users : Users) → list_all (writes_own plan) plan.procedures ≡ true → users_fit plan users ≡ true
+EvaluationsFit = (plan : Plan) (users : Users)
+    → list_all (writes_own plan) plan.procedures ≡ true → users_fit plan users ≡ true
     → sources_fit plan (sources_at_end users (evaluation_of plan users)) ≡ true

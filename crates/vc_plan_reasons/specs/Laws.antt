@@ -54,11 +54,12 @@ abbrev pub RefutingBreaks : Type 0
 RefutingBreaks =
     (plan : Plan) (sources : Sources) (clash : Clash) → refutes plan sources clash ≡ true → settlement_of plan sources ≡ broken
 
--- the culprit is a rule of the plan that is neither of a last grain nor of a line, and so a constraint's; or a statement that
--- wrote an entry of the sources
+-- the culprit is a rule of the plan that is neither of a last grain nor of a line, and so a constraint's; or a
+-- statement that wrote an entry of the sources
 abbrev pub IsGuilty : Plan → Sources → Culprit → Type 0
 IsGuilty plan sources (Rule r) =
-    (rule : PlanRule) × (slice_get plan.rules r ≡ Some rule) × ((v : ℕ) → rule.kind ≡ Last v → ⊥) × ((i : ℕ) → rule.kind ≡ Line i → ⊥)
+    (rule : PlanRule) × (slice_get plan.rules r ≡ Some rule)
+    × ((v : ℕ) → rule.kind ≡ Last v → ⊥) × ((i : ℕ) → rule.kind ≡ Line i → ⊥)
 IsGuilty plan sources (Written procedure statement) = (v : ℕ) × (is_by procedure statement (entry_of sources v) ≡ true)
 IsGuilty plan sources (Hidden dependency v) = ⊥
 IsGuilty plan sources (HiddenSet dependency set) = ⊥

@@ -23,7 +23,9 @@ pub record NetRecord : Type 0 where
   pub log : List Step
   pub breaker : Breaker
 
--- whether it is sound: its log is accepted with its sources, concludes nothing twice, and its conclusions are a clear set
+-- whether it is sound: its log is accepted with its sources and concludes nothing twice, and its conclusions are a
+-- clear set
 abbrev pub is_sound : Plan → NetRecord → Bool
 is_sound plan net =
-    is_accepted plan net.sources net.log && (are_apart same_atom (concluded net.log) && is_clear plan (set_with (concluded net.log)))
+    is_accepted plan net.sources net.log
+    && (are_apart same_atom (concluded net.log) && is_clear plan (set_with (concluded net.log)))

@@ -83,7 +83,8 @@ part_within : (things : List Thing) (stand : List Atom) → Within same_atom (se
 part_within things stand a h =
     elim (has_cases same_atom atom_exact atom_itself (Here 0) (filter (is_of things) stand) a h) [
       | inl e ↦ subst (λ z. has same_atom (set_with stand) z ≡ true) (sym e) (has_first same_atom atom_exact atom_itself (Here 0) stand)
-      | inr k ↦ has_more same_atom atom_exact atom_itself (Here 0) stand a (has_filter same_atom atom_exact atom_itself (is_of things) stand a k).0
+      | inr k ↦ has_more same_atom atom_exact atom_itself (Here 0) stand a
+          (has_filter same_atom atom_exact atom_itself (is_of things) stand a k).0
     ]
 
 part_alike : (things : List Thing) (stand : List Atom) (a : Atom) → has_thing things (thing_of a) ≡ true
@@ -248,7 +249,8 @@ clashes_are_blamed plan sources log giver fit accepts clear e =
     (is_collision plan b.culprit premises (cited (map (λ step. step.origin) log) numbers)) at in (
       refuting,
       refl,
-      and_from (is_accepted plan sources log && is_blamable plan b.culprit) (all_pass (contradicts plan sources refuting) (cited stand numbers))
+      and_from (is_accepted plan sources log && is_blamable plan b.culprit)
+          (all_pass (contradicts plan sources refuting) (cited stand numbers))
           (and_from (is_accepted plan sources log) (is_blamable plan b.culprit) accepts b.blamable)
           (ap (all_pass (contradicts plan sources refuting)) cites ∙ holds),
     )

@@ -243,7 +243,9 @@ number_cites earlier (zero ∷ numbers) atoms n e (inr i) = number_cites earlier
 number_cites earlier (suc m ∷ numbers) atoms n e (inl same) =
     let r = all_there (slice_get earlier m) (cited earlier numbers) atoms e in
     let number : n ≡ m = cc same in
-    (r.0, ap (slice_get earlier) number ∙ r.2, subst (λ xs. has same_atom xs r.0 ≡ true) (sym r.4) (has_first same_atom atom_exact atom_itself r.0 r.1))
+    let there : has same_atom atoms r.0 ≡ true
+    = subst (λ xs. has same_atom xs r.0 ≡ true) (sym r.4) (has_first same_atom atom_exact atom_itself r.0 r.1) in
+    (r.0, ap (slice_get earlier) number ∙ r.2, there)
 number_cites earlier (suc m ∷ numbers) atoms n e (inr i) =
     let r = all_there (slice_get earlier m) (cited earlier numbers) atoms e in
     let s = number_cites earlier numbers r.1 n r.3 i in

@@ -88,7 +88,8 @@ compare_same plan s t rule r a b h k =
     let x = value_at plan (net_reading t) a in
     let y = value_at plan (net_reading t) b in
     ap (λ z. clash_if_false (compared r z (value_at plan (net_reading s) b))
-    (beside (related plan s r v (value_at plan (net_reading s) b)) (related plan s (turned r) w z))) (value_same plan s t a (values_of s t (vars_of_term (slice_get plan.terms a)) h))
+    (beside (related plan s r v (value_at plan (net_reading s) b)) (related plan s (turned r) w z)))
+    (value_same plan s t a (values_of s t (vars_of_term (slice_get plan.terms a)) h))
     ∙ (ap (λ z. clash_if_false (compared r x z) (beside (related plan s r v z) (related plan s (turned r) w x)))
     (value_same plan s t b (values_of s t (vars_of_term (slice_get plan.terms b)) k))
     ∙ (ap (λ z. clash_if_false (compared r x y) (beside z (related plan s (turned r) w x)))
@@ -104,7 +105,8 @@ equate_same plan s t rule a b h k =
     let decimals = min (decimals_in_side plan (lone plan a)) (decimals_in_side plan (lone plan b)) in
     let x = value_at plan (net_reading t) a in
     ap (λ z. clash_if ((is_none v && is_none w) && differ decimals z (value_at plan (net_reading s) b))
-    (beside (equal_to plan v (value_at plan (net_reading s) b)) (equal_to plan w z))) (value_same plan s t a (values_of s t (vars_of_term (slice_get plan.terms a)) h))
+    (beside (equal_to plan v (value_at plan (net_reading s) b)) (equal_to plan w z)))
+    (value_same plan s t a (values_of s t (vars_of_term (slice_get plan.terms a)) h))
     ∙ ap (λ z. clash_if ((is_none v && is_none w) && differ decimals x z) (beside (equal_to plan v z) (equal_to plan w x)))
     (value_same plan s t b (values_of s t (vars_of_term (slice_get plan.terms b)) k))
 

@@ -42,7 +42,8 @@ matching all before [] is = tt
 matching all before (flag ∷ flags) is =
     let longer : length (before ++ flag ∷ []) ≡ suc (length before) = omega (arith, length-append before (flag ∷ [])) in (
       ap (λ xs. not (slice_index_or xs (length before) true)) (sym is) ∙ ap not (flag_at before flags flag),
-      subst (λ n. Matches (is_vain all) (suc n) flags) longer (matching all (before ++ flag ∷ []) flags (append_assoc before (flag ∷ []) flags ∙ is)),
+      subst (λ n. Matches (is_vain all) (suc n) flags) longer
+          (matching all (before ++ flag ∷ []) flags (append_assoc before (flag ∷ []) flags ∙ is)),
     )
 
 -- numbers: that of a step that isn't dropped is one more than that before it, and else the same
@@ -140,7 +141,8 @@ left_cited dropped ending k (step ∷ later) match =
         and_from
         (is_among (suc (number_left dropped k)) (map (number_left dropped) ending)
         || list_any (λ s. is_among (suc (number_left dropped k)) s.premises) (without step_form dropped (suc (suc k)) later))
-        (are_cited step_form (map (number_left dropped) ending) (suc (suc (number_left dropped k))) (without step_form dropped (suc (suc k)) later))
+        (are_cited step_form (map (number_left dropped) ending) (suc (suc (number_left dropped k)))
+        (without step_form dropped (suc (suc k)) later))
         (subst (λ n. (is_among n (map (number_left dropped) ending)
         || list_any (λ s. is_among n s.premises) (without step_form dropped (suc (suc k)) later)) ≡ true) next (used d))
         (subst (λ n. are_cited step_form (map (number_left dropped) ending) (suc n) (without step_form dropped (suc (suc k)) later) ≡ true)

@@ -11,7 +11,8 @@ use Rattle.vc_plan.specs.declared.atoms.Step.{Step}
 use Rattle.vc_plan.proofs.PlanRows.Models.{pump, users}
 use Rattle.vc_plan.proofs.StageRows.Paints.{paint}
 use Rattle.vc_plan.proofs.StageRows.StageModels.{chosen}
-use Rattle.vc_plan.specs.Evaluate.{evaluation_of}
+use Rattle.vc_plan.specs.Evaluate.{Users, evaluation_of}
+use Rattle.vc_plan.specs.Sources.{Sources}
 use Rattle.vc_plan_reasons.specs.Fitting.{sources_at_end, sources_fit}
 use Rattle.vc_plan_reasons.specs.Records.{Breaker, NetRecord, by_step, is_sound, unbroken}
 use Rattle.vc_plan_reasons.specs.Things.{var_at}
@@ -22,7 +23,8 @@ use Rattle.vc_plan_reasons.proofs.ReasonRows.Steps.{by_user, large_size, step, w
 abbrev by_users : List (Option Value) → Bool
 by_users values = sources_fit drive (users values)
 
-users_fit : map by_users ([] ∷ (Some (Text 0) ∷ Some (Text 3) ∷ []) ∷ (None ∷ Some (Text 0) ∷ []) ∷ (None ∷ None ∷ Some (Text 0) ∷ []) ∷ [])
+users_fit : map by_users
+    ([] ∷ (Some (Text 0) ∷ Some (Text 3) ∷ []) ∷ (None ∷ Some (Text 0) ∷ []) ∷ (None ∷ None ∷ Some (Text 0) ∷ []) ∷ [])
     ≡ true ∷ true ∷ false ∷ false ∷ []
 users_fit = refl
 
@@ -33,7 +35,10 @@ in_no_grain e = cc
 -- another procedure
 abbrev written : Mark → ℕ → ℕ → Bool
 written mark procedure statement =
-    sources_fit drive (record { user = []; written = None ∷ Some (record { mark = mark; procedure = procedure; statement = statement }) ∷ [] })
+    sources_fit drive (record {
+      user = [];
+      written = None ∷ Some (record { mark = mark; procedure = procedure; statement = statement }) ∷ [];
+    })
 
 by_statements : map (written (Held (Text 2)) 0) (0 ∷ 1 ∷ 2 ∷ 3 ∷ []) ≡ true ∷ true ∷ false ∷ false ∷ []
 by_statements = refl
@@ -49,17 +54,27 @@ held : map (λ mark. written mark 0 0) (Held (Text 3) ∷ Held (Text 0) ∷ Outs
 held = refl
 
 -- the drive's statements don't write DRIVEN, which is the root's
-of_another_slot : sources_fit drive (record { user = []; written = Some (record { mark = Held (Text 0); procedure = 0; statement = 0 }) ∷ [] }) ≢ true
+abbrev of_driven : Sources
+of_driven = record { user = []; written = Some (record { mark = Held (Text 0); procedure = 0; statement = 0 }) ∷ [] }
+
+of_another_slot : sources_fit drive of_driven ≢ true
 of_another_slot e = cc
 
 -- PAINT with BLUE and H, broken by what the second procedure wrote
-broken_fits : sources_fit paint (sources_at_end (chosen (Some (Text 1) ∷ Some (Text 3) ∷ [])) (evaluation_of paint (chosen (Some (Text 1) ∷ Some (Text 3) ∷ []))))
-    ≡ true
+abbrev blue_h : Users
+blue_h = chosen (Some (Text 1) ∷ Some (Text 3) ∷ [])
+
+broken_fits : sources_fit paint (sources_at_end blue_h (evaluation_of paint blue_h)) ≡ true
 broken_fits = refl
 
 -- records of PUMP's net with the size L: why the motor is E3, broken by the user's E1
 abbrev with_log : List Step → Breaker → NetRecord
-with_log log breaker = record { sources = users (Some (Text 2) ∷ Some (Text 3) ∷ []); behind = var_at 1 ∷ []; log = log; breaker = breaker }
+with_log log breaker = record {
+  sources = users (Some (Text 2) ∷ Some (Text 3) ∷ []);
+  behind = var_at 1 ∷ [];
+  log = log;
+  breaker = breaker;
+}
 
 sound : is_sound pump (with_log why_motor (by_step (by_user 1 (Text 3)))) ≡ true
 sound = refl
