@@ -1,5 +1,5 @@
-//! Tells what each model text on stdin is read as. A text stands behind a line `=== FORM TITLE`; its form says how the lines
-//! below make the text.
+//! Tells what each model text on stdin is read as. A text stands behind a line `=== FORM TITLE`; its form says how
+//! the lines below make the text.
 #![tactic(auto)]
 
 use std::alloc::{AllocError, Global};

@@ -105,12 +105,15 @@ const ROWS: [(&str, &str, &str); 14] = [
     (
         LAMP,
         "open a\nset a 0 SIZE L\nshow a\nretract a 0 SIZE\nshow a\n",
-        "ok complete\nok complete\nstatus complete\ninstance 0 LAMP\nSIZE = 'L' user\nBULB = 'B3' inferred\nend\nok complete\nstatus complete\ninstance 0 LAMP\nSIZE ? 'S' 'L'\nBULB ? 'B1' 'B2' 'B3'\nend\n",
+        "ok complete\nok complete\nstatus complete\ninstance 0 LAMP\nSIZE = 'L' user\nBULB = 'B3' inferred\n\
+            end\nok complete\nstatus complete\ninstance 0 LAMP\nSIZE ? 'S' 'L'\nBULB ? 'B1' 'B2' 'B3'\nend\n",
     ),
     (
         LAMP,
         "open a\nset a 0 SIZE L\nset a 0 BULB B1\nshow a\nretract a 0 SIZE\nshow a\n",
-        "ok complete\nok complete\nok contradiction constraint C_BULB 1 at 0\nstatus contradiction constraint C_BULB 1 at 0\nuser 0 SIZE = 'L'\nuser 0 BULB = 'B1'\nend\nok complete\nstatus complete\ninstance 0 LAMP\nSIZE ? 'S' 'L'\nBULB = 'B1' user\nend\n",
+        "ok complete\nok complete\nok contradiction constraint C_BULB 1 at 0\n\
+            status contradiction constraint C_BULB 1 at 0\nuser 0 SIZE = 'L'\nuser 0 BULB = 'B1'\nend\n\
+            ok complete\nstatus complete\ninstance 0 LAMP\nSIZE ? 'S' 'L'\nBULB = 'B1' user\nend\n",
     ),
     (
         LAMP,
@@ -135,12 +138,14 @@ const ROWS: [(&str, &str, &str); 14] = [
     (
         LAMP,
         "show a\nset b 0 SIZE L\nopen a\nset b 0 COLOUR X\nset a 0 COLOUR X\nset a 0 SIZE X\n",
-        "refused 1 NoSession\nrefused 1 NoSession\nok complete\nrefused 1 NoSession\nrefused 4 UnknownCharacteristic\nrefused 5 NotInList\n",
+        "refused 1 NoSession\nrefused 1 NoSession\nok complete\nrefused 1 NoSession\n\
+            refused 4 UnknownCharacteristic\nrefused 5 NotInList\n",
     ),
     (
         LAMP,
         "open a\nopen b\nset a 1 SIZE L\nset a 0 SIZE\njump a\nclose a\n open c\n",
-        "ok complete\nrefused 0 NotARequest\nrefused 0 NotARequest\nrefused 0 NotARequest\nrefused 0 NotARequest\nrefused 0 NotARequest\nrefused 0 NotARequest\n",
+        "ok complete\nrefused 0 NotARequest\nrefused 0 NotARequest\nrefused 0 NotARequest\n\
+            refused 0 NotARequest\nrefused 0 NotARequest\nrefused 0 NotARequest\n",
     ),
     (
         LAMP,
@@ -155,7 +160,8 @@ const ROWS: [(&str, &str, &str); 14] = [
     (
         LAMP,
         "open a\nset a 0 SIZE S\nset a 0 SIZE L\nset a 0 SIZE L\nshow a\n",
-        "ok complete\nok complete\nok complete\nok complete\nstatus complete\ninstance 0 LAMP\nSIZE = 'L' user\nBULB = 'B3' inferred\nend\n",
+        "ok complete\nok complete\nok complete\nok complete\nstatus complete\ninstance 0 LAMP\nSIZE = 'L' user\n\
+            BULB = 'B3' inferred\nend\n",
     ),
     (LAMP, "* open a\n\n", ""),
 ];
@@ -212,7 +218,8 @@ fn a_failing_shelf_names_the_file(rt: HostRuntime) -> Result<(), Fail> {
 }
 
 const USAGE: &str =
-    "usage: configd check MODEL, run MODEL SCRIPT [KEEPFILE], serve MODEL ADDRESS N [KEEPFILE], verify MODEL CHAIN, gen N\n";
+    "usage: configd check MODEL, run MODEL SCRIPT [KEEPFILE], serve MODEL ADDRESS N [KEEPFILE], verify MODEL \
+        CHAIN, gen N\n";
 
 #[test]
 fn each_cause_has_its_status(rt: HostRuntime) -> Result<(), Fail> {

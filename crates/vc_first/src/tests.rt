@@ -42,7 +42,8 @@ ROOT A-1.B/C
 const REFUSED: [&str; 5] = [
     "",
     // A text twice.
-    "MODEL M VERSION 1\nCHAR A 1 RESTRICTABLE\nVALUE 'X'\nVALUE 'X'\nCLASS K\nHAS A\nNET N\nOBJECT M CLASS K\nUSES N\nROOT M\n",
+    "MODEL M VERSION 1\nCHAR A 1 RESTRICTABLE\nVALUE 'X'\nVALUE 'X'\nCLASS K\nHAS A\nNET N\nOBJECT M CLASS K\n\
+        USES N\nROOT M\n",
     // The last line isn't there.
     "MODEL M VERSION 1\nCHAR A 1 RESTRICTABLE\nVALUE 'X'\nCLASS K\nHAS A\nNET N\nOBJECT M CLASS K\nUSES N\n",
     // A text longer than its characteristic's length.

@@ -7,7 +7,8 @@ use vc_model_faults::{ModelFault, ModelFaultKind};
 use vc_model_parts::{Characteristic, Model, Values};
 
 const MACHINE: &str =
-    "MODEL M VERSION 7\nSELECTION S\nA = 'X'\nEND\nCHAR A 1 RESTRICTABLE\nVALUE 'Y'\nVALUE 'X'\nCLASS K\nHAS A\nOBJECT O CLASS K\nLINE 0010 BOLT PC : 2\nUSES S\nROOT O\n";
+    "MODEL M VERSION 7\nSELECTION S\nA = 'X'\nEND\nCHAR A 1 RESTRICTABLE\nVALUE 'Y'\nVALUE 'X'\nCLASS K\nHAS A\n\
+        OBJECT O CLASS K\nLINE 0010 BOLT PC : 2\nUSES S\nROOT O\n";
 
 fn has_two_texts(characteristic: &Characteristic) -> bool {
     match &characteristic.values {

@@ -1,12 +1,14 @@
 //! The parts of a model, gathered from the last line of the text to the first.
 
-ghost use Rattle.std.specs.Prelude.{◌≡◌, ◌+◌, ◌-◌, ◌^◌, ◌<◌, [], ◌∷◌, ◌++◌, List, length, option_to_list, option_map, unwrap_or, IfOk, OnOk, Option, ℕ};
+ghost use Rattle.std.specs.Prelude.{◌≡◌, ◌+◌, ◌-◌, ◌^◌, ◌<◌, [], ◌∷◌, ◌++◌, List, length, option_to_list, option_map};
+ghost use Rattle.std.specs.Prelude.{unwrap_or, IfOk, OnOk, Option, ℕ};
 ghost use Rattle.vc_model_scope.specs.Names.{place_of};
 ghost use Rattle.vc_model_scope.specs.Contents.{entry_within};
 ghost use Rattle.vc_model_faults.specs.First.{backwards, readings_of};
 ghost use Rattle.vc_model_faults.specs.Places.{Kept, seen_places};
 ghost use Rattle.vc_model_lines.specs.Classified.{lines_of};
-ghost use Rattle.vc_model_faults.specs.Readings.{Reading as Readings, reading, seen_reading, seen_readings, dependency_read, term_read};
+ghost use Rattle.vc_model_faults.specs.Readings.{Reading as Readings, reading, seen_reading, seen_readings};
+ghost use Rattle.vc_model_faults.specs.Readings.{dependency_read, term_read};
 ghost use Rattle.vc_syntax_terms.specs.Trees.{dependency_of, term_of};
 ghost use Rattle.vc_model_lines.specs.declared.line.Line.TheVariants as lines;
 ghost use Rattle.vc_model_lines.specs.declared.line.Line.{Line as Lines};

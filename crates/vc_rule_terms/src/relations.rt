@@ -2,7 +2,8 @@
 
 ghost use Rattle.std.specs.Prelude.{◌≡◌, ◌==◌};
 ghost use Rattle.std.specs.List.{list_any};
-ghost use Rattle.vc_plan.specs.Pieces.{opposite, turned, text_relates, numbers_relate, is_inside, is_outside, relates, lies_in, lies_in_some, same_value};
+ghost use Rattle.vc_plan.specs.Pieces.{opposite, turned, text_relates, numbers_relate, is_inside, is_outside};
+ghost use Rattle.vc_plan.specs.Pieces.{relates, lies_in, lies_in_some, same_value};
 ghost use Rattle.vc_rule_terms.specs.Values.{meant};
 
 use crate::TermValue;

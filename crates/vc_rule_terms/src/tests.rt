@@ -22,7 +22,12 @@ struct OneValue {
 impl View for OneValue {
     ghost use Rattle.std.specs.Prelude.{true, false, ◌==◌, if◌then◌else◌, None};
 
-    ghost seen = { λ s. record { here = λ i. true; out = λ v g. false; value = λ v. if v == 0 then s.value else None } };
+    ghost seen = { λ s. record {
+      here = λ i. true;
+      out = λ v g. false;
+      value = λ v. if v == 0 then s.value else
+          None;
+    } };
 
     fn here(&self, _slot: u32) -> bool {
         true

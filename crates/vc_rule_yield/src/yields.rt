@@ -39,7 +39,8 @@ impl Model for Yield {
 }
 
 impl Yield {
-    ghost use Rattle.std.specs.Prelude.{◌≡◌, ◌<◌, [], length, take, IfOk, IfNone, IfSome, Some, None, map, slice_get, option_map};
+    ghost use Rattle.std.specs.Prelude.{◌≡◌, ◌<◌, [], length, take, IfOk, IfNone, IfSome, Some, None, map, slice_get};
+    ghost use Rattle.std.specs.Prelude.{option_map};
 
     /// Nothing, with room for so many cited premises, conclusions and premises of these.
     pub fn new(

@@ -23,7 +23,8 @@ const SPELLED: [(Kind, &str); 9] = [
     (Kind::Term, "(A) + SIGN (B * (2 - $ROOT.C))"),
     (
         Kind::Constraint,
-        "OBJECTS: ?P IS_A (300) CL0 WHERE ?V = A; ?W = B, ?Q IS_OBJECT (MATERIAL)(300)(NR = 'M').\nCONDITION: ?V = 1.\nRESTRICTION: FALSE IF PART_OF (?P, ?Q), ?P.A NE 2.\nINFERENCES: ?P.A, ?V.",
+        "OBJECTS: ?P IS_A (300) CL0 WHERE ?V = A; ?W = B, ?Q IS_OBJECT (MATERIAL)(300)(NR = 'M').\n\
+            CONDITION: ?V = 1.\nRESTRICTION: FALSE IF PART_OF (?P, ?Q), ?P.A NE 2.\nINFERENCES: ?P.A, ?V.",
     ),
     (
         Kind::Constraint,

@@ -4,7 +4,8 @@ ghost use Rattle.std.specs.Prelude.{◌≡◌, map, option_map};
 ghost use Rattle.vc_syntax_terms.specs.Reading.{Gives, made, grouped, listed};
 ghost use Rattle.vc_syntax.specs.StatementReading as reads;
 ghost use Rattle.vc_syntax_terms.specs.Trees as trees;
-ghost use Rattle.vc_syntax_terms.specs.Trees.{term_of, condition_of, binding_of, table_call_of, action_of, statement_of, demand_of, restriction_of};
+ghost use Rattle.vc_syntax_terms.specs.Trees.{term_of, condition_of, binding_of, table_call_of, action_of};
+ghost use Rattle.vc_syntax_terms.specs.Trees.{statement_of, demand_of, restriction_of};
 ghost use Rattle.vc_syntax_tokens.specs.declared.token.Sign.TheVariants as signs;
 
 use std::alloc::Global;

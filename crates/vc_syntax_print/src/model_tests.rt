@@ -10,8 +10,10 @@ use vc_syntax_tokens::Kind;
 const TEXTS: [(Kind, &str, &str); 11] = [
     (
         Kind::Constraint,
-        "OBJECTS: ?P IS_A (300)PUMPS.\nRESTRICTIONS: TABLE SM (SIZE = ?P.SIZE, MOTOR = ?P.MOTOR).\nINFERENCES: ?P.SIZE, ?P.MOTOR.",
-        "OBJECTS : ?P IS_A ( 300 ) PUMPS .\nRESTRICTIONS : TABLE SM ( SIZE = ?P.SIZE , MOTOR = ?P.MOTOR ) .\nINFERENCES : ?P.SIZE , ?P.MOTOR .",
+        "OBJECTS: ?P IS_A (300)PUMPS.\nRESTRICTIONS: TABLE SM (SIZE = ?P.SIZE, MOTOR = ?P.MOTOR).\n\
+            INFERENCES: ?P.SIZE, ?P.MOTOR.",
+        "OBJECTS : ?P IS_A ( 300 ) PUMPS .\nRESTRICTIONS : TABLE SM ( SIZE = ?P.SIZE , MOTOR = ?P.MOTOR ) .\n\
+            INFERENCES : ?P.SIZE , ?P.MOTOR .",
     ),
     (Kind::Selection, "SIZE = 'L'", "SIZE = 'L'"),
     (Kind::Term, "15 + FLOW / 2", "15 + FLOW / 2"),
@@ -23,12 +25,17 @@ const TEXTS: [(Kind, &str, &str); 11] = [
     (
         Kind::Constraint,
         "OBJECTS: ?R IS_A (300)RINGS.\nRESTRICTIONS: TABLE AB (A = ?R.A, B = ?R.B).\nINFERENCES: ?R.A, ?R.B.",
-        "OBJECTS : ?R IS_A ( 300 ) RINGS .\nRESTRICTIONS : TABLE AB ( A = ?R.A , B = ?R.B ) .\nINFERENCES : ?R.A , ?R.B .",
+        "OBJECTS : ?R IS_A ( 300 ) RINGS .\nRESTRICTIONS : TABLE AB ( A = ?R.A , B = ?R.B ) .\n\
+            INFERENCES : ?R.A , ?R.B .",
     ),
     (
         Kind::Constraint,
-        "OBJECTS: ?S IS_A (300)STEPPERS.\nRESTRICTIONS: ?S.FLOW <= 2 * ?S.STEPS,\n  ?S.STEPS >= 1 IF ?S.FLOW > 5,\n  ?S.STEPS >= 2 IF ?S.FLOW > 10.\nINFERENCES: ?S.FLOW.",
-        "OBJECTS : ?S IS_A ( 300 ) STEPPERS .\nRESTRICTIONS : ?S.FLOW <= 2 * ?S.STEPS , ?S.STEPS >= 1 IF ?S.FLOW > 5 , ?S.STEPS >= 2 IF ?S.FLOW > 10 .\nINFERENCES : ?S.FLOW .",
+        "OBJECTS: ?S IS_A (300)STEPPERS.\n\
+            RESTRICTIONS: ?S.FLOW <= 2 * ?S.STEPS,\n  ?S.STEPS >= 1 IF ?S.FLOW > 5,\n  ?S.STEPS >= 2 IF ?S.FLOW > 10.\n\
+            INFERENCES: ?S.FLOW.",
+        "OBJECTS : ?S IS_A ( 300 ) STEPPERS .\n\
+            RESTRICTIONS : ?S.FLOW <= 2 * ?S.STEPS , ?S.STEPS >= 1 IF ?S.FLOW > 5 , ?S.STEPS >= 2 IF ?S.FLOW > 10 .\n\
+            INFERENCES : ?S.FLOW .",
     ),
     (Kind::Precondition, "MODE = 'N'", "MODE = 'N'"),
     (

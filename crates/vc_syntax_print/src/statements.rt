@@ -5,7 +5,8 @@ ghost use Rattle.vc_syntax_tokens.specs.declared.token.Lexeme.TheVariants as lex
 ghost use Rattle.vc_syntax_tokens.specs.declared.token.Sign.TheVariants as signs;
 ghost use Rattle.vc_syntax_tokens.specs.declared.token.Dollar.TheVariants as dollars;
 ghost use Rattle.vc_syntax_tokens.specs.declared.token.Reserved.TheVariants as words;
-ghost use Rattle.vc_syntax_terms.specs.Trees.{term_of, condition_of, binding_of, table_call_of, action_of, statement_of, demand_of, restriction_of};
+ghost use Rattle.vc_syntax_terms.specs.Trees.{term_of, condition_of, binding_of, table_call_of, action_of};
+ghost use Rattle.vc_syntax_terms.specs.Trees.{statement_of, demand_of, restriction_of};
 ghost use Rattle.vc_syntax_print.specs.TermLexemes.{wrapped, term_lexemes};
 ghost use Rattle.vc_syntax_print.specs.ConditionLexemes.{each_behind, separated};
 ghost use Rattle.vc_syntax_print.specs.StatementLexemes as prints;

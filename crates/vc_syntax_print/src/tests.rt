@@ -39,8 +39,10 @@ const TEXTS: [(Kind, &str, &str); 9] = [
     ),
     (
         Kind::Procedure,
-        "$self.a = (1 + $root.b) if c =< 2, $set_default ($self, d, trunc(e)),\n$del_default($self,f,'x') if (?p.g => 1), table if (h = $parent.i, j = ?v).",
-        "$SELF.A = 1 + $ROOT.B IF C <= 2 , $SET_DEFAULT ( $SELF , D , TRUNC ( E ) ) , $DEL_DEFAULT ( $SELF , F , 'x' ) IF ?P.G >= 1 , TABLE IF ( H = $PARENT.I , J = ?V )",
+        "$self.a = (1 + $root.b) if c =< 2, $set_default ($self, d, trunc(e)),\n\
+            $del_default($self,f,'x') if (?p.g => 1), table if (h = $parent.i, j = ?v).",
+        "$SELF.A = 1 + $ROOT.B IF C <= 2 , $SET_DEFAULT ( $SELF , D , TRUNC ( E ) ) , $DEL_DEFAULT ( $SELF , F \
+            , 'x' ) IF ?P.G >= 1 , TABLE IF ( H = $PARENT.I , J = ?V )",
     ),
     (
         Kind::Constraint,
@@ -49,8 +51,18 @@ const TEXTS: [(Kind, &str, &str); 9] = [
     ),
     (
         Kind::Constraint,
-        "* of pumps\nobjects: ?p is_a (300.0) cl0 where ?v = a; ?w = b, ?q is_object (material)(300)(nr = 'M').\ncondition: ((?v = 1) or part_of (?p, ?q)).\nrestriction: false if (part_of (?p, ?q) and (?w in (1 - 5) or ?w specified)),\n  ?p.a ne (2 * (?v + 1)),\n  table t (c = ?p.a, d = floor(?v)) if not (?p.b = 'x').\ninferences: ?p.a, ?v.",
-        "OBJECTS : ?P IS_A ( 300 ) CL0 WHERE ?V = A ; ?W = B , ?Q IS_OBJECT ( MATERIAL ) ( 300 ) ( NR = 'M' ) .\nCONDITION : ?V = 1 OR PART_OF ( ?P , ?Q ) .\nRESTRICTIONS : FALSE IF PART_OF ( ?P , ?Q ) AND ( ?W IN ( 1 - 5 ) OR SPECIFIED ?W ) , ?P.A <> 2 * ( ?V + 1 ) , TABLE T ( C = ?P.A , D = FLOOR ( ?V ) ) IF NOT ?P.B = 'x' .\nINFERENCES : ?P.A , ?V .",
+        "* of pumps\n\
+            objects: ?p is_a (300.0) cl0 where ?v = a; ?w = b, ?q is_object (material)(300)(nr = 'M').\n\
+            condition: ((?v = 1) or part_of (?p, ?q)).\n\
+            restriction: false if (part_of (?p, \
+            ?q) and (?w in (1 - 5) or ?w specified)),\n  ?p.a ne (2 * (?v + 1)),\n  table t (c = ?p.a, \
+            d = floor(?v)) if not (?p.b = 'x').\n\
+            inferences: ?p.a, ?v.",
+        "OBJECTS : ?P IS_A ( 300 ) CL0 WHERE ?V = A ; ?W = B , ?Q IS_OBJECT ( MATERIAL ) ( 300 ) ( NR = 'M' ) .\n\
+            CONDITION : ?V = 1 OR PART_OF ( ?P , ?Q ) .\n\
+            RESTRICTIONS : FALSE IF PART_OF ( ?P , ?Q ) AND ( ?W IN ( 1 - 5 ) OR SPECIFIED ?W ) , \
+            ?P.A <> 2 * ( ?V + 1 ) , TABLE T ( C = ?P.A , D = FLOOR ( ?V ) ) IF NOT ?P.B = 'x' .\n\
+            INFERENCES : ?P.A , ?V .",
     ),
 ];
 

@@ -2,7 +2,8 @@
 
 ghost use Rattle.std.specs.Prelude.{◌≡◌};
 ghost use Rattle.std.specs.Option.{option_copied};
-ghost use Rattle.vc_syntax_terms.specs.Leaves.{name_of, any_name_of, any_named, variable_of, text_of, number_of, after_self, after_sign, after_word, named};
+ghost use Rattle.vc_syntax_terms.specs.Leaves.{name_of, any_name_of, any_named, variable_of, text_of, number_of};
+ghost use Rattle.vc_syntax_terms.specs.Leaves.{after_self, after_sign, after_word, named};
 ghost use Rattle.vc_syntax_terms.specs.Reading.{Gives};
 
 use crate::tree::{NameLeaf, NumberLeaf, TextLeaf};

@@ -23,7 +23,8 @@ const TEXTS: [(&str, usize); 11] = [
     ),
     ("((((((((((((((((((((((((((((((((", 32),
     (
-        "NOT NOT NOT NOT NOT NOT NOT NOT NOT NOT NOT NOT NOT NOT NOT NOT NOT NOT NOT NOT NOT NOT NOT NOT NOT NOT NOT NOT NOT NOT NOT NOT --------------------------------",
+        "NOT NOT NOT NOT NOT NOT NOT NOT NOT NOT NOT NOT NOT NOT NOT NOT NOT NOT NOT NOT NOT NOT NOT NOT NOT \
+            NOT NOT NOT NOT NOT NOT NOT --------------------------------",
         64,
     ),
     ("--------------------------------", 32),

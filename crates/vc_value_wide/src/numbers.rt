@@ -1,7 +1,9 @@
 //! Computed numbers, with the four operations, rounding and the functions.
 
-ghost use Rattle.std.specs.Prelude.{◌≡◌, pos, ◌+◌, ◌-◌, ◌*◌, ◌^◌, ◌<◌, ◌≤◌, ◌+ℤ◌, ◌-ℤ◌, ◌*ℤ◌, unsigned_abs, option_map, IfSome};
-ghost use Rattle.vc_value_wide.specs.Millionths.{one, product, quotient, rounded, sign_of, trunc_of, floor_of, ceil_of, frac_of, stored};
+ghost use Rattle.std.specs.Prelude.{◌≡◌, pos, ◌+◌, ◌-◌, ◌*◌, ◌^◌, ◌<◌, ◌≤◌, ◌+ℤ◌, ◌-ℤ◌, ◌*ℤ◌, unsigned_abs};
+ghost use Rattle.std.specs.Prelude.{option_map, IfSome};
+ghost use Rattle.vc_value_wide.specs.Millionths.{one, product, quotient, rounded, sign_of, trunc_of, floor_of};
+ghost use Rattle.vc_value_wide.specs.Millionths.{ceil_of, frac_of, stored};
 
 use crate::rounding;
 use vc_value::Dec;
