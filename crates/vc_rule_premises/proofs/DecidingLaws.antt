@@ -1,6 +1,8 @@
 -- Where the deciding variables have the same values, the condition is as true.
-use Rattle.std.proofs.Common.{◌≡◌, ℕ, ◌==◌, Bool, true, false, not, ◌||◌, List, [], ◌∷◌, ◌++◌, refl, ◌∙◌, ap, inl, inr}
-use Rattle.std.specs.Prelude.{nat_eq, Option, None, Some, option_map, if◌then◌else◌}
+use Rattle.std.proofs.Common.{◌≡◌, ℕ, Bool, true, false, not, List, [], ◌∷◌, ◌++◌, refl, ◌∙◌, ap, inl, inr}
+use Rattle.std.specs.Prelude.{slice_get, nat_eq, Option, None, Some, option_map}
+use Rattle.std.specs.List.{list_all}
+use Rattle.std.proofs.lemmas.Bool.{and_parts, and_from}
 use Rattle.vc_base.specs.Sets.{Within}
 use Rattle.vc_base.proofs.SetLaws.{has_either, has_front, has_back}
 use Rattle.vc_plan.specs.declared.conditions.Condition.{Condition}
@@ -14,10 +16,11 @@ use Rattle.vc_plan.specs.Numbers.{applied, joined}
 use Rattle.vc_plan.specs.Readings.{net_reading}
 use Rattle.vc_plan.specs.Reads.{vars_in, vars_read}
 use Rattle.vc_plan.specs.Seen.{Seen}
-use Rattle.vc_plan.specs.Truth.{number, number_of_value, value_of_number, term_value, compared, is_in, specified, truth}
+use Rattle.vc_plan.specs.Truth.{number, number_of_value, value_of_number, term_value, compared, is_in, specified, truth, truth_in, truth_at}
 use Rattle.vc_base.proofs.ListLaws.{number_exact, number_itself}
+use Rattle.vc_rule_premises.specs.Citing.{deciding_if}
 use Rattle.vc_rule_premises.specs.Deciding.{both_or_first, deciding, SameValues}
-use Rattle.vc_rule_premises.specs.Laws.{DecidingSuffices, DecidingIsRead}
+use Rattle.vc_rule_premises.specs.Laws.{DecidingSuffices, DecidingIsRead, ActingSuffices}
 
 -- the same values of two lists together are those of each
 same_front : (t s : Seen) (vs ws : List ℕ) → SameValues t s (vs ++ ws) → SameValues t s vs
@@ -160,8 +163,8 @@ parts_within : (both first : Bool) (xs ys vs ws : List ℕ) → Within nat_eq xs
     → Within nat_eq (both_or_first both first xs ys) (vs ++ ws)
 parts_within true first xs ys vs ws f g a h =
     elim (has_either nat_eq number_exact number_itself xs ys a h) [
-    | inl p ↦ has_front nat_eq number_exact number_itself vs ws a (f a p)
-    | inr p ↦ has_back nat_eq number_exact number_itself vs ws a (g a p)
+      | inl p ↦ has_front nat_eq number_exact number_itself vs ws a (f a p)
+      | inr p ↦ has_back nat_eq number_exact number_itself vs ws a (g a p)
     ]
 parts_within false true xs ys vs ws f g a h = has_front nat_eq number_exact number_itself vs ws a (f a h)
 parts_within false false xs ys vs ws f g a h = has_back nat_eq number_exact number_itself vs ws a (g a h)
@@ -180,3 +183,15 @@ deciding_is_read s so (And' p c q d) a h =
 deciding_is_read s so (Or' p c q d) a h =
     parts_within (not so) (is_true (truth (net_reading s) c)) (deciding (net_reading s) so c) (deciding (net_reading s) so d) (vars_read c) (vars_read d)
     (deciding_is_read s so c) (deciding_is_read s so d) a h
+
+condition_suffices : (s t : Seen) (o : Option Condition) → is_true (truth_in (net_reading s) o) ≡ true → SameValues t s (deciding_if s o)
+    → is_true (truth_in (net_reading t) o) ≡ true
+condition_suffices s t None e h = e
+condition_suffices s t (Some c) e h = ap is_true (deciding_suffices s t true c (is_true_is (truth (net_reading s) c) e) h)
+
+pub acting_suffices : ActingSuffices
+acting_suffices plan s t rule e here same =
+    let both : (list_all s.here rule.slots ≡ true) × (is_true (truth_at plan (net_reading s) rule.condition) ≡ true) =
+    and_parts (list_all s.here rule.slots) (is_true (truth_at plan (net_reading s) rule.condition)) e in
+    and_from (list_all t.here rule.slots) (is_true (truth_at plan (net_reading t) rule.condition)) here
+    (condition_suffices s t (slice_get plan.conditions rule.condition) both.1 same)

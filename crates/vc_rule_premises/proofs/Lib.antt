@@ -1,1 +1,2 @@
+pub mod CitingLemmas
 pub mod DecidingLaws

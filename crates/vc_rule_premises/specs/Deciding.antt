@@ -1,5 +1,5 @@
 -- Of which variables the values make a condition true, or false.
-use Rattle.std.specs.Prelude.{◌≡◌, ℕ, Bool, true, false, not, if◌then◌else◌, List, [], ◌∷◌, ◌++◌}
+use Rattle.std.specs.Prelude.{◌≡◌, ℕ, Bool, not, if◌then◌else◌, List, [], ◌∷◌, ◌++◌}
 use Rattle.vc_plan.specs.declared.conditions.Condition.{Condition}
 use Rattle.vc_plan.specs.declared.conditions.Condition.TheVariants.{Always, Compared, IsIn, Specified, Holds, Filled, Not', And', Or'}
 use Rattle.vc_plan.specs.Kleene.{is_true, is_false}

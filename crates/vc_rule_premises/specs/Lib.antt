@@ -1,2 +1,3 @@
+pub mod Citing
 pub mod Deciding
 pub mod Laws

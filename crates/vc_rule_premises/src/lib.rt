@@ -1,4 +1,9 @@
 //! From which atoms of a view a rule concludes.
 #![tactic(auto)]
 
+pub mod acting;
+pub mod citing;
 pub mod laws;
+
+pub use acting::{acts, cite_why_it_acts};
+pub use citing::{cite_deciding, cite_term, cite_value};
