@@ -107,27 +107,41 @@ fn title_of(case: &Case) -> &str {
     std::str::from_utf8(case.title.bytes()).unwrap_or("?")
 }
 
-fn main(rt: HostRuntime) -> io::Result<()> {
-    let mut case: Option<Case> = None;
-    for line in rt.lines(rt.alloc()) {
-        let line = line?;
-        if let Some(heading) = line.as_str().strip_prefix("=== ") {
-            if let Some(done) = &mut case {
-                let result = done.result(rt.alloc())?;
-                println!(rt; "{}: {result}", title_of(done))?;
-            }
-            case = Some(Case::headed(rt.alloc(), heading)?);
-        } else if let Some(open) = &mut case {
-            open.add(line.as_str())?;
-            if matches!(open.form, Form::Cuts) {
-                let result = reading_of(rt.alloc(), open.text.bytes())?;
-                println!(rt; "{}, cut here: {result}", title_of(open))?;
-            }
-        }
+// Prints what the text is read as, if it has a title.
+fn print_result<R: Print>(rt: &R, alloc: Global, case: &mut Case) -> io::Result<()> {
+    if case.title.bytes().is_empty() {
+        return Ok(());
     }
-    if let Some(done) = &mut case {
-        let result = done.result(rt.alloc())?;
-        println!(rt; "{}: {result}", title_of(done))?;
+    let result = case.result(alloc)?;
+    println!(rt; "{}: {result}", title_of(case))
+}
+
+// Adds a line to the text, and prints what its lines so far are read as, where that is wanted.
+fn print_line<R: Print>(rt: &R, alloc: Global, case: &mut Case, line: &str) -> io::Result<()> {
+    case.add(line)?;
+    if matches!(case.form, Form::Cuts) {
+        let result = reading_of(alloc, case.text.bytes())?;
+        println!(rt; "{}, cut here: {result}", title_of(case))?;
     }
     Ok(())
+}
+
+// Begins the next text at its heading.
+fn begin<R: Print>(rt: &R, alloc: Global, case: &mut Case, heading: &str) -> io::Result<()> {
+    print_result(rt, alloc, case)?;
+    *case = Case::headed(alloc, heading)?;
+    Ok(())
+}
+
+fn main(rt: HostRuntime) -> io::Result<()> {
+    let alloc = rt.alloc();
+    let mut case = Case::headed(alloc, "")?;
+    for line in rt.lines(alloc) {
+        let line = line?;
+        match line.as_str().strip_prefix("=== ") {
+            Some(heading) => begin(&rt, alloc, &mut case, heading)?,
+            None => print_line(&rt, alloc, &mut case, line.as_str())?,
+        }
+    }
+    print_result(&rt, alloc, &mut case)
 }
