@@ -7,3 +7,6 @@ pub mod laws;
 
 pub use acting::{acts, cite_why_it_acts};
 pub use citing::{cite_deciding, cite_term, cite_value};
+
+#[cfg(test)]
+mod tests;
