@@ -68,7 +68,8 @@ fn cite_slots(slots: &[u32], out: &mut Yield)
 fn cite_condition<V: View>(plan: &Plan, view: &V, condition: u32, out: &mut Yield)
     requires fit { TermsFit plan.now }
     requires values { LiesInGrains plan.now (V.seen view.now) }
-    ensures { out.new ≡ cited_all out.old (values_of (V.seen view.now) (deciding_if (V.seen view.now) (slice_get plan.now.conditions condition))) }
+    ensures { out.new ≡ cited_all out.old (values_of (V.seen view.now) (deciding_if (V.seen view.now)
+        (slice_get plan.now.conditions condition))) }
 {
     if let Some(condition) = element(plan.conditions.as_slice(), condition) {
         cite_deciding(view, true, condition, out);

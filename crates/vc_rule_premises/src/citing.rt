@@ -39,7 +39,8 @@ pub fn cite_term<V: View>(view: &V, term: &Term, out: &mut Yield)
 /// Cites the values that make the condition true, or false.
 pub fn cite_deciding<V: View>(view: &V, so: bool, condition: &Condition, out: &mut Yield)
     requires { ConditionComputes (net_reading (V.seen view.now)) condition.now }
-    ensures { out.new ≡ cited_all out.old (values_of (V.seen view.now) (deciding (net_reading (V.seen view.now)) so condition.now)) }
+    ensures { out.new ≡ cited_all out.old (values_of (V.seen view.now) (deciding (net_reading (V.seen view.now)) so
+        condition.now)) }
 {
     match condition {
         Condition::Always => {}

@@ -18,7 +18,12 @@ impl View for TwoTexts {
     ghost use Rattle.std.specs.Prelude.{true, false, nat_lt, if◌then◌else◌, None, Some};
     ghost use Rattle.vc_value.specs.declared.value.Value.TheVariants.{Text};
 
-    ghost seen = { λ s. record { here = λ i. true; out = λ v g. false; value = λ v. if nat_lt v 2 then Some (Text v) else None } };
+    ghost seen = { λ s. record {
+      here = λ i. true;
+      out = λ v g. false;
+      value = λ v. if nat_lt v 2 then Some (Text v)
+          else None;
+    } };
 
     fn here(&self, _slot: u32) -> bool {
         true
