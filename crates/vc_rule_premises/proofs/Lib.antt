@@ -1,2 +1,3 @@
 pub mod CitingLemmas
 pub mod DecidingLaws
+pub mod DecidingRows
