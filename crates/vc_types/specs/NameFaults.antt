@@ -8,8 +8,8 @@ use Rattle.vc_syntax_terms.specs.declared.tree.Object.{Object}
 use Rattle.vc_syntax_terms.specs.Trees.{Binding, TableCall, Dependency, Constrains}
 use Rattle.vc_types.specs.Looking.{member_of, table_named, column_in}
 use Rattle.vc_types.specs.Meanings.{Meaning, unknown, self_in_constraint, no_parent, self_in_line, variable_outside, class_meant, variable_named}
-use Rattle.vc_types.specs.Occurrences.{uses_in, calls_in, parted_names, summed_names}
-use Rattle.vc_types.specs.Settings.{Setting, meaning, is_constraint, component_classes}
+use Rattle.vc_types.specs.Occurrences.{uses_in, calls_in, parted_names, summed_names, asks_sum}
+use Rattle.vc_types.specs.Settings.{Setting, meaning, is_constraint, is_line, has_instance, component_classes}
 
 -- an operand of the dependency has a meaning that passes the test
 abbrev pub some_operand : (Meaning → Bool) → Setting → Dependency → Bool
@@ -46,7 +46,7 @@ is_undeclared setting leaf = is_constraint setting.place.at && is_none (variable
 
 abbrev pub is_of_no_part : Setting → NameLeaf → Bool
 is_of_no_part setting leaf =
-    not (is_constraint setting.place.at)
+    has_instance setting.place.at
     && not (list_any (λ class. is_some (member_of setting.model leaf.name (Some class))) (component_classes setting))
 
 abbrev pub unknown_name : Setting → Dependency → Bool
@@ -67,13 +67,14 @@ abbrev pub double_name : Setting → Dependency → Bool
 double_name setting dependency =
     some_twice (map (λ variable. variable.name) setting.variables) || list_any names_column_twice (calls_in dependency)
 
--- a constraint that speaks of an instance otherwise than by a variable; `$PARENT` at the root; `$SELF` in a line
+-- a constraint that speaks of an instance otherwise than by a variable; `$PARENT` at the root; `$SELF` in a line. A part sum
+-- speaks of `$SELF`
 abbrev pub is_self_in_constraint : Meaning → Bool
 is_self_in_constraint self_in_constraint = true
 is_self_in_constraint meaning = false
 
 abbrev pub self_named : Setting → Dependency → Bool
-self_named setting dependency = some_operand is_self_in_constraint setting dependency
+self_named setting dependency = some_operand is_self_in_constraint setting dependency || (is_constraint setting.place.at && asks_sum dependency)
 
 abbrev pub lacks_parent : Meaning → Bool
 lacks_parent no_parent = true
@@ -87,7 +88,7 @@ is_self_in_line self_in_line = true
 is_self_in_line meaning = false
 
 abbrev pub self_of_line : Setting → Dependency → Bool
-self_of_line setting dependency = some_operand is_self_in_line setting dependency
+self_of_line setting dependency = some_operand is_self_in_line setting dependency || (is_line setting.place.at && asks_sum dependency)
 
 -- a `?` variable outside a constraint, of PART_OF too
 abbrev pub is_variable_outside : Meaning → Bool

@@ -1,5 +1,6 @@
 -- What stands in a dependency: its operands, relations, terms and calls of tables.
-use Rattle.std.specs.Prelude.{Bool, true, false, ◌&&◌, List, [], ◌∷◌, ◌++◌, map, flat_map, Option, Some, None}
+use Rattle.std.specs.Prelude.{Bool, ◌||◌, true, false, ◌&&◌, List, [], ◌∷◌, ◌++◌, map, flat_map, Option, Some, None}
+use Rattle.std.specs.List.{list_any}
 use Rattle.vc_syntax_terms.specs.declared.tree.Operand.{Operand as Name}
 use Rattle.vc_syntax_terms.specs.declared.tree.Operand.TheVariants.{Owned}
 use Rattle.vc_syntax_terms.specs.declared.tree.NameLeaf.{NameLeaf}
@@ -192,3 +193,17 @@ summed_in CountOfParts = []
 
 abbrev pub summed_names : Dependency → List NameLeaf
 summed_names dependency = flat_map summed_in (terms_in dependency)
+
+-- whether a part sum stands in a term, and in a dependency; each speaks of `$SELF`
+abbrev pub has_sum : Term → Bool
+has_sum (Number leaf) = false
+has_sum (Text leaf) = false
+has_sum (Operand operand) = false
+has_sum (Negated term) = has_sum term
+has_sum (Combined left operator right) = has_sum left || has_sum right
+has_sum (Applied function term) = has_sum term
+has_sum (SumOfParts name) = true
+has_sum CountOfParts = true
+
+abbrev pub asks_sum : Dependency → Bool
+asks_sum dependency = list_any has_sum (terms_in dependency)

@@ -5,12 +5,12 @@ use Rattle.vc_model_parts.specs.declared.parts.Table.{Table}
 use Rattle.vc_model_parts.specs.declared.parts.TableColumn.{TableColumn}
 use Rattle.vc_syntax_terms.specs.declared.tree.Operand.TheVariants.{Owned}
 use Rattle.vc_syntax_terms.specs.declared.tree.Owner.TheVariants.{Itself}
-use Rattle.vc_syntax_terms.specs.Trees.{Term, Number, Text, Operand, Negated, Combined, Applied, SumOfParts, CountOfParts}
+use Rattle.vc_syntax_terms.specs.Trees.{Term, Operand}
 use Rattle.vc_syntax_terms.specs.Trees.{Condition, Or, And, Not, Related, Specified, PartOf, Binding, TableCall}
 use Rattle.vc_syntax_terms.specs.Trees.{Dependency, Precondition, Selection, Procedure, Constrains, Counts}
 use Rattle.vc_types.specs.Looking.{characteristic_named, table_named, column_in}
 use Rattle.vc_types.specs.NameFaults.{has_some}
-use Rattle.vc_types.specs.Occurrences.{if_there, is_literal, Use, uses_in, calls_in, conditions_in, condition_of_restriction, terms_in, specified_in, parted_in}
+use Rattle.vc_types.specs.Occurrences.{if_there, is_literal, Use, uses_in, calls_in, conditions_in, condition_of_restriction, specified_in, parted_in, asks_sum}
 use Rattle.vc_types.specs.Settings.{Setting, meaning, is_constraint, is_set}
 use Rattle.vc_types.specs.declared.place.At.{At}
 use Rattle.vc_types.specs.declared.place.At.TheVariants as at
@@ -41,16 +41,6 @@ not_monotone setting dependency =
     && (list_any denies_specified (conditions_in dependency) || list_any (uses_set setting) (uses_in dependency))
 
 -- a part sum elsewhere than in a procedure
-abbrev pub has_sum : Term → Bool
-has_sum (Number leaf) = false
-has_sum (Text leaf) = false
-has_sum (Operand operand) = false
-has_sum (Negated term) = has_sum term
-has_sum (Combined left operator right) = has_sum left || has_sum right
-has_sum (Applied function term) = has_sum term
-has_sum (SumOfParts name) = true
-has_sum CountOfParts = true
-
 abbrev pub is_procedure : Dependency → Bool
 is_procedure (Precondition condition) = false
 is_procedure (Selection condition) = false
@@ -59,7 +49,7 @@ is_procedure (Constrains constraint) = false
 is_procedure (Counts term) = false
 
 abbrev pub sum_place : Dependency → Bool
-sum_place dependency = not (is_procedure dependency) && list_any has_sum (terms_in dependency)
+sum_place dependency = not (is_procedure dependency) && asks_sum dependency
 
 -- PART_OF elsewhere than as CONDITION, or as one of the parts that AND joins at its top
 abbrev pub joined_parts : Condition → List Condition

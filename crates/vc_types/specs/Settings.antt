@@ -1,5 +1,5 @@
 -- Where a dependency is typed: the model, the place, and the variables that it declares.
-use Rattle.std.specs.Prelude.{ℕ, Bool, true, false, List, [], slice_get, Option, Some, None, filter_map}
+use Rattle.std.specs.Prelude.{ℕ, Bool, true, false, List, [], slice_get, Option, Some, None, filter_map, not, ◌&&◌}
 use Rattle.vc_model_parts.specs.declared.parts.BillItem.{BillItem}
 use Rattle.vc_model_parts.specs.declared.parts.Characteristic.{Characteristic}
 use Rattle.vc_model_parts.specs.declared.parts.Component.{Component}
@@ -37,6 +37,17 @@ is_constraint at.Characteristic = false
 is_constraint at.Procedure = false
 is_constraint (at.Line configurable) = false
 is_constraint at.Operation = false
+
+abbrev pub is_line : At → Bool
+is_line at.Constraint = false
+is_line at.Characteristic = false
+is_line at.Procedure = false
+is_line (at.Line configurable) = true
+is_line at.Operation = false
+
+-- where `$SELF` is an instance, whose parts can be summed: not in a constraint, and not in a line
+abbrev pub has_instance : At → Bool
+has_instance at = not (is_constraint at) && not (is_line at)
 
 -- texts or numbers
 pub data Sort : Type 0 where

@@ -16,7 +16,7 @@ use Rattle.vc_types.specs.Looking.{member_of, table_named, column_in}
 use Rattle.vc_types.specs.Meanings.{Referent, an_object, a_value, Meaning, object_for_value, value_for_object, class_meant, known, referent_of, variable_named}
 use Rattle.vc_types.specs.NameFaults.{some_operand, objects_in}
 use Rattle.vc_types.specs.Occurrences.{is_equality, Use, uses_in, calls_in, relations_in, terms_in, parted_names, summed_names}
-use Rattle.vc_types.specs.Settings.{Setting, meaning, is_constraint, Sort, of_texts, of_numbers, sort_of_characteristic, sort_meant, is_set, component_classes}
+use Rattle.vc_types.specs.Settings.{Setting, meaning, is_constraint, has_instance, Sort, of_texts, of_numbers, sort_of_characteristic, sort_meant, is_set, component_classes}
 
 -- the sort of a term; none of an operand that means no characteristic
 abbrev pub sort_of : Setting → Term → Option Sort
@@ -125,7 +125,8 @@ declares_set setting object = list_any (aliases_set setting (class_meant setting
 -- a part sum of texts
 abbrev pub sums_texts : Setting → NameLeaf → Bool
 sums_texts setting leaf =
-    list_any (λ class. is_text (sort_meant setting.model (known (member_of setting.model leaf.name (Some class))))) (component_classes setting)
+    has_instance setting.place.at
+    && list_any (λ class. is_text (sort_meant setting.model (known (member_of setting.model leaf.name (Some class))))) (component_classes setting)
 
 abbrev pub wrong_kind : Setting → Dependency → Bool
 wrong_kind setting dependency =

@@ -6,7 +6,7 @@ use Rattle.vc_syntax_terms.specs.declared.tree.Owner.TheVariants.{Itself}
 use Rattle.vc_syntax_terms.specs.declared.tree.Relator.TheVariants.{Equal}
 use Rattle.vc_syntax_terms.specs.Trees.{Binding, Condition, And, Or, Not, PartOf, Specified, Operand, Negated, Combined, SumOfParts, CountOfParts, Precondition, Selection, Procedure, Counts, Constrains, Holds, Never, Assign, Calls, Dependency}
 use Rattle.vc_types.specs.Faults.{fault_of}
-use Rattle.vc_types.specs.declared.fault.TypeFaultKind.TheVariants.{NotMonotone, NoKey, NotATerm, SumPlace, PartOfPlace}
+use Rattle.vc_types.specs.declared.fault.TypeFaultKind.TheVariants.{NotMonotone, SelfInConstraint, SelfInLine, NoKey, NotATerm, SumPlace, PartOfPlace}
 use Rattle.vc_types.proofs.FaultRows.Small.{Quantity, small, in_net, at_root, by_root, at_line, at_plain_line, at_operation, leaf, plain, owned, member, text, number, related, equals, of_class, restricts}
 
 -- SPECIFIED under NOT: in a net and at a configurable line, whatever stands between, also under two
@@ -86,9 +86,15 @@ computed q = refl
 minus_operand : (q : Quantity) → fault_of (small q) in_net (demands (codes "U") (record { column = leaf (codes "N"); value = Negated (Operand (member (codes "X") (codes "N"))) } ∷ [])) ≡ Some NotATerm
 minus_operand q = refl
 
--- part sums: in a procedure, its IF too; nowhere else
+-- part sums: in a procedure, its IF too; nowhere else, and in a net or a line they speak of $SELF, whatever they sum
 sum_in_if : (q : Quantity) → fault_of (small q) by_root (Procedure (record { action = Assign (leaf (codes "N")) (number 1); condition = Some (related (SumOfParts (leaf (codes "W"))) Equal (number 1)) } ∷ [])) ≡ None
 sum_in_if q = refl
+
+sum_in_quantity : (q : Quantity) → fault_of (small q) at_line (Counts (Combined (number 1) Plus (SumOfParts (leaf (codes "Q"))))) ≡ Some SelfInLine
+sum_in_quantity q = refl
+
+count_in_line : (q : Quantity) → fault_of (small q) at_plain_line (Selection (related (number 1) Equal CountOfParts)) ≡ Some SelfInLine
+count_in_line q = refl
 
 count_in_time : (q : Quantity) → fault_of (small q) at_operation (Counts CountOfParts) ≡ Some SumPlace
 count_in_time q = refl
@@ -96,7 +102,7 @@ count_in_time q = refl
 sum_in_precondition : (q : Quantity) → fault_of (small q) at_root (Precondition (related (number 1) Equal (Combined (number 1) Plus (SumOfParts (leaf (codes "W")))))) ≡ Some SumPlace
 sum_in_precondition q = refl
 
-sum_in_net : (q : Quantity) → fault_of (small q) in_net (restricts (of_class (codes "X") (codes "K") ∷ []) (related (number 1) Equal (SumOfParts (leaf (codes "Q"))))) ≡ Some SumPlace
+sum_in_net : (q : Quantity) → fault_of (small q) in_net (restricts (of_class (codes "X") (codes "K") ∷ []) (related (number 1) Equal (SumOfParts (leaf (codes "Q"))))) ≡ Some SelfInConstraint
 sum_in_net q = refl
 
 -- PART_OF: as CONDITION, or as a part that AND joins there, also deeper to the left or right; not under OR, NOT, nor in IF
