@@ -1,5 +1,5 @@
 -- What a text is found to be is what it spells, or its fault.
-use Rattle.std.proofs.Common.{◌≡◌, ℕ, Bool, true, false, cond, List, length, refl, ap, subst, ◌∙◌, Option, Some, None, Result, Ok, Err}
+use Rattle.std.proofs.Common.{◌≡◌, ℕ, Bool, true, false, cond, List, length, refl, ap, sym, subst, ◌∙◌, Option, Some, None, Result, Ok, Err}
 use Rattle.vc_syntax_tokens.specs.declared.token.Token.{Token}
 use Rattle.vc_syntax_tokens.specs.declared.fault.Kind.{Kind}
 use Rattle.vc_syntax_tokens.specs.declared.fault.SyntaxKind.{SyntaxKind}
@@ -13,7 +13,8 @@ use Rattle.vc_syntax.specs.DependencyTexts.{Answers, spelled, judged_if, depende
 use Rattle.vc_syntax_tokens.specs.Limits.{is_too_long, is_too_deep}
 use Rattle.vc_syntax.specs.Spelled as s
 use Rattle.vc_syntax.specs.Spelled.{Spells, IsFault}
-use Rattle.vc_syntax_tokens.specs.Tokens.{tokens_of}
+use Rattle.vc_syntax_tokens.specs.Tokens.{first_ones, tokens_of}
+use Rattle.vc_syntax_tokens.proofs.FirstTokens.{decided}
 use Rattle.vc_syntax_terms.specs.Trees.{Dependency}
 use Rattle.vc_syntax.proofs.DependencyLaws.{dependency_is, reads_dependency}
 
@@ -44,6 +45,15 @@ found_in : (kind : Kind) (text : List ℕ) (o : Result (List Token) SyntaxFault)
 found_in kind text (Ok ts) cut = found_long kind text ts (is_too_long ts) cut refl
 found_in kind text (Err (Bad k place)) cut = fault (s.bad_token cut)
 found_in kind text (Err OutOfMemory) cut = memory
+
+-- the first tokens tell what all of them tell
+judged_first : (kind : Kind) (all : Result (List Token) SyntaxFault) → judged_if kind (first_ones all) ≡ judged_if kind all
+judged_first kind (Err bad) = refl
+judged_first kind (Ok tokens) =
+    decided (λ ts. cond (is_too_deep ts) (Err (Bad faults.TooDeep 0)) (spelled (dependency kind (length ts) ts))) (Err (Bad faults.TooLong 0)) tokens
+
+pub judged_told : (kind : Kind) (all first : Result (List Token) SyntaxFault) → first_ones all ≡ first → judged_if kind all ≡ judged_if kind first
+judged_told kind all first e = sym (judged_first kind all) ∙ ap (judged_if kind) e
 
 -- how a text is what it is found to be
 pub found : (kind : Kind) (text : List ℕ) → Found kind text (dependency_in kind text)

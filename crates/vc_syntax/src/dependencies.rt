@@ -24,7 +24,7 @@ use vc_syntax_terms::reading::{ReadFault, sign_ahead};
 use vc_syntax_terms::terms::sum;
 use vc_syntax_terms::tree::{Condition, Constraint, Dependency, Statement, Term};
 use vc_syntax_tokens::fault::{Kind, SyntaxFault, SyntaxKind};
-use vc_syntax_tokens::lexing::tokens_of;
+use vc_syntax_tokens::lexing::first_tokens;
 use vc_syntax_tokens::limits::{is_too_deep, is_too_long};
 use vc_syntax_tokens::token::{Sign, Token};
 use vc_value::Listed;
@@ -180,7 +180,7 @@ fn read_judged(alloc: Global, text: &[u8], kind: Kind) -> Result<Dependency, Syn
     requires { length text.now < 2 ^ 32 }
     ensures { texts.Answers dependency_of result (texts.dependency_in kind text.now) }
 {
-    let tokens = tokens_of(alloc, text)?;
+    let tokens = first_tokens(alloc, text)?;
     judge(alloc, tokens.as_slice(), kind)
 }
 
@@ -190,7 +190,7 @@ fn read_judged_term(alloc: Global, text: &[u8]) -> Result<Box<Term>, SyntaxFault
     ensures { texts.Answers (λ term. trees.Counts (term_of term.value)) result
         (texts.dependency_in Kind.Term text.now) }
 {
-    let all = tokens_of(alloc, text)?;
+    let all = first_tokens(alloc, text)?;
     judge_term(alloc, all.as_slice())
 }
 

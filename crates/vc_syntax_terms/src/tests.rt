@@ -4,7 +4,7 @@ use crate::conditions::condition;
 use crate::terms::sum;
 use std::alloc::Global;
 use std::test::Fail;
-use vc_syntax_tokens::lexing::tokens_of;
+use vc_syntax_tokens::lexing::first_tokens;
 
 // Each text with how many tokens stand behind the term in front, if there is one.
 const TERMS: [(&str, Option<usize>); 6] = [
@@ -30,7 +30,7 @@ fn left_behind_term(alloc: Global, text: &[u8]) -> Option<usize> {
     if text.len() >= 1_000 {
         return None;
     }
-    let tokens = tokens_of(alloc, text).ok()?;
+    let tokens = first_tokens(alloc, text).ok()?;
     let (_, rest) = sum(alloc, tokens.as_slice(), 20).ok()?;
     Some(rest.len())
 }
@@ -39,7 +39,7 @@ fn left_behind_condition(alloc: Global, text: &[u8]) -> Option<usize> {
     if text.len() >= 1_000 {
         return None;
     }
-    let tokens = tokens_of(alloc, text).ok()?;
+    let tokens = first_tokens(alloc, text).ok()?;
     let (_, rest) = condition(alloc, tokens.as_slice(), 20).ok()?;
     Some(rest.len())
 }

@@ -1,3 +1,4 @@
+pub mod FirstTokens
 pub mod Lengths
 pub mod LexemesAgain
 pub mod LexemesGood

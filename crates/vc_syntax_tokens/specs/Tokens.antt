@@ -1,5 +1,5 @@
 -- The tokens of a text, or its first bad token.
-use Rattle.std.specs.Prelude.{ℕ, suc, zero, ◌+◌, ◌-◌, ◌≡◌, Bool, true, false, ◌==◌, ◌||◌, if◌then◌else◌, Result, Ok, Err, List, [], ◌∷◌}
+use Rattle.std.specs.Prelude.{ℕ, suc, zero, ◌+◌, ◌-◌, ◌≡◌, Bool, true, false, ◌==◌, ◌||◌, if◌then◌else◌, Result, Ok, Err, List, [], ◌∷◌, take}
 use Rattle.vc_syntax_tokens.specs.declared.token.Token.{Token}
 use Rattle.vc_syntax_tokens.specs.declared.fault.SyntaxKind.{SyntaxKind}
 use Rattle.vc_syntax_tokens.specs.declared.fault.SyntaxFault.{SyntaxFault}
@@ -55,6 +55,11 @@ tokens_from place start zero (byte ∷ bytes) = elim (is_gap place byte) [
 -- the tokens of a text, or the first bad one with its kind and place
 abbrev pub tokens_of : List ℕ → Result (List Token) SyntaxFault
 tokens_of text = tokens_from LineStart 0 0 text
+
+-- one more than a dependency may have, if there are so many: these tell whether there are too many
+abbrev pub first_ones : Result (List Token) SyntaxFault → Result (List Token) SyntaxFault
+first_ones (Err fault) = Err fault
+first_ones (Ok tokens) = Ok (take 4001 tokens)
 
 -- what was read is what a definition says, if memory sufficed
 abbrev pub Gives : {A : Type 0} → Result A SyntaxFault → Result A SyntaxFault → Type 0

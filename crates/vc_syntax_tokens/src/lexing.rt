@@ -1,7 +1,7 @@
 //! From a text to its tokens, or to its first bad token.
 
 ghost use Rattle.std.specs.Prelude.{◌≡◌, ◌==◌, ◌&&◌, not, ◌+◌, ◌<◌, ◌≤◌, ◌^◌, true, false, ℕ, List, Ok, length, IfOk};
-ghost use Rattle.std.specs.Prelude.{OnOk};
+ghost use Rattle.std.specs.Prelude.{OnOk, take, ◌++◌, ◌∷◌, []};
 ghost use Rattle.std.specs.List.{list_all};
 ghost use Rattle.std.specs.Char.{is_ascii_digit};
 ghost use Rattle.vc_value.specs.Names.{is_name_byte};
@@ -12,6 +12,7 @@ ghost use Rattle.vc_syntax_tokens.specs.declared.token.Token.{Token};
 ghost use Rattle.vc_syntax_tokens.specs.declared.lexing.LexFault.TheVariants.{OutOfMemory};
 
 use crate::fault::{SyntaxFault, SyntaxKind};
+use crate::limits::MOST_TOKENS;
 use crate::spelling::{dollar_of, reserved_of, sign_of_byte, sign_of_pair};
 use crate::token::{Lexeme, Sign, Token};
 use std::alloc::{AllocError, Global};
@@ -377,10 +378,22 @@ fn place_after(place: Place, byte: u8) -> Place
     }
 }
 
-/// The tokens of the text, or its first bad token.
-pub fn tokens_of(alloc: Global, text: &[u8]) -> Result<Listed<Token>, SyntaxFault>
+// Puts the token to the first ones, if they aren't more than a dependency may have.
+fn keep(tokens: &mut Listed<Token>, token: Token) -> Result<(), AllocError>
+    requires { length tokens.old ≤ 4001 }
+    ensures { OnOk result (tokens.new ≡ take 4001 (tokens.old ++ token ∷ [])) }
+{
+    if tokens.len() <= MOST_TOKENS {
+        tokens.push(token)?;
+    }
+    Ok(())
+}
+
+/// The first tokens of the text, one more than a dependency may have, if it has so many; or the first bad token of
+/// the whole text. So a text of millions of tokens takes no memory for them.
+pub fn first_tokens(alloc: Global, text: &[u8]) -> Result<Listed<Token>, SyntaxFault>
     requires { length text.now < 2 ^ 32 }
-    ensures { tokens.Gives result (tokens.tokens_of text.now) }
+    ensures { tokens.Gives result (tokens.first_ones (tokens.tokens_of text.now)) }
 {
     let mut tokens = Listed::new(alloc);
     let mut place = Place::LineStart;
@@ -396,7 +409,7 @@ pub fn tokens_of(alloc: Global, text: &[u8]) -> Result<Listed<Token>, SyntaxFaul
             rest = &rest[(token.end - start) as usize..];
             start = token.end;
             place = Place::Inside;
-            tokens.push(token)?;
+            keep(&mut tokens, token)?;
         }
     }
     Ok(tokens)

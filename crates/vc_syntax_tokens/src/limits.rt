@@ -1,17 +1,18 @@
 //! How many tokens a dependency may have, and how deep they may nest.
 
-ghost use Rattle.std.specs.Prelude.{◌≡◌, ◌||◌, ◌<◌, ◌≤◌, ◌^◌, length};
+ghost use Rattle.std.specs.Prelude.{◌≡◌, ◌||◌, ◌<◌, ◌≤◌, ◌^◌, Ok, length};
 ghost use Rattle.vc_syntax_tokens.specs.Tokens.{Gives, tokens_of};
 ghost use Rattle.vc_syntax_tokens.specs.Limits as limits;
 ghost use Rattle.vc_syntax_tokens.specs.declared.limits.Prefix.TheVariants.{Negation, Negative};
 
 use crate::fault::{SyntaxFault, SyntaxKind};
-use crate::lexing::tokens_of;
+use crate::lexing::first_tokens;
 use crate::token::{Lexeme, Reserved, Sign, Token};
 use std::alloc::Global;
 use vc_value::Listed;
 
-const MOST_TOKENS: usize = 4000;
+/// How many tokens a dependency may have.
+pub const MOST_TOKENS: usize = 4000;
 
 /// How deep parentheses may nest, and how many NOTs or minuses may stand in a row.
 const DEEPEST: usize = 32;
@@ -114,12 +115,10 @@ pub fn is_too_deep(tokens: &[Token]) -> bool
     nests_deep(tokens) || has_some_long_row(tokens)
 }
 
-/// The tokens of the text; or its first bad token, or that there are too many tokens or that they nest too deep.
-pub fn tokens_within_limits(alloc: Global, text: &[u8]) -> Result<Listed<Token>, SyntaxFault>
-    requires { length text.now < 2 ^ 32 }
-    ensures { Gives result (limits.within_limits (tokens_of text.now)) }
+// The tokens, where they are neither too many nor too deep.
+fn limited(tokens: Listed<Token>) -> Result<Listed<Token>, SyntaxFault>
+    ensures { result ≡ limits.within_limits (Ok tokens) }
 {
-    let tokens = tokens_of(alloc, text)?;
     if is_too_long(tokens.as_slice()) {
         return Err(SyntaxFault::Bad {
             kind: SyntaxKind::TooLong,
@@ -133,4 +132,13 @@ pub fn tokens_within_limits(alloc: Global, text: &[u8]) -> Result<Listed<Token>,
         });
     }
     Ok(tokens)
+}
+
+/// The tokens of the text; or its first bad token, or that there are too many tokens or that they nest too deep.
+pub fn tokens_within_limits(alloc: Global, text: &[u8]) -> Result<Listed<Token>, SyntaxFault>
+    requires { length text.now < 2 ^ 32 }
+    ensures { Gives result (limits.within_limits (tokens_of text.now)) }
+{
+    let tokens = first_tokens(alloc, text)?;
+    limited(tokens)
 }
