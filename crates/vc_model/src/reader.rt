@@ -18,10 +18,10 @@ use vc_model_faults::{ModelFault, ModelFaultKind, Sound, check_lines};
 use vc_model_parts::Model;
 
 // The model that a text without a fault describes, by what its lines say.
-fn describe(alloc: Global, sound: Sound<'_>, text: &[u8]) -> Result<Model, AllocError>
+fn describe(alloc: Global, sound: Sound, text: &[u8]) -> Result<Model, AllocError>
     requires scope { sound.scope ≡ scope_of (backwards [] (lines_of text.now)) }
     requires readings { seen_readings sound.readings ≡ readings_of (backwards [] (lines_of text.now)) [] }
-    requires places { Kept (backwards [] (lines_of text.now)) (seen_places sound.places) }
+    requires places { Kept (backwards [] (lines_of text.now)) (seen_places text.now sound.places) }
     ensures { IfOk result (λ model. seen_model model ≡ model_of (lines_of text.now)) }
 {
     let Sound {

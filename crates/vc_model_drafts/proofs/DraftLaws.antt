@@ -178,13 +178,14 @@ one_more : (line : Line) (earlier : List Line) → length (line ∷ earlier) + 1
 one_more line earlier = omega arith
 
 -- places that are kept in memory, with the last taken off, and none of them
-pub seen_last : (places fewer : List Place) (place : Place) → places ≡ fewer ++ place ∷ [] → seen_places places ≡ seen_places fewer ++ seen_place place ∷ []
+pub seen_last : (text : List ℕ) (places fewer : List Place) (place : Place) → places ≡ fewer ++ place ∷ []
+    → seen_places text places ≡ seen_places text fewer ++ seen_place text place ∷ []
 unfolding seen_places
-seen_last places fewer place e = ap (map seen_place) e ∙ map-append seen_place fewer (place ∷ [])
+seen_last text places fewer place e = ap (map (seen_place text)) e ∙ map-append (seen_place text) fewer (place ∷ [])
 
-pub seen_none : (places : List Place) → places ≡ [] → seen_places places ≡ []
+pub seen_none : (text : List ℕ) (places : List Place) → places ≡ [] → seen_places text places ≡ []
 unfolding seen_places
-seen_none places e = ap (map seen_place) e
+seen_none text places e = ap (map (seen_place text)) e
 
 -- the last place is that of a line behind which all are drafted
 pub record IsAtLine (all : List Line) (a : Scope) (draft : SeenDraft) (readings : List Reading) (fewer : List Numbered) (place : Numbered) : Type 0 where

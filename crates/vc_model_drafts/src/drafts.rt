@@ -679,18 +679,17 @@ fn gather(
     alloc: Global,
     scope: &Scope,
     text: &[u8],
-    places: &mut Listed<Place<'_>>,
+    places: &mut Listed<Place>,
     readings: &mut Listed<Reading>,
     draft: &mut Draft,
 ) -> Result<(), AllocError>
-    requires places { Kept (backwards [] (lines_of text.now)) (seen_places places.old) }
+    requires places { Kept (backwards [] (lines_of text.now)) (seen_places text.now places.old) }
     requires readings { seen_readings readings.old ≡ readings_of (backwards [] (lines_of text.now)) [] }
     requires draft { (number : ℕ) → drafts.seen_draft draft.old ≡ drafts.draft_of scope.now number [] }
     ensures { OnOk result (drafts.seen_draft draft.new ≡ drafts.draft_of scope.now 1 (lines_of text.now)) }
 {
-    let _text = text;
     'lines: while let Some(place) = places.pop() {
-        let line = line_of(alloc, false, place.raw)?;
+        let line = place.read(alloc, text)?;
         put_line(alloc, scope, place.number, line, readings, draft)?;
     }
     Ok(())
@@ -701,10 +700,10 @@ pub fn draft_lines(
     alloc: Global,
     scope: &Scope,
     text: &[u8],
-    places: Listed<Place<'_>>,
+    places: Listed<Place>,
     readings: Listed<Reading>,
 ) -> Result<Draft, AllocError>
-    requires places { Kept (backwards [] (lines_of text.now)) (seen_places places) }
+    requires places { Kept (backwards [] (lines_of text.now)) (seen_places text.now places) }
     requires readings { seen_readings readings ≡ readings_of (backwards [] (lines_of text.now)) [] }
     ensures { IfOk result (λ draft. drafts.seen_draft draft ≡ drafts.draft_of scope.now 1 (lines_of text.now)) }
 {

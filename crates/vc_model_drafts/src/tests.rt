@@ -23,9 +23,9 @@ fn counts_of(alloc: Global, text: &[u8]) -> Option<(usize, usize, usize)> {
     }
 }
 
-fn counts_in(alloc: Global, sound: Sound<'_>, text: &[u8]) -> Option<(usize, usize, usize)>
+fn counts_in(alloc: Global, sound: Sound, text: &[u8]) -> Option<(usize, usize, usize)>
     requires readings { seen_readings sound.readings ≡ readings_of (backwards [] (lines_of text.now)) [] }
-    requires places { Kept (backwards [] (lines_of text.now)) (seen_places sound.places) }
+    requires places { Kept (backwards [] (lines_of text.now)) (seen_places text.now sound.places) }
 {
     let Sound {
         scope,

@@ -11,7 +11,7 @@ use Rattle.vc_model_faults.specs.First.{backwards, readings_of, IsFirstFault, Ha
 use Rattle.vc_model_faults.specs.Found.{Adds}
 use Rattle.vc_model_faults.specs.Kinds.{kind_at}
 use Rattle.vc_model_faults.specs.Places as places
-use Rattle.vc_model_faults.specs.Places.{Numbered, Follows, Kept, seen_place, seen_places}
+use Rattle.vc_model_faults.specs.Places.{Numbered, Follows, Kept, line_at, seen_place, seen_places}
 use Rattle.vc_model_faults.specs.Readings.{Reading, seen_readings}
 use Rattle.vc_model_faults.specs.declared.fault.ModelFaultKind.{ModelFaultKind}
 use Rattle.vc_model_faults.specs.declared.fault.ModelFaultKind.TheVariants.{NoRoot}
@@ -31,15 +31,15 @@ pub record IsChecked (all rest : List Line) (number : ℕ) (scope : Scope) (read
   pub all_are : backwards earlier rest ≡ backwards [] all
   pub fault_is : first_fault number earlier rest ≡ first_fault 1 [] all
 
-pub check_begins : (all : List Line) (scope : Scope) (readings : List StoredReading) (kept : List Place) → scope ≡ scope_of [] → readings ≡ []
-    → kept ≡ [] → IsChecked all all 1 scope (seen_readings readings) (seen_places kept)
+pub check_begins : (text : List ℕ) (all : List Line) (scope : Scope) (readings : List StoredReading) (kept : List Place) → scope ≡ scope_of [] → readings ≡ []
+    → kept ≡ [] → IsChecked all all 1 scope (seen_readings readings) (seen_places text kept)
 unfolding seen_readings seen_places
-check_begins all scope readings kept f t k = record {
+check_begins text all scope readings kept f t k = record {
   earlier = [];
   number_is = refl;
   scope_is = f;
   readings_are = ap seen_readings t;
-  places_are = let P : List Place → Type 0 = λ ps. Kept [] (seen_places ps) in subst P (sym k) places.nothing;
+  places_are = let P : List Place → Type 0 = λ ps. Kept [] (seen_places text ps) in subst P (sym k) places.nothing;
   all_are = refl;
   fault_is = refl;
 }
@@ -84,11 +84,12 @@ adds_quiet line number below scope readings kept next q n =
     }
 
 -- a line that counts is kept behind those before it
-pub keeps : (old new : List Place) (place : Place) → new ≡ old ++ place ∷ [] → Follows (line_of false place.raw.now) place.number (seen_places old) (seen_places new)
+pub keeps : (text : List ℕ) (old new : List Place) (place : Place) → new ≡ old ++ place ∷ []
+    → Follows (line_at text place.start) place.number (seen_places text old) (seen_places text new)
 unfolding seen_places
-keeps old new place e =
-    let P : List Numbered → Type 0 = λ ps. Follows (line_of false place.raw.now) place.number (map seen_place old) ps in
-    subst P (sym (ap (map seen_place) e ∙ map-append seen_place old (place ∷ []))) places.kept
+keeps text old new place e =
+    let P : List Numbered → Type 0 = λ ps. Follows (line_at text place.start) place.number (map (seen_place text) old) ps in
+    subst P (sym (ap (map (seen_place text)) e ∙ map-append (seen_place text) old (place ∷ []))) places.kept
 
 -- the pass came to the text's end
 check_comes : (all rest : List Line) (number : ℕ) (scope : Scope) (readings : List Reading) (kept : List Numbered) → IsChecked all rest number scope readings kept

@@ -1,6 +1,6 @@
 //! A text cut into raw lines, one by one.
 
-ghost use Rattle.std.specs.Prelude.{◌≡◌, [], ◌∷◌, ◌==◌, ◌<◌, length, MatchOption, IfSome};
+ghost use Rattle.std.specs.Prelude.{◌≡◌, [], ◌∷◌, ◌==◌, ◌<◌, ◌-◌, length, drop, MatchOption, IfSome};
 ghost use Rattle.std.specs.List.{position};
 ghost use Rattle.std.specs.Str.Lines.{lines, strip_carriage_return};
 
@@ -30,6 +30,7 @@ pub fn cut(bytes: &[u8]) -> Option<(&[u8], &[u8])>
     ensures lines { MatchOption result (lines bytes.now ≡ [])
         (λ parts. lines bytes.now ≡ parts.0.now ∷ lines parts.1.now) }
     ensures shorter { IfSome result (λ parts. length parts.1.now < length bytes.now) }
+    ensures rest { IfSome result (λ parts. parts.1.now ≡ drop (length bytes.now - length parts.1.now) bytes.now) }
 {
     match line_end(bytes) {
         Some(at) => Some((without_return(&bytes[..at]), &bytes[at + 1..])),
@@ -43,6 +44,7 @@ fn cut_last(bytes: &[u8]) -> Option<(&[u8], &[u8])>
     ensures lines { MatchOption result (lines bytes.now ≡ [])
         (λ parts. lines bytes.now ≡ parts.0.now ∷ lines parts.1.now) }
     ensures shorter { IfSome result (λ parts. length parts.1.now < length bytes.now) }
+    ensures rest { IfSome result (λ parts. parts.1.now ≡ drop (length bytes.now - length parts.1.now) bytes.now) }
 {
     if bytes.is_empty() {
         None
