@@ -1,3 +1,6 @@
+pub mod CitedLaws
 pub mod CitingLemmas
 pub mod DecidingLaws
 pub mod DecidingRows
+pub mod SayingLaws
+pub mod SayingRows

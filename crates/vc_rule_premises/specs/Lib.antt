@@ -1,3 +1,5 @@
+pub mod Cited
 pub mod Citing
 pub mod Deciding
 pub mod Laws
+pub mod Saying
