@@ -4,3 +4,4 @@ pub mod DecidingLaws
 pub mod DecidingRows
 pub mod SayingLaws
 pub mod SayingRows
+pub mod SufficingLaws

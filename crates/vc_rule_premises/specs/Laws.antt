@@ -20,6 +20,7 @@ use Rattle.vc_rule_premises.specs.Cited.{cited_once}
 use Rattle.vc_rule_premises.specs.Citing.{cited_all, deciding_if}
 use Rattle.vc_rule_premises.specs.Deciding.{deciding, SameValues}
 use Rattle.vc_rule_premises.specs.Saying.{Said, given_of, said_from, taken, said_with, held, HasRoomFor}
+use Rattle.vc_rule_premises.specs.Sufficing.{IsPartOf, SaysAll, seen_from}
 
 -- what makes a condition true, or false, does so alone: wherever those variables have the same values it is so too
 abbrev pub DecidingSuffices : Type 0
@@ -58,3 +59,8 @@ FreshIsSaid = (seen : Seen) (premises : List Atom) (given : Given Atom) → give
 abbrev pub RoomSuffices : Type 0
 RoomSuffices = (rooms : Rooms) (why : List Atom) (said : Said) → HasRoomFor rooms (said_with why said)
     → held (taken (cited_all (nothing_in rooms) why) said) ≡ said_with why said
+
+-- what premises that stand say is a part of what is seen, and all of them
+abbrev pub PremisesAreAPart : Type 0
+PremisesAreAPart = (seen : Seen) (premises : List Atom) → seen.here 0 ≡ true → SaysAll seen premises
+    → IsPartOf (seen_from premises) seen × SaysAll (seen_from premises) premises

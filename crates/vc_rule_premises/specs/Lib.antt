@@ -3,3 +3,4 @@ pub mod Citing
 pub mod Deciding
 pub mod Laws
 pub mod Saying
+pub mod Sufficing

@@ -2,7 +2,7 @@
 
 ghost use Rattle.vc_rule_premises.specs.Laws.{DecidingSuffices, DecidingIsRead, ActingSuffices};
 ghost use Rattle.vc_rule_premises.specs.Laws.{AllIsCited, NothingElseIsCited, EachIsCitedOnce, FewAreCited};
-ghost use Rattle.vc_rule_premises.specs.Laws.{FreshIsSaid, RoomSuffices};
+ghost use Rattle.vc_rule_premises.specs.Laws.{FreshIsSaid, RoomSuffices, PremisesAreAPart};
 
 /// What makes a condition true, or false, does so alone.
 pub fn deciding_suffices()
@@ -36,4 +36,9 @@ pub fn room_suffices()
 /// What is said of what a rule gives is that, without what stands already.
 pub fn fresh_is_said()
     ensures { FreshIsSaid }
+{}
+
+/// What premises that stand say is a part of what is seen, and all of them.
+pub fn premises_are_a_part()
+    ensures { PremisesAreAPart }
 {}
