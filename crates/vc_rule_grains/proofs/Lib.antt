@@ -1,0 +1,3 @@
+pub mod GrainLemmas
+pub mod SayLemmas
+pub mod Walking

@@ -1,0 +1,4 @@
+pub mod Confining
+pub mod Kinds
+pub mod Remaining
+pub mod Tests

@@ -1,0 +1,83 @@
+//! How many grains of a variable are left that pass a test.
+
+ghost use Rattle.std.specs.Prelude.{◌≡◌, ◌^◌, ◌<◌, ◌&&◌, if◌then◌else◌};
+ghost use Rattle.vc_plan.specs.Seen.{is_left_by};
+ghost use Rattle.vc_plan.specs.Domains.{atom_count, count_of, is_grain_with};
+ghost use Rattle.vc_rule_grains.specs.Remaining.{remaining_of, with_one, left_by};
+
+use crate::grains::{is_grain_with, is_left_by};
+use crate::testing::Test;
+use vc_plan::{Plan, View, count_of};
+use vc_value::Value;
+
+/// None, one alone, or more.
+#[derive(Clone, Copy, Debug, PartialEq, Eq)]
+pub enum Remaining {
+    Nothing,
+    One(u32),
+    Several,
+}
+
+fn with_one(remaining: Remaining, grain: u32) -> Remaining
+    ensures { result ≡ with_one remaining grain }
+{
+    match remaining {
+        Remaining::Nothing => Remaining::One(grain),
+        _ => Remaining::Several,
+    }
+}
+
+fn count_if(counts: bool, remaining: Remaining, grain: u32) -> Remaining
+    ensures { result ≡ (if counts then with_one remaining grain else remaining) }
+{
+    if counts {
+        with_one(remaining, grain)
+    } else {
+        remaining
+    }
+}
+
+fn is_left_with<V: View, T: Test>(
+    plan: &Plan,
+    view: &V,
+    var: u32,
+    value: Option<Value>,
+    test: &T,
+    grain: u32,
+) -> bool
+    ensures { result ≡ is_left_by plan.now (V.seen view.now) var grain value
+        && is_grain_with plan.now var (T.passes test.now) grain }
+{
+    is_left_by(plan, view, var, grain, value) && is_grain_with(plan, var, test, grain)
+}
+
+/// How many grains are left, where the variable has this value, or none, that pass the test.
+pub fn remaining_of<V: View, T: Test>(
+    plan: &Plan,
+    view: &V,
+    var: u32,
+    value: Option<Value>,
+    test: &T,
+) -> Remaining
+    requires { atom_count plan.now < 2 ^ 32 }
+    ensures { result ≡ remaining_of (left_by plan.now (V.seen view.now) var value (T.passes test.now)) }
+{
+    let count = grain_count(plan, var);
+    let mut remaining = Remaining::Nothing;
+    let mut grain = 0;
+    while grain < count {
+        let counts = is_left_with(plan, view, var, value, test, grain);
+        remaining = count_if(counts, remaining, grain);
+        grain += 1;
+    }
+    remaining
+}
+
+/// How many grains the variable has.
+#[tactic(auto, using(crate::proofs::GrainLemmas::count_within))]
+pub fn grain_count(plan: &Plan, var: u32) -> u32
+    requires { atom_count plan.now < 2 ^ 32 }
+    ensures { result ≡ count_of plan.now var }
+{
+    count_of(plan, var) as u32
+}

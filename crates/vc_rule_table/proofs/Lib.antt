@@ -1,0 +1,5 @@
+pub mod AgreedLemmas
+pub mod CellLemmas
+pub mod CitingSteps
+pub mod ConcludingSteps
+pub mod SaidLaws
