@@ -1,0 +1,2 @@
+pub mod Referents
+pub mod Seen
