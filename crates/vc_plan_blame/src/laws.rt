@@ -1,0 +1,22 @@
+//! Laws of blame, each the contract of a function that does nothing.
+
+ghost use Rattle.vc_plan_blame.specs.Laws.{ExhaustedIsBlamed, ExhaustedIsTouched, OutIsBlamed};
+ghost use Rattle.vc_plan_blame.specs.Laws.{UnclearIsBlamed, ValuesAreBlamed};
+
+/// What can't stand together refutes the sources, whatever numbers cite it: a variable's slot with all its grains out; where
+/// no variable has none left, a value with that its grain is out; and where no grain of either is, two values.
+pub fn collisions_are_blamed()
+    ensures exhausted { ExhaustedIsBlamed }
+    ensures out { OutIsBlamed }
+    ensures values { ValuesAreBlamed }
+{}
+
+/// A variable that one atom more leaves without a grain is one of which the atom takes a grain, or brings the slot.
+pub fn exhausted_is_touched()
+    ensures { ExhaustedIsTouched }
+{}
+
+/// Where one accepted step more makes what is concluded unclear, the clash that `blame` finds refutes the sources.
+pub fn unclear_is_blamed()
+    ensures { UnclearIsBlamed }
+{}

@@ -1,0 +1,12 @@
+//! Each law called once: a law that asked for anything couldn't be.
+
+use crate::laws::{collisions_are_blamed, exhausted_is_touched, unclear_is_blamed};
+use std::test::Fail;
+
+#[test]
+fn laws_ask_for_nothing(_rt: HostRuntime) -> Result<(), Fail> {
+    collisions_are_blamed();
+    exhausted_is_touched();
+    unclear_is_blamed();
+    Ok(())
+}
