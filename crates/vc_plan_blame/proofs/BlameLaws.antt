@@ -1,6 +1,8 @@
 -- Laws of blame.
+pub mod Broken
 pub mod Citing
 pub mod Colliding
+pub mod Growing
 pub mod LastStep
 pub mod Named
 pub mod Origins

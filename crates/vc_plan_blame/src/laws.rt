@@ -1,7 +1,7 @@
 //! Laws of blame, each the contract of a function that does nothing.
 
-ghost use Rattle.vc_plan_blame.specs.Laws.{ExhaustedIsBlamed, ExhaustedIsTouched, OutIsBlamed};
-ghost use Rattle.vc_plan_blame.specs.Laws.{UnclearIsBlamed, ValuesAreBlamed};
+ghost use Rattle.vc_plan_blame.specs.Laws.{BrokenIsBlamed, ExhaustedIsBlamed, ExhaustedIsTouched, OutIsBlamed};
+ghost use Rattle.vc_plan_blame.specs.Laws.{StatusIsThere, UnclearIsBlamed, ValuesAreBlamed};
 
 /// What can't stand together refutes the sources, whatever numbers cite it: a variable's slot with all its grains out; where
 /// no variable has none left, a value with that its grain is out; and where no grain of either is, two values.
@@ -19,4 +19,14 @@ pub fn exhausted_is_touched()
 /// Where one accepted step more makes what is concluded unclear, the clash that `blame` finds refutes the sources.
 pub fn unclear_is_blamed()
     ensures { UnclearIsBlamed }
+{}
+
+/// Where settling with sources that fit a valid plan is broken, some clash refutes them.
+pub fn broken_is_blamed()
+    ensures { BrokenIsBlamed }
+{}
+
+/// Whatever a user set that fits a valid plan, it has a status.
+pub fn statuses_are_there()
+    ensures { StatusIsThere }
 {}

@@ -1,6 +1,9 @@
 //! Each law called once: a law that asked for anything couldn't be.
 
-use crate::laws::{collisions_are_blamed, exhausted_is_touched, unclear_is_blamed};
+use crate::laws::{
+    broken_is_blamed, collisions_are_blamed, exhausted_is_touched, statuses_are_there,
+    unclear_is_blamed,
+};
 use std::test::Fail;
 
 #[test]
@@ -8,5 +11,7 @@ fn laws_ask_for_nothing(_rt: HostRuntime) -> Result<(), Fail> {
     collisions_are_blamed();
     exhausted_is_touched();
     unclear_is_blamed();
+    broken_is_blamed();
+    statuses_are_there();
     Ok(())
 }

@@ -226,7 +226,7 @@ var_there : (plan : Plan) (v i : ℕ) (o : Option Var) → slice_get plan.vars v
 var_there plan v i None q e = absurd (cc)
 var_there plan v i (Some x) q e = get_below plan.vars v x q
 
-grain_out : (plan : Plan) (set : List Atom) (v g : ℕ) → are_all_out plan (seen_of set) v ≡ true → g < count_of plan v
+pub grain_out : (plan : Plan) (set : List Atom) (v g : ℕ) → are_all_out plan (seen_of set) v ≡ true → g < count_of plan v
     → has same_atom set (Out v g) ≡ true
 grain_out plan set v g all below =
     all_at nat_eq number_exact number_itself (λ k. has same_atom set (Out v k)) (numbers_below (count_of plan v)) g all

@@ -33,13 +33,13 @@ use Rattle.vc_plan_reasons.specs.Refuting.{is_blamable, is_of_constraint, is_ori
 use Rattle.vc_plan_blame.specs.Blame.{culprit_from, first_culprit, or_else}
 
 -- what is given is said
-unfresh : (s : Seen) (x : Given Atom) (a : Atom) → has same_atom (atoms_of (fresh s x)) a ≡ true
+pub unfresh : (s : Seen) (x : Given Atom) (a : Atom) → has same_atom (atoms_of (fresh s x)) a ≡ true
     → has same_atom (atoms_of x) a ≡ true
 unfresh s clash a h = h
 unfresh s (atoms xs) a h = (has_filter same_atom atom_exact atom_itself (λ b. not (says s b)) xs a h).0
 
 -- what is said under a test
-if_said : (b : Bool) (x : Given Atom) (a : Atom) → has same_atom (atoms_of (cond b x nothing)) a ≡ true
+pub if_said : (b : Bool) (x : Given Atom) (a : Atom) → has same_atom (atoms_of (cond b x nothing)) a ≡ true
     → has same_atom (atoms_of x) a ≡ true
 if_said true x a h = h
 if_said false x a h = absurd (cc)

@@ -45,7 +45,7 @@ step_at : (plan : Plan) (sources : Sources) (log : List Step) (a : Atom) → is_
 step_at plan sources log a e c = step_follows plan sources [] log c.place c.step e c.is
 
 -- what is concluded is named, and the plan has a root
-rooted : (plan : Plan) → IsValid plan → nat_lt 0 (length plan.slots) ≡ true
+pub rooted : (plan : Plan) → IsValid plan → nat_lt 0 (length plan.slots) ≡ true
 rooted plan valid = by plan.slots valid.root
   where
     by : (slots : List Slot) → is_root (slice_get slots 0) ≡ true → nat_lt 0 (length slots) ≡ true
@@ -75,14 +75,14 @@ out_culprit plan sources log (Out v g) e o c =
 out_culprit plan sources log (Is v x) e o c = absurd (cc)
 
 -- a variable that is exhausted is one of the plan, and has a grain
-exhausted_there : (plan : Plan) (set : List Atom) (v : ℕ) → is_exhausted plan (seen_of set) v ≡ true → v < length plan.vars
+pub exhausted_there : (plan : Plan) (set : List Atom) (v : ℕ) → is_exhausted plan (seen_of set) v ≡ true → v < length plan.vars
 exhausted_there plan set v e =
     elim (cases_lt v (length plan.vars)) [
       | inl below ↦ below
       | inr past ↦ absurd (both e (not_exhausted_past plan (seen_of set) v past))
     ]
 
-some_grain : (plan : Plan) (v : ℕ) → IsValid plan → v < length plan.vars → 0 < count_of plan v
+pub some_grain : (plan : Plan) (v : ℕ) → IsValid plan → v < length plan.vars → 0 < count_of plan v
 some_grain plan v valid below =
     ltb-true 0 (count_of plan v)
     (all_at nat_eq number_exact number_itself (λ w. nat_lt 0 (count_of plan w)) (numbers_below (length plan.vars)) v
