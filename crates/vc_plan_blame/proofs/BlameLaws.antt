@@ -1,6 +1,7 @@
 -- Laws of blame.
 pub mod Broken
 pub mod Citing
+pub mod Clashing
 pub mod Colliding
 pub mod Growing
 pub mod LastStep

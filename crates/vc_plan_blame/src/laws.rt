@@ -1,10 +1,18 @@
 //! Laws of blame, each the contract of a function that does nothing.
 
-ghost use Rattle.vc_plan_blame.specs.Laws.{BrokenIsBlamed, ExhaustedIsBlamed, ExhaustedIsTouched, OutIsBlamed};
-ghost use Rattle.vc_plan_blame.specs.Laws.{StatusIsThere, UnclearIsBlamed, ValuesAreBlamed};
+ghost use Rattle.vc_plan_blame.specs.Laws.{BrokenIsBlamed, ClashingIsBlamed, CollidingIsBlamed, ExhaustedIsBlamed};
+ghost use Rattle.vc_plan_blame.specs.Laws.{ExhaustedIsTouched, OutIsBlamed, StatusIsThere, UnclearIsBlamed};
+ghost use Rattle.vc_plan_blame.specs.Laws.{ValuesAreBlamed};
 
-/// What can't stand together refutes the sources, whatever numbers cite it: a variable's slot with all its grains out; where
-/// no variable has none left, a value with that its grain is out; and where no grain of either is, two values.
+/// A clash refutes the sources where what it cites can't stand together, each of it is needed for that, and some of it
+/// has a culprit; and where a rule or source clashes at what it cites, of what that reads.
+pub fn citing_clashes_refute()
+    ensures collisions { CollidingIsBlamed }
+    ensures clashes { ClashingIsBlamed }
+{}
+
+/// What can't stand together refutes the sources, whatever numbers cite it: a variable's slot with all its grains out;
+/// where every variable has one left, a value with that its grain is out; and where no grain of either is, two values.
 pub fn collisions_are_blamed()
     ensures exhausted { ExhaustedIsBlamed }
     ensures out { OutIsBlamed }

@@ -20,10 +20,10 @@ use Rattle.vc_plan.specs.Sources.{Sources}
 use Rattle.vc_plan.proofs.PlanLaws.Atoms.{atom_exact, atom_itself}
 use Rattle.vc_plan_reasons.specs.Checking.{concluded, follows, is_accepted, set_with, step_form}
 use Rattle.vc_plan_reasons.specs.Refuting.{contradicts, is_blamable, is_clash_at, is_collision, is_origin, set_without}
-use Rattle.vc_plan_blame.specs.Blame.{clash_by, clash_citing, culprit_among, culprit_from, number_of}
-use Rattle.vc_plan_blame.specs.Laws.{Blames}
+use Rattle.vc_plan_blame.specs.Blame.{clash_by, clash_citing, clash_of, culprit_among, culprit_from, culprit_of, number_of}
+use Rattle.vc_plan_blame.specs.Laws.{Blames, CollidingIsBlamed}
 use Rattle.vc_plan_blame.proofs.BlameLaws.Colliding.{Colliding}
-use Rattle.vc_plan_blame.proofs.BlameLaws.Origins.{Found, culprit_found}
+use Rattle.vc_plan_blame.proofs.BlameLaws.Origins.{first_ok, first_there}
 
 -- an atom of a list by its first place
 place_found : (xs : List Atom) (a : Atom) → has same_atom xs a ≡ true → slice_get xs (position_or_len (same_atom a) xs) ≡ Some a
@@ -96,30 +96,40 @@ citing log (suc n ∷ numbers) premises e =
       ];
     }
 
--- premises that can't stand together, of which one has a culprit, refute
+-- premises that can't stand together refute, with a culprit of theirs
+all_there_of : (plan : Plan) (o : Option (List Origin)) (culprit : Culprit) → culprit_among plan o ≡ Some culprit
+    → (is_blamable plan culprit ≡ true) × (all_pass (list_any (is_origin culprit)) o ≡ true)
+all_there_of plan None culprit e = absurd (cc)
+all_there_of plan (Some from) culprit e = first_ok plan from culprit e
+
+pub colliding_is_blamed : CollidingIsBlamed
+colliding_is_blamed plan sources log numbers premises culprit accepts cites unclear apart is =
+    let clash = clash_of log numbers culprit in
+    let origins = cited (map (λ step. step.origin) log) numbers in
+    let clear = is_clear plan (set_with premises) in
+    let needed = list_all (λ atom. is_clear plan (set_without atom (set_with premises))) premises in
+    let ok = all_there_of plan origins culprit is in
+    let gave = all_pass (list_any (is_origin culprit)) origins in
+    let collision : is_collision plan culprit premises origins ≡ true
+    = and_from (not clear) (needed && gave) (not_from_false clear unclear) (and_from needed gave apart ok.1) in
+    let holds : contradicts plan sources clash premises ≡ true
+    = or_right (is_clash_at plan sources culprit premises) (is_collision plan culprit premises origins) collision in
+    and_from (is_accepted plan sources log && is_blamable plan culprit)
+    (all_pass (contradicts plan sources clash) (cited (concluded log) numbers))
+    (and_from (is_accepted plan sources log) (is_blamable plan culprit) accepts ok.0)
+    (ap (all_pass (contradicts plan sources clash)) cites ∙ holds)
+
+-- so they do where one of them has a culprit
 pub blames : (plan : Plan) (sources : Sources) (log : List Step) (numbers : List ℕ) (premises : List Atom)
     → is_accepted plan sources log ≡ true → cited (concluded log) numbers ≡ Some premises → Colliding plan premises
     → (c : Citing log numbers premises) (origin : Origin) (culprit : Culprit) → IsIn origin c.from
     → culprit_from plan origin ≡ Some culprit → Blames plan sources (clash_citing plan log numbers)
 blames plan sources log numbers premises accepts cites collides c origin culprit within is =
-    let f : Found plan c.from = culprit_found plan c.from origin culprit within is in
-    let clash : Clash = record { steps = log; culprit = f.culprit; premises = numbers } in
-    let origins = cited (map (λ step. step.origin) log) numbers in
-    let clear = is_clear plan (set_with premises) in
-    let needed = list_all (λ atom. is_clear plan (set_without atom (set_with premises))) premises in
-    let gave : all_pass (list_any (is_origin f.culprit)) origins ≡ true
-    = ap (all_pass (list_any (is_origin f.culprit))) c.is ∙ f.gave in
-    let collision : is_collision plan f.culprit premises origins ≡ true
-    = and_from (not clear) (needed && all_pass (list_any (is_origin f.culprit)) origins) (not_from_false clear collides.unclear)
-    (and_from needed (all_pass (list_any (is_origin f.culprit)) origins) collides.needed gave) in
-    let holds : contradicts plan sources clash premises ≡ true
-    = or_right (is_clash_at plan sources f.culprit premises) (is_collision plan f.culprit premises origins) collision in (
-      clash,
-      ap (λ o. clash_by log numbers (culprit_among plan o)) c.is ∙ ap (clash_by log numbers) f.is,
-      and_from (is_accepted plan sources log && is_blamable plan f.culprit)
-          (all_pass (contradicts plan sources clash) (cited (concluded log) numbers))
-          (and_from (is_accepted plan sources log) (is_blamable plan f.culprit) accepts f.blamable)
-          (ap (all_pass (contradicts plan sources clash)) cites ∙ holds),
+    let f = first_there plan c.from origin culprit within is in
+    let first : culprit_of plan log numbers ≡ Some f.0 = ap (culprit_among plan) c.is ∙ f.1 in (
+      clash_of log numbers f.0,
+      ap (clash_by log numbers) first,
+      colliding_is_blamed plan sources log numbers premises f.0 accepts cites collides.unclear collides.needed first,
     )
 
 -- each step of an accepted list follows from atoms that the list concludes

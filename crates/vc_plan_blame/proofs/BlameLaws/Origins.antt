@@ -245,38 +245,35 @@ culprit_ok plan (origins.Written procedure statement) culprit e =
           (eq-eqb statement statement refl)),
     )
 
--- so where one of the origins has one, the first that there is can be to blame, and is of one of them
-pub record Found (plan : Plan) (from : List Origin) : Type 0 where
-  pub culprit : Culprit
-  pub is : first_culprit plan from ≡ Some culprit
-  pub blamable : is_blamable plan culprit ≡ true
-  pub gave : list_any (is_origin culprit) from ≡ true
-
-pub culprit_found : (plan : Plan) (from : List Origin) (origin : Origin) (culprit : Culprit) → IsIn origin from
-    → culprit_from plan origin ≡ Some culprit → Found plan from
-culprit_found plan [] origin culprit i e = absurd i
-culprit_found plan (first ∷ from) origin culprit i e =
-    choice (culprit_from plan first) refl (λ later. culprit_found plan from origin culprit later e)
+-- so is the first that there is, of one of the origins
+pub first_ok : (plan : Plan) (from : List Origin) (culprit : Culprit) → first_culprit plan from ≡ Some culprit
+    → (is_blamable plan culprit ≡ true) × (list_any (is_origin culprit) from ≡ true)
+first_ok plan [] culprit e = absurd (cc)
+first_ok plan (origin ∷ from) culprit e = choice (culprit_from plan origin) refl e (first_ok plan from culprit)
   where
-    choice : (o : Option Culprit) → culprit_from plan first ≡ o → (IsIn origin from → Found plan from) → Found plan (first ∷ from)
-    choice (Some c) q next =
-        let ok = culprit_ok plan first c q in
-        record {
-          culprit = c;
-          is = ap (λ o. or_else o (first_culprit plan from)) q;
-          blamable = ok.0;
-          gave = or_left (is_origin c first) (list_any (is_origin c) from) ok.1;
-        }
+    choice : (o : Option Culprit) → culprit_from plan origin ≡ o → or_else o (first_culprit plan from) ≡ Some culprit
+        → (first_culprit plan from ≡ Some culprit
+        → (is_blamable plan culprit ≡ true) × (list_any (is_origin culprit) from ≡ true))
+        → (is_blamable plan culprit ≡ true) × (list_any (is_origin culprit) (origin ∷ from) ≡ true)
+    choice (Some c) q k next =
+        let ok = culprit_ok plan origin culprit (q ∙ k) in
+        (ok.0, or_left (is_origin culprit origin) (list_any (is_origin culprit) from) ok.1)
+    choice None q k next =
+        let ok = next k in (ok.0, or_right (is_origin culprit origin) (list_any (is_origin culprit) from) ok.1)
+
+-- and where one of the origins has a culprit, there is a first
+pub first_there : (plan : Plan) (from : List Origin) (origin : Origin) (culprit : Culprit) → IsIn origin from
+    → culprit_from plan origin ≡ Some culprit → (first : Culprit) × (first_culprit plan from ≡ Some first)
+first_there plan [] origin culprit i e = absurd i
+first_there plan (other ∷ from) origin culprit i e =
+    choice (culprit_from plan other) refl (λ later. first_there plan from origin culprit later e)
+  where
+    choice : (o : Option Culprit) → culprit_from plan other ≡ o
+        → (IsIn origin from → (first : Culprit) × (first_culprit plan from ≡ Some first))
+        → (first : Culprit) × (or_else o (first_culprit plan from) ≡ Some first)
+    choice (Some c) q next = (c, refl)
     choice None q next =
-        let later : IsIn origin from
-        = elim i [
+        next (elim i [
           | inl same ↦ absurd (let no : None ≡ Some culprit = sym q ∙ (ap (culprit_from plan) (sym same) ∙ e) in cc)
-          | inr k ↦ k
-        ] in
-        let f : Found plan from = next later in
-        record {
-          culprit = f.culprit;
-          is = ap (λ o. or_else o (first_culprit plan from)) q ∙ f.is;
-          blamable = f.blamable;
-          gave = or_right (is_origin f.culprit first) (list_any (is_origin f.culprit) from) f.gave;
-        }
+          | inr later ↦ later
+        ])

@@ -16,13 +16,15 @@ use Rattle.vc_plan.specs.declared.conditions.Relation.TheVariants.{Equal, Unequa
 use Rattle.vc_plan.specs.declared.plans.Plan.{Plan}
 use Rattle.vc_plan.specs.declared.rules.Kind.TheVariants.{Among}
 use Rattle.vc_plan.specs.declared.rules.Restriction.TheVariants.{Against}
+use Rattle.vc_plan.specs.Gives.{by_rule, by_entry}
+use Rattle.vc_plan.specs.Gives as givers
 use Rattle.vc_plan.specs.Settle.{settlement_of}
 use Rattle.vc_plan.specs.Sources.{Sources}
 use Rattle.vc_plan.proofs.PlanRows.Models.{empty, fixed_var, last, open_var, pump, root, rule, three_grains, users, whole}
 use Rattle.vc_plan_reasons.specs.Fitting.{sources_fit}
 use Rattle.vc_plan_reasons.specs.Refuting.{refutes}
 use Rattle.vc_plan_reasons.proofs.ReasonRows.Steps.{step, by_user, clash_of, large_size, no_e1, no_e2}
-use Rattle.vc_plan_blame.specs.Blame.{blame, clash_citing, culprit_from, culprit_of}
+use Rattle.vc_plan_blame.specs.Blame.{blame, culprit_from, culprit_giving, culprit_of}
 
 -- whether there is a clash, and it refutes
 abbrev refuted_by : Plan → Sources → Option Clash → Bool
@@ -167,6 +169,19 @@ of_table = refl
 
 of_no_rule : culprit_from pump (Rule 4) ≡ None
 of_no_rule = refl
+
+-- whom a giver blames that clashes: the statement that wrote the entry, where there is one
+of_entry : culprit_giving large_stated (by_entry 1) ≡ Some (culprits.Written 0 0)
+of_entry = refl
+
+of_other_entry : culprit_giving large_stated (by_entry 0) ≡ None
+of_other_entry = refl
+
+of_user_value : culprit_giving large_stated (givers.by_user 0) ≡ None
+of_user_value = refl
+
+of_rule : culprit_giving large_stated (by_rule 3) ≡ Some (culprits.Rule 3)
+of_rule = refl
 
 -- a value in no grain contradicts alone, and nobody is to blame for it: such sources don't fit
 abbrev alone : Plan
