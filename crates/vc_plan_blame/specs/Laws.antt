@@ -1,5 +1,5 @@
 -- Laws of blame: each way in which sources contradict each other has a culprit.
-use Rattle.std.specs.Prelude.{◌≡◌, ℕ, Bool, true, false, ◌&&◌, ◌||◌, List, [], ◌∷◌, ◌++◌, Option, None, Some}
+use Rattle.std.specs.Prelude.{◌≡◌, ℕ, true, false, ◌&&◌, ◌||◌, List, [], ◌∷◌, ◌++◌, Option, None, Some}
 use Rattle.std.specs.List.{list_all, list_any}
 use Rattle.vc_base.specs.Chains.{cited}
 use Rattle.vc_base.specs.Rounds.{broken, is_clash}

@@ -1,12 +1,11 @@
 -- Where settling is broken, an accepted list grows until a clash refutes: it can't end at a closed set. So each broken
 -- evaluation has a status.
-use Rattle.std.proofs.Common.{◌≡◌, ℕ, zero, suc, ◌+◌, ◌<◌, ◌≤◌, Bool, true, false, cond, ◌&&◌, List, [], ◌∷◌, ◌++◌, length, refl, sym, ◌∙◌, ap, subst, inl, inr, arith}
-use Rattle.std.specs.Prelude.{nat_eq, nat_lt}
-use Rattle.std.specs.List.{IsDistinct, list_all, list_any}
-use Rattle.std.proofs.lemmas.Bool.{and_parts, false_from_ne_true, ltb-true}
+use Rattle.std.proofs.Common.{◌≡◌, ℕ, zero, suc, ◌+◌, ◌<◌, ◌≤◌, true, false, List, [], ◌∷◌, ◌++◌, length, refl, sym, ◌∙◌, ap, subst, inl, inr, arith}
+use Rattle.std.specs.List.{IsDistinct}
+use Rattle.std.proofs.lemmas.Bool.{and_parts, false_from_ne_true}
 use Rattle.vc_base.specs.Rounds.{Settlement, broken, settled, all_given, atoms_of, is_clash, some_clash}
 use Rattle.vc_base.specs.Sets.{has, Within}
-use Rattle.vc_base.proofs.SetLaws.{both, has_back, has_cases, has_either, has_first, has_front, has_more, none_from, told, within_cons}
+use Rattle.vc_base.proofs.SetLaws.{both, has_back, has_cases, has_first, has_front, none_from, told, within_cons}
 use Rattle.vc_base.proofs.Settling.{any_at}
 use Rattle.vc_base.proofs.Settling as settling
 use Rattle.vc_plan.specs.declared.atoms.Atom.{Atom}
@@ -17,10 +16,10 @@ use Rattle.vc_plan.specs.declared.plans.Plan.{Plan}
 use Rattle.vc_plan.specs.declared.shown.Status.{Status}
 use Rattle.vc_plan.specs.declared.shown.Status.TheVariants.{Contradiction}
 use Rattle.vc_plan.specs.Clear.{are_all_out, collides, is_clear, is_exhausted, is_named}
-use Rattle.vc_plan.specs.Domains.{atom_count, count_of}
+use Rattle.vc_plan.specs.Domains.{atom_count}
 use Rattle.vc_plan.specs.Entries.{Entries, no_entries}
 use Rattle.vc_plan.specs.Evaluate.{Evaluated, broken_at, reached, Users, between, evaluation_of, if_settled, last_set, sources_of, stages_from}
-use Rattle.vc_plan.specs.Gives.{Giver, gives, givers_of}
+use Rattle.vc_plan.specs.Gives.{gives, givers_of}
 use Rattle.vc_plan.specs.Laws.{IsClosed}
 use Rattle.vc_plan.specs.Seen.{is_here, same_atom, seen_of}
 use Rattle.vc_plan.specs.Settle.{base, settlement_of, system_of}
@@ -41,7 +40,7 @@ use Rattle.vc_plan_reasons.specs.Refuting.{refutes}
 use Rattle.vc_plan_reasons.proofs.ReasonLaws.Blaming.{clashes_are_blamed}
 use Rattle.vc_plan_reasons.proofs.ReasonLaws.Fitting.{evaluations_fit}
 use Rattle.vc_plan_blame.specs.Laws.{BrokenIsBlamed, IsSettling, StatusIsThere}
-use Rattle.vc_plan_blame.proofs.BlameLaws.Colliding.{HasRoom, grain_out, slot_apart}
+use Rattle.vc_plan_blame.proofs.BlameLaws.Colliding.{grain_out, slot_apart}
 use Rattle.vc_plan_blame.proofs.BlameLaws.Growing.{NextStep, given_new, next_step}
 use Rattle.vc_plan_blame.proofs.BlameLaws.LastStep.{concluded_next, unclear_is_blamed}
 use Rattle.vc_plan_blame.proofs.BlameLaws.Unclear.{exhausted_there, rooted, some_grain}

@@ -9,7 +9,6 @@ use Rattle.vc_base.proofs.ChainLaws.{accepted_parts, all_there, cited_within, ge
 use Rattle.vc_base.proofs.SetLaws.{has_cases, has_first, has_front, has_more}
 use Rattle.vc_base.proofs.Settling.{IsIn}
 use Rattle.vc_plan.specs.declared.atoms.Atom.{Atom}
-use Rattle.vc_plan.specs.declared.atoms.Clash.{Clash}
 use Rattle.vc_plan.specs.declared.atoms.Culprit.{Culprit}
 use Rattle.vc_plan.specs.declared.atoms.Origin.{Origin}
 use Rattle.vc_plan.specs.declared.atoms.Step.{Step}

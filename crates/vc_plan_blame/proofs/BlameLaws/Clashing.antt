@@ -1,5 +1,5 @@
 -- Whoever clashes at what is cited is a constraint's rule, or an entry by a statement, and is to blame.
-use Rattle.std.proofs.Common.{◌≡◌, ℕ, ◌<◌, Bool, true, false, cond, ◌&&◌, ◌||◌, List, [], ◌∷◌, length, map, refl, sym, ◌∙◌, ap, inl, inr, arith}
+use Rattle.std.proofs.Common.{◌≡◌, ℕ, ◌<◌, Bool, true, false, cond, ◌&&◌, List, [], ◌∷◌, length, map, refl, sym, ◌∙◌, ap, inl, inr, arith}
 use Rattle.std.specs.Prelude.{Option, None, Some, nat_eq, slice_get, ◌==◌}
 use Rattle.std.specs.List.{list_any}
 use Rattle.std.specs.Option.{option_to_list}
@@ -12,7 +12,6 @@ use Rattle.vc_value.specs.declared.value.Value.{Value}
 use Rattle.vc_plan.specs.declared.atoms.Atom.{Atom}
 use Rattle.vc_plan.specs.declared.atoms.Culprit.{Culprit}
 use Rattle.vc_plan.specs.declared.atoms.Culprit.TheVariants as culprits
-use Rattle.vc_plan.specs.declared.atoms.Step.{Step}
 use Rattle.vc_plan.specs.declared.plans.Plan.{Plan}
 use Rattle.vc_plan.specs.declared.procedures.Procedure.{Procedure}
 use Rattle.vc_plan.specs.declared.rules.Kind.{Kind}
@@ -31,7 +30,7 @@ use Rattle.vc_plan_reasons.specs.Refuting.{contradicts, culprit_clashes, culprit
 use Rattle.vc_plan_reasons.specs.Things.{giver_reads, slot_at, slots_of_var}
 use Rattle.vc_plan_reasons.proofs.ReasonLaws.Givers.{entry_var_there}
 use Rattle.vc_plan_blame.specs.Blame.{clash_by, clash_of, culprit_giving, culprit_wrote}
-use Rattle.vc_plan_blame.specs.Laws.{Blames, ClashingIsBlamed}
+use Rattle.vc_plan_blame.specs.Laws.{ClashingIsBlamed}
 use Rattle.vc_plan_blame.proofs.BlameLaws.Sources.{entry_fit_at}
 
 -- whoever clashes

@@ -1,14 +1,13 @@
 -- What can't stand together: two atoms at odds, and what exhausts a variable; without any one of them the rest can.
-use Rattle.std.proofs.Common.{◌≡◌, ℕ, zero, suc, ◌<◌, ◌≤◌, Bool, true, false, cond, not, ◌&&◌, ◌||◌, ◌⊎◌, List, [], ◌∷◌, ◌++◌, length, map, refl, sym, ◌∙◌, ap, subst, inl, inr, arith}
+use Rattle.std.proofs.Common.{◌≡◌, ℕ, ◌<◌, Bool, true, false, cond, not, ◌&&◌, ◌⊎◌, List, [], ◌∷◌, length, map, refl, sym, ◌∙◌, ap, subst, inl, inr, arith}
 use Rattle.std.specs.Prelude.{Option, None, Some, nat_eq, nat_lt, slice_get, ◌==◌}
-use Rattle.std.specs.List.{filter, list_all, list_any}
+use Rattle.std.specs.List.{filter, list_all}
 use Rattle.std.specs.Option.{option_to_list}
-use Rattle.std.proofs.lemmas.Bool.{and_parts, and_from, and_cases, cases_lt, eq-eqb, eqb-true, false_from_ne_true, lt-ltb, ltb-true, not-true, not_from_false, or_cases}
+use Rattle.std.proofs.lemmas.Bool.{and_parts, and_from, eq-eqb, eqb-true, false_from_ne_true, ltb-true, not-true, or_cases}
 use Rattle.vc_base.specs.Sets.{has, Within}
 use Rattle.vc_base.proofs.ChainLaws.{get_below}
 use Rattle.vc_base.proofs.ListLaws.{has_range, number_exact, number_itself, range_has}
-use Rattle.vc_base.proofs.SetLaws.{all_at, all_from, both, has_back, has_cases, has_either, has_filter, has_first, has_front, has_more, told}
-use Rattle.vc_value.specs.declared.value.Value.{Value}
+use Rattle.vc_base.proofs.SetLaws.{all_at, all_from, both, has_back, has_cases, has_either, has_filter, has_first, has_front, has_more}
 use Rattle.vc_plan.specs.declared.atoms.Atom.{Atom}
 use Rattle.vc_plan.specs.declared.atoms.Atom.TheVariants.{Here, Out, Is}
 use Rattle.vc_plan.specs.declared.plans.Plan.{Plan}

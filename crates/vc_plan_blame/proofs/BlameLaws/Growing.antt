@@ -16,7 +16,7 @@ use Rattle.vc_plan.specs.declared.atoms.Origin.{Origin}
 use Rattle.vc_plan.specs.declared.atoms.Origin.TheVariants as origins
 use Rattle.vc_plan.specs.declared.atoms.Step.{Step}
 use Rattle.vc_plan.specs.declared.plans.Plan.{Plan}
-use Rattle.vc_plan.specs.Answers.{fresh, nothing}
+use Rattle.vc_plan.specs.Answers.{fresh}
 use Rattle.vc_plan.specs.Clear.{is_clear}
 use Rattle.vc_plan.specs.Gives.{Giver, by_rule, by_user, by_entry, entry_says, giver_says, gives, if_here, mark_says, value_says}
 use Rattle.vc_plan.specs.Seen.{Seen, is_here, is_value, same_atom, says, seen_of, value_in}

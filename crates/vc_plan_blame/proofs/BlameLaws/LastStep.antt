@@ -1,5 +1,5 @@
 -- The last step of a list that makes what is concluded unclear: what it is at odds with, and whom that blames.
-use Rattle.std.proofs.Common.{◌≡◌, ℕ, Bool, true, false, not, ◌&&◌, ◌||◌, ◌⊎◌, List, [], ◌∷◌, ◌++◌, length, map, refl, sym, ◌∙◌, ap, subst, inl, inr}
+use Rattle.std.proofs.Common.{◌≡◌, ℕ, true, false, ◌&&◌, ◌||◌, ◌⊎◌, List, [], ◌∷◌, ◌++◌, length, map, refl, sym, ◌∙◌, ap, subst, inl, inr}
 use Rattle.std.specs.Prelude.{Option, None, Some}
 use Rattle.std.specs.List.{find, list_any}
 use Rattle.std.proofs.lemmas.Bool.{and_from, and_parts, false_from_ne_true, or_cases, or_left, or_right}
@@ -17,7 +17,7 @@ use Rattle.vc_plan.specs.Sources.{Sources}
 use Rattle.vc_plan.proofs.PlanLaws.Atoms.{atom_exact, atom_itself}
 use Rattle.vc_plan.proofs.PlanLaws.Facts.{Facts, clear_from, facts}
 use Rattle.vc_plan_reasons.specs.Checking.{concluded, set_with}
-use Rattle.vc_plan_blame.specs.Blame.{are_at_odds, blame, clash_citing, colliding_by, exhausted_by, exhausting, is_out, number_of, or_else, pair_with}
+use Rattle.vc_plan_blame.specs.Blame.{are_at_odds, clash_citing, colliding_by, exhausted_by, exhausting, is_out, number_of, or_else, pair_with}
 use Rattle.vc_plan_blame.specs.Laws.{Blames, IsSettling, UnclearIsBlamed}
 use Rattle.vc_plan_blame.proofs.BlameLaws.Citing.{numbers_found}
 use Rattle.vc_plan_blame.proofs.BlameLaws.Colliding.{AreNamed, HasRoom, Member, exhausting_within, its_grain, its_slot, member, self_apart, slot_apart}

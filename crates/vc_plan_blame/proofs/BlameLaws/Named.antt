@@ -1,18 +1,16 @@
 -- What rules and sources give is named by the plan: slots and grains that it has, and values that lie in a grain.
-use Rattle.std.proofs.Common.{◌≡◌, ℕ, ℤ, zero, suc, ◌<◌, Bool, true, false, cond, not, ◌&&◌, ◌||◌, List, [], ◌∷◌, map, refl, sym, ◌∙◌, ap, subst, inl, inr, arith}
-use Rattle.std.specs.Prelude.{Option, None, Some, is_none, min, nat_eq, nat_lt, slice_get}
+use Rattle.std.proofs.Common.{◌≡◌, ℕ, ℤ, zero, suc, ◌<◌, Bool, true, false, cond, not, ◌&&◌, List, [], ◌∷◌, map, refl, sym, ◌∙◌, ap, subst, inl, inr, arith}
+use Rattle.std.specs.Prelude.{Option, None, Some, is_none, min, nat_eq, slice_get}
 use Rattle.std.specs.Int.Signed.{le_z}
 use Rattle.std.specs.List.{filter, list_all, list_any}
 use Rattle.std.specs.Ordering.{int_eq}
-use Rattle.std.proofs.lemmas.Bool.{and_parts, and_from, eq-eqb, eqb-true, lt-ltb, or_left, or_right}
+use Rattle.std.proofs.lemmas.Bool.{and_parts, eq-eqb, eqb-true, lt-ltb, or_left, or_right}
 use Rattle.std.proofs.lemmas.Bool.Decides.{Decides-int_eq}
 use Rattle.std.proofs.lemmas.Int.{ints}
 use Rattle.vc_base.specs.Rounds.{Given, clash, atoms, atoms_of}
 use Rattle.vc_base.specs.Sets.{has}
 use Rattle.vc_base.proofs.ListLaws.{has_range, number_exact, number_itself}
 use Rattle.vc_base.proofs.SetLaws.{has_cases, has_either, has_filter, has_first, has_more}
-use Rattle.vc_value.specs.Grains.{holds}
-use Rattle.vc_value.specs.declared.grains.Grain.{Grain}
 use Rattle.vc_value.specs.declared.value.Value.{Value}
 use Rattle.vc_value.specs.declared.value.Value.TheVariants.{Text, Num}
 use Rattle.vc_plan.specs.declared.atoms.Atom.{Atom}
@@ -23,7 +21,6 @@ use Rattle.vc_plan.specs.declared.conditions.Piece.{Piece}
 use Rattle.vc_plan.specs.declared.conditions.Piece.TheVariants.{OneText, Stretch}
 use Rattle.vc_plan.specs.declared.conditions.Relation.{Relation}
 use Rattle.vc_plan.specs.declared.plans.Plan.{Plan}
-use Rattle.vc_plan.specs.declared.procedures.Procedure.{Procedure}
 use Rattle.vc_plan.specs.declared.rules.Binding.{Binding}
 use Rattle.vc_plan.specs.declared.rules.Kind.{Kind}
 use Rattle.vc_plan.specs.declared.rules.Kind.TheVariants.{Among, Compare, Equate, ByTable, Never, Last, Line}
@@ -32,13 +29,13 @@ use Rattle.vc_plan.specs.declared.rules.Rule.{Rule}
 use Rattle.vc_plan.specs.Answers.{nothing, clash_if, beside, gathered, fresh, value_atoms, value_of_piece, only_value, last_atoms, is_nothing}
 use Rattle.vc_plan.specs.Clear.{is_named}
 use Rattle.vc_plan.specs.Domains.{count_of, decimals_of, grains_of, is_grain_with, is_restrictable, numbers_below}
-use Rattle.vc_plan.specs.Gives.{Giver, by_rule, by_user, by_entry, acts, entry_says, giver_says, gives, if_here, kind_gives, mark_says, not_out, rule_says, value_says}
+use Rattle.vc_plan.specs.Gives.{Giver, by_rule, by_user, by_entry, acts, entry_says, giver_says, gives, kind_gives, mark_says, not_out, rule_says, value_says}
 use Rattle.vc_plan.specs.Kleene.{is_false}
 use Rattle.vc_plan.specs.Pieces.{is_outside, lies_in, lies_in_some, one_value, turned}
 use Rattle.vc_plan.specs.Readings.{net_reading}
 use Rattle.vc_plan.specs.Restrictions.{allows, assigned, confined, decimals_in_side, differ, equal_to, failing, is_inferred, left_with, lone, lone_inferred, of_remaining, related, rounded_value}
 use Rattle.vc_plan.specs.RuleRanges.{kind_there, rule_there}
-use Rattle.vc_plan.specs.Seen.{Seen, is_here, is_left, is_parent_here, same_atom, says, seen_of}
+use Rattle.vc_plan.specs.Seen.{Seen, is_here, is_parent_here, same_atom, says, seen_of}
 use Rattle.vc_plan.specs.Sources.{Entry, Sources, entry_of, user_of}
 use Rattle.vc_plan.specs.TableRows.{agreed, columns_of, first_cell, for_variable, has_cell, has_grain, is_possible_in, missing_grains, narrowed, rows_for, rows_of, value_if}
 use Rattle.vc_plan.specs.Truth.{compared, value_at}

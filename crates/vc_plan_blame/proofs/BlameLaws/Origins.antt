@@ -1,12 +1,12 @@
 -- Who gave what an accepted step concludes: only a constraint's rule puts a grain out; a value is by one, by a statement, by
 -- the user, or what is left when all other grains are out.
-use Rattle.std.proofs.Common.{◌≡◌, ℕ, ◌<◌, Bool, true, false, cond, not, ◌&&◌, ◌⊎◌, List, [], ◌∷◌, refl, sym, ◌∙◌, ap, subst, inl, inr, arith}
+use Rattle.std.proofs.Common.{◌≡◌, ℕ, ◌<◌, Bool, true, false, cond, not, ◌&&◌, List, [], ◌∷◌, refl, sym, ◌∙◌, ap, subst, inl, inr, arith}
 use Rattle.std.specs.Prelude.{Option, None, Some, nat_eq, slice_get, ◌==◌}
 use Rattle.std.specs.List.{filter, list_any}
-use Rattle.std.proofs.lemmas.Bool.{and_parts, and_from, eq-eqb, eqb-true, not_from_false, or_left, or_right}
+use Rattle.std.proofs.lemmas.Bool.{and_parts, and_from, eq-eqb, not_from_false, or_left, or_right}
 use Rattle.vc_base.specs.Rounds.{Given, clash, atoms, atoms_of}
 use Rattle.vc_base.specs.Sets.{has}
-use Rattle.vc_base.proofs.ListLaws.{has_range, number_exact, number_itself, range_has}
+use Rattle.vc_base.proofs.ListLaws.{number_exact, number_itself, range_has}
 use Rattle.vc_base.proofs.SetLaws.{filter_has, has_cases, has_filter, told}
 use Rattle.vc_base.proofs.Settling.{IsIn}
 use Rattle.vc_value.specs.declared.value.Value.{Value}
@@ -24,11 +24,11 @@ use Rattle.vc_plan.specs.declared.rules.Rule.{Rule}
 use Rattle.vc_plan.specs.Answers.{nothing, fresh, last_atoms, only_value, value_atoms}
 use Rattle.vc_plan.specs.Clear.{is_clear}
 use Rattle.vc_plan.specs.Domains.{count_of, numbers_below}
-use Rattle.vc_plan.specs.Gives.{Giver, by_rule, by_user, by_entry, acts, entry_says, gives, if_here, kind_gives, not_out, rule_says, value_says}
+use Rattle.vc_plan.specs.Gives.{acts, if_here, kind_gives, not_out, rule_says, value_says}
 use Rattle.vc_plan.specs.Seen.{Seen, is_here, is_parent_here, same_atom, says, seen_of}
-use Rattle.vc_plan.specs.Sources.{Entry, Sources, entry_of, user_of}
+use Rattle.vc_plan.specs.Sources.{Sources, user_of}
 use Rattle.vc_plan.proofs.PlanLaws.Atoms.{atom_exact, atom_itself}
-use Rattle.vc_plan_reasons.specs.Checking.{are_of, follows, given_by, giver_from, giver_of, is_by, set_with, things_read, var_of}
+use Rattle.vc_plan_reasons.specs.Checking.{are_of, follows, given_by, giver_from, giver_of, set_with, things_read, var_of}
 use Rattle.vc_plan_reasons.specs.Refuting.{is_blamable, is_of_constraint, is_origin, is_restriction}
 use Rattle.vc_plan_blame.specs.Blame.{culprit_from, first_culprit, or_else}
 

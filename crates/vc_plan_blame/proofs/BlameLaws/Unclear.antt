@@ -1,41 +1,39 @@
 -- Where one accepted step more makes what is concluded unclear, a clash refutes.
-use Rattle.std.proofs.Common.{◌≡◌, ℕ, zero, suc, ◌<◌, ◌≤◌, Bool, true, false, cond, not, ◌&&◌, ◌||◌, ◌⊎◌, List, [], ◌∷◌, ◌++◌, length, map, refl, sym, ◌∙◌, ap, subst, inl, inr, arith}
+use Rattle.std.proofs.Common.{◌≡◌, ℕ, zero, suc, ◌<◌, Bool, true, false, cond, not, ◌&&◌, ◌||◌, ◌⊎◌, List, [], ◌∷◌, ◌++◌, length, refl, sym, ◌∙◌, ap, subst, inl, inr, arith}
 use Rattle.std.specs.Prelude.{Option, None, Some, nat_eq, nat_lt, slice_get, ◌==◌}
-use Rattle.std.specs.List.{find, list_all, list_any}
+use Rattle.std.specs.List.{find, list_any}
 use Rattle.std.specs.Option.{option_to_list}
-use Rattle.std.proofs.lemmas.Bool.{and_parts, and_from, cases_lt, eq-eqb, eqb-false, eqb-true, false_from_ne_true, lt-ltb, ltb-true, not-true, not_from_false, or_cases, or_left, or_right, or_parts}
+use Rattle.std.proofs.lemmas.Bool.{and_parts, and_from, cases_lt, eq-eqb, eqb-false, eqb-true, lt-ltb, ltb-true, not-true, or_cases, or_left, or_parts}
 use Rattle.vc_base.specs.Chains.{cited}
 use Rattle.vc_base.specs.Sets.{has, Within}
 use Rattle.vc_base.proofs.ChainLaws.{get_below}
 use Rattle.vc_base.proofs.ListLaws.{number_exact, number_itself, range_has}
-use Rattle.vc_base.proofs.SetLaws.{all_at, both, has_cases, has_either, has_first, has_front, has_back, has_more, none_at, none_passes, told}
-use Rattle.vc_base.proofs.Settling.{IsIn, any_at}
+use Rattle.vc_base.proofs.SetLaws.{all_at, both, has_cases, has_either, has_first, has_more, none_at, told}
+use Rattle.vc_base.proofs.Settling.{IsIn}
 use Rattle.vc_value.specs.declared.value.Value.{Value}
 use Rattle.vc_plan.specs.declared.atoms.Atom.{Atom}
 use Rattle.vc_plan.specs.declared.atoms.Atom.TheVariants.{Here, Out, Is}
 use Rattle.vc_plan.specs.declared.atoms.Culprit.{Culprit}
-use Rattle.vc_plan.specs.declared.conditions.Piece.{Piece}
 use Rattle.vc_plan.specs.declared.atoms.Step.{Step}
 use Rattle.vc_plan.specs.declared.plans.Plan.{Plan}
 use Rattle.vc_plan.specs.declared.plans.Slot.{Slot}
 use Rattle.vc_plan.specs.Answers.{only_value, value_of_piece}
-use Rattle.vc_plan.specs.Clear.{are_all_out, collides, is_clear, is_exhausted, is_named}
+use Rattle.vc_plan.specs.Clear.{are_all_out, collides, is_exhausted, is_named}
 use Rattle.vc_plan.specs.Domains.{count_of, grains_of, is_grain_with, numbers_below, passes}
 use Rattle.vc_plan.specs.Pieces.{lies_in, lies_in_some, same_value}
 use Rattle.vc_plan.specs.Seen.{is_here, is_slot_here, same_atom, seen_of, slot_in}
 use Rattle.vc_plan.specs.Slots.{is_root}
-use Rattle.vc_plan.specs.Sources.{Sources, user_of}
+use Rattle.vc_plan.specs.Sources.{Sources}
 use Rattle.vc_plan.specs.Valid.{IsValid}
 use Rattle.vc_plan.proofs.PlanLaws.Atoms.{atom_exact, atom_itself, value_itself}
-use Rattle.vc_plan.proofs.PlanLaws.Facts.{Facts, clear_from, facts, not_exhausted_past}
+use Rattle.vc_plan.proofs.PlanLaws.Facts.{facts, not_exhausted_past}
 use Rattle.vc_plan.proofs.PlanLaws.Lists.{all_grows}
-use Rattle.vc_plan_reasons.specs.Checking.{concluded, is_accepted, set_with, step_form}
-use Rattle.vc_plan_reasons.specs.Things.{slots_of_var}
+use Rattle.vc_plan_reasons.specs.Checking.{concluded, is_accepted, set_with}
 use Rattle.vc_plan_reasons.proofs.ReasonLaws.Givers.{Following, following}
-use Rattle.vc_plan_blame.specs.Blame.{are_at_odds, blame, clash_citing, colliding, culprit_from, exhausted_by, exhausting, is_out, uses_up}
-use Rattle.vc_plan_blame.specs.Laws.{Blames, ExhaustedIsBlamed, ExhaustedIsTouched, IsSettling, OutIsBlamed, UnclearIsBlamed, ValuesAreBlamed}
-use Rattle.vc_plan_blame.proofs.BlameLaws.Citing.{Citing, Concludes, Follows, blames, citing, concludes, numbers_found, step_follows}
-use Rattle.vc_plan_blame.proofs.BlameLaws.Colliding.{AreNamed, HasRoom, Member, exhausted_collides, exhausting_within, grain_member, its_grain, its_slot, member, odds_unclear, pair_collides, slot_here}
+use Rattle.vc_plan_blame.specs.Blame.{are_at_odds, clash_citing, culprit_from, exhausted_by, exhausting, is_out, uses_up}
+use Rattle.vc_plan_blame.specs.Laws.{Blames, ExhaustedIsBlamed, ExhaustedIsTouched, IsSettling, OutIsBlamed, ValuesAreBlamed}
+use Rattle.vc_plan_blame.proofs.BlameLaws.Citing.{Citing, Concludes, Follows, blames, citing, concludes, step_follows}
+use Rattle.vc_plan_blame.proofs.BlameLaws.Colliding.{AreNamed, HasRoom, exhausted_collides, grain_member, pair_collides, slot_here}
 use Rattle.vc_plan_blame.proofs.BlameLaws.Named.{given_named, one_in_piece}
 use Rattle.vc_plan_blame.proofs.BlameLaws.Origins.{LastGrain, Sayer, chosen, guilty, left_over, out_by, value_by}
 

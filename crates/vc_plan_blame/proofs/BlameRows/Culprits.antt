@@ -4,8 +4,7 @@ use Rattle.std.specs.Prelude.{Option, None, Some, ◌≢◌}
 use Rattle.vc_base.specs.Rounds.{broken}
 use Rattle.vc_value.specs.declared.table_header.Domain.TheVariants.{Texts}
 use Rattle.vc_value.specs.declared.value.Value.TheVariants.{Text}
-use Rattle.vc_plan.specs.declared.atoms.Atom.{Atom}
-use Rattle.vc_plan.specs.declared.atoms.Atom.TheVariants.{Here, Out, Is}
+use Rattle.vc_plan.specs.declared.atoms.Atom.TheVariants.{Out, Is}
 use Rattle.vc_plan.specs.declared.atoms.Clash.{Clash}
 use Rattle.vc_plan.specs.declared.atoms.Culprit.{Culprit}
 use Rattle.vc_plan.specs.declared.atoms.Culprit.TheVariants as culprits

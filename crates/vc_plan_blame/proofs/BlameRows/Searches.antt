@@ -1,12 +1,12 @@
 -- What can't stand together, and what of it is found first.
-use Rattle.std.proofs.Common.{◌≡◌, ℕ, true, false, List, [], ◌∷◌, refl}
+use Rattle.std.proofs.Common.{◌≡◌, true, false, List, [], ◌∷◌, refl}
 use Rattle.std.specs.Prelude.{None, Some, ◌≢◌}
 use Rattle.vc_value.specs.declared.table_header.Domain.TheVariants.{Texts}
 use Rattle.vc_value.specs.declared.value.Value.TheVariants.{Text}
 use Rattle.vc_plan.specs.declared.atoms.Atom.{Atom}
 use Rattle.vc_plan.specs.declared.atoms.Atom.TheVariants.{Here, Out, Is}
 use Rattle.vc_plan.specs.declared.plans.Plan.{Plan}
-use Rattle.vc_plan.proofs.PlanRows.Models.{empty, open_var, pump, root, whole}
+use Rattle.vc_plan.proofs.PlanRows.Models.{empty, open_var, pump, root}
 use Rattle.vc_plan_blame.specs.Blame.{are_at_odds, colliding, exhausted_by, exhausting, number_of, uses_up}
 
 -- PUMP's motors are E1, E2 and E3, of texts 3 to 5: a value is at odds with that its own grain is out, in either order
