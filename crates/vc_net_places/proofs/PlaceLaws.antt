@@ -1,0 +1,3 @@
+-- Laws of places.
+pub mod Numbering
+pub mod Things

@@ -1,0 +1,11 @@
+use Rattle.vc_net_places.proofs.PlaceLaws.Things.{index_tells_places, index_tells_things, things_are_counted}
+use Rattle.vc_net_places.proofs.laws.index_tells_places.Goals as goal
+
+pub returns-clause-places : goal.returns-clause-places
+returns-clause-places c = index_tells_places
+
+pub returns-clause-things : goal.returns-clause-things
+returns-clause-things c = index_tells_things
+
+pub returns-clause-counted : goal.returns-clause-counted
+returns-clause-counted c = things_are_counted

@@ -1,0 +1,2 @@
+pub mod BlameLaws
+pub mod BlameRows
