@@ -2,6 +2,7 @@
 pub mod Bills
 pub mod Cutting
 pub mod Models
+pub mod Refusals
 pub mod Stages
 pub mod Standing
 pub mod Tuples

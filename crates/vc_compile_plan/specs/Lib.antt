@@ -1,11 +1,13 @@
 pub mod Conditions
 pub mod Cuts
 pub mod FaultNumbers
+pub mod Laws
 pub mod Layouts
 pub mod Numbering
 pub mod Places
 pub mod PlanOf
 pub mod Procedures
+pub mod Refusals
 pub mod Rules
 pub mod Shown
 pub mod Sites

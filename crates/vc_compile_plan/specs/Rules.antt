@@ -23,7 +23,8 @@ use Rattle.vc_compile_plan.specs.Conditions.{condition_at, relation_of, piece_of
 use Rattle.vc_compile_plan.specs.Layouts.{Layout, tree_of, object_at}
 use Rattle.vc_compile_plan.specs.Places.{Asked, selections_among, site_at}
 use Rattle.vc_compile_plan.specs.Sites.{Site, var_meant}
-use Rattle.vc_compile_plan.specs.Slots.{Standing, bill_if}
+use Rattle.vc_compile_plan.specs.declared.standings.Standing.{Standing}
+use Rattle.vc_compile_plan.specs.Slots.{bill_if}
 use Rattle.vc_compile_plan.specs.Tables.{table_number, column_number}
 use Rattle.vc_compile_plan.specs.Terms.{term_at, lone_of, literal_of}
 use Rattle.vc_compile_plan.specs.Trees as plan

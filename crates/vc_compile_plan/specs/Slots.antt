@@ -7,6 +7,7 @@ use Rattle.vc_model_parts.specs.declared.parts.Component.TheVariants as componen
 use Rattle.vc_model_parts.specs.declared.parts.Model.{Model}
 use Rattle.vc_model_parts.specs.declared.parts.Object.{Object}
 use Rattle.vc_plan.specs.declared.plans.Slot.{Slot}
+use Rattle.vc_compile_plan.specs.declared.standings.Standing.{Standing}
 
 -- the bill of an object; none where the model has no such object
 abbrev pub bill_in : Option Object → List BillItem
@@ -27,13 +28,6 @@ object_in (components.Plain material) = None
 
 abbrev pub components_of : Model → ℕ → List ℕ
 components_of model o = filter_map (λ line. object_in line.component) (bill_of model o)
-
--- an object at its place: below which slot, how deep, and for which line of that slot's bill, counted from 0
-pub record Standing : Type 0 where
-  pub parent : Option ℕ
-  pub depth : ℕ
-  pub object : ℕ
-  pub item : ℕ
 
 -- what stands for a line: nothing where it has no object
 abbrev pub for_line : (ℕ → List Standing) → Option ℕ → List Standing

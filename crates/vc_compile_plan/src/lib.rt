@@ -3,8 +3,11 @@
 #![tactic(auto)]
 
 pub mod fault;
+pub mod laws;
+pub mod standings;
 
 pub use fault::CompileFault;
+pub use standings::Standing;
 
 #[cfg(test)]
 mod tests;
