@@ -1,0 +1,134 @@
+-- Where characteristics are cut.
+use Rattle.std.proofs.Common.{◌≡◌, ℕ, ◌*◌, pos, true, List, [], ◌∷◌, refl}
+use Rattle.std.specs.Prelude.{None, codes}
+use Rattle.vc_value.specs.Grains.{interval}
+use Rattle.vc_value.specs.declared.grains.Grain.{Grain}
+use Rattle.vc_value.specs.declared.table_header.Domain.{Domain}
+use Rattle.vc_value.specs.declared.table_header.Domain.TheVariants.{Nums}
+use Rattle.vc_value.specs.declared.value.Value.TheVariants.{Num}
+use Rattle.vc_model_parts.specs.declared.parts.Model.{Model}
+use Rattle.vc_model_parts.specs.declared.parts.NamedDependency.{NamedDependency}
+use Rattle.vc_syntax_terms.specs.declared.tree.Demand.TheVariants as demands
+use Rattle.vc_syntax_terms.specs.declared.tree.Operator.TheVariants.{Times}
+use Rattle.vc_syntax_terms.specs.declared.tree.Relator.{Relator}
+use Rattle.vc_syntax_terms.specs.declared.tree.Relator.TheVariants as relators
+use Rattle.vc_syntax_terms.specs.declared.tree.Restriction.{Restriction}
+use Rattle.vc_syntax_terms.specs.declared.tree.Term.{Term}
+use Rattle.vc_syntax_terms.specs.declared.tree.Term.TheVariants as terms
+use Rattle.vc_table.specs.declared.table.VariantTable.{VariantTable}
+use Rattle.vc_plan.proofs.PlanRows.Models as plans
+use Rattle.vc_compile_plan.specs.Cuts.{domains_of}
+use Rattle.vc_compile_plan.specs.Layouts.{layout_of}
+use Rattle.vc_compile_plan.proofs.PlanRows.Words.{Spots, millionths, number, whole, plain, member, relation, asks, of_class, binds, calls, always, where_true, constraint, called, precondition, from_to, numbers, characteristic, class, column, net, object, empty, rows}
+
+-- A is 0 .. 100 with one decimal, B the same with none; what is used stands at the object of the only slot
+abbrev lists : Model
+lists = record empty {
+  characteristics =
+      characteristic (codes "A") true (numbers 1 (from_to 0 100 ∷ []))
+      ∷ characteristic (codes "B") true (numbers 0 (from_to 0 100 ∷ []))
+      ∷ [];
+  classes = class (codes "K") (0 ∷ 1 ∷ []) ∷ [];
+  tables = record { name = codes "T"; file = []; columns = column 0 ∷ column 1 ∷ [] } ∷ [];
+  nets = net (0 ∷ []) ∷ [];
+  objects = record (object (codes "M") 0 []) { nets = 0 ∷ [] } ∷ [];
+}
+
+abbrev restricted : List Restriction → Model
+restricted restrictions = record lists {
+  dependencies = called (codes "C") (constraint (of_class (codes "X") (codes "K") ∷ []) None restrictions []) ∷ [];
+}
+
+abbrev a : Term
+a = member (codes "X") (codes "A")
+
+abbrev b : Term
+b = member (codes "X") (codes "B")
+
+abbrev relates : Spots → Term → Relator → Term → Restriction
+relates p left relator right = always (demands.Relation (relation p left relator right))
+
+abbrev cut_by : List Restriction → List Domain
+cut_by restrictions = domains_of (layout_of (restricted restrictions)) []
+
+-- A with these grains, and B uncut; from and to in tenths
+abbrev tenths : ℕ → ℕ → Grain
+tenths low high = interval (pos (low * 100_000)) (pos (high * 100_000))
+
+abbrev a_in : List Grain → List Domain
+a_in grains = Nums 1 grains ∷ Nums 0 (plans.from_to 0 100 ∷ []) ∷ []
+
+-- `=` as a restriction cuts at its literal, and at that rounded: 5.05 is 5.1
+equal_rounds : (p : Spots) → cut_by (relates p a relators.Equal (number 5_050_000) ∷ []) ≡ a_in (tenths 0 50 ∷ tenths 51 51 ∷ tenths 52 1000 ∷ [])
+equal_rounds p = refl
+
+-- the other relations cut at the literal alone, and so does `=` in a condition
+less_stays : (p : Spots) → cut_by (relates p a relators.Less (number 5_050_000) ∷ []) ≡ a_in (tenths 0 50 ∷ tenths 51 1000 ∷ [])
+less_stays p = refl
+
+turned_round : (p : Spots) → cut_by (relates p (number 5_000_000) relators.GreaterEqual a ∷ []) ≡ a_in (tenths 0 49 ∷ tenths 50 50 ∷ tenths 51 1000 ∷ [])
+turned_round p = refl
+
+condition_stays : (p : Spots)
+    → cut_by (where_true p (asks p a relators.Equal (number 5_050_000)) demands.False ∷ []) ≡ a_in (tenths 0 50 ∷ tenths 51 1000 ∷ [])
+condition_stays p = refl
+
+-- two cuts at one number are one
+twice : (p : Spots)
+    → cut_by (relates p a relators.Less (whole 5) ∷ relates p a relators.Greater (whole 5) ∷ [])
+    ≡ a_in (tenths 0 49 ∷ tenths 50 50 ∷ tenths 51 1000 ∷ [])
+twice p = refl
+
+-- a number outside the list cuts nothing, nor does one that is no whole side, or beside another variable
+outside : (p : Spots) → cut_by (relates p a relators.Less (whole 200) ∷ []) ≡ a_in (tenths 0 1000 ∷ [])
+outside p = refl
+
+computed : (p : Spots)
+    → cut_by (relates p a relators.Less (terms.Combined' p.node (whole 2) Times p.node (whole 5)) ∷ []) ≡ a_in (tenths 0 1000 ∷ [])
+computed p = refl
+
+side_by_side : (p : Spots) → cut_by (relates p a relators.Less b ∷ []) ≡ a_in (tenths 0 1000 ∷ [])
+side_by_side p = refl
+
+-- the cells of a column cut what is given to it, also what the column isn't of
+abbrev cells : List VariantTable
+cells = rows ((Num (millionths 1_000_000) ∷ Num (millionths 7_000_000) ∷ []) ∷ (Num (millionths 2_500_000) ∷ Num (millionths 7_000_000) ∷ []) ∷ []) ∷ []
+
+by_cells : (p : Spots)
+    → domains_of (layout_of (restricted (always (demands.Table (calls (codes "T") (binds p (codes "A") a ∷ []))) ∷ []))) cells
+    ≡ a_in (tenths 0 9 ∷ tenths 10 10 ∷ tenths 11 24 ∷ tenths 25 25 ∷ tenths 26 1000 ∷ [])
+by_cells p = refl
+
+by_other_cells : (p : Spots)
+    → domains_of (layout_of (restricted (always (demands.Table (calls (codes "T") (binds p (codes "B") a ∷ []))) ∷ []))) cells
+    ≡ a_in (tenths 0 69 ∷ tenths 70 70 ∷ tenths 71 1000 ∷ [])
+by_other_cells p = refl
+
+-- a precondition cuts where it stands at a characteristic of the slot's class; what stands nowhere cuts nothing
+abbrev asked : Spots → NamedDependency
+asked p = precondition p (codes "P") (asks p (plain (codes "A")) relators.Greater (whole 5))
+
+at_characteristic : (p : Spots)
+    → domains_of (layout_of (record lists {
+      characteristics =
+          characteristic (codes "A") true (numbers 1 (from_to 0 100 ∷ []))
+          ∷ record (characteristic (codes "B") true (numbers 0 (from_to 0 100 ∷ []))) { uses = 0 ∷ [] }
+          ∷ [];
+      dependencies = asked p ∷ [];
+      nets = [];
+    })) []
+    ≡ a_in (tenths 0 49 ∷ tenths 50 50 ∷ tenths 51 1000 ∷ [])
+at_characteristic p = refl
+
+at_nothing : (p : Spots)
+    → domains_of (layout_of (record lists { dependencies = asked p ∷ []; nets = [] })) [] ≡ a_in (tenths 0 1000 ∷ [])
+at_nothing p = refl
+
+-- a constraint without a tuple cuts all the same
+without_tuple : (p : Spots)
+    → domains_of (layout_of (record lists {
+      dependencies = called (codes "C")
+          (constraint (of_class (codes "X") (codes "K") ∷ of_class (codes "Y") (codes "K") ∷ []) None (relates p a relators.Less (whole 5) ∷ []) []) ∷ [];
+    })) []
+    ≡ a_in (tenths 0 49 ∷ tenths 50 50 ∷ tenths 51 1000 ∷ [])
+without_tuple p = refl

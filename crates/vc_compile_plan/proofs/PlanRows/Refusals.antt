@@ -1,0 +1,97 @@
+-- Models without a plan, and which fault is told first.
+use Rattle.std.proofs.Common.{◌≡◌, ℕ, false, replicate, [], ◌∷◌, refl}
+use Rattle.std.specs.Prelude.{None, Some, codes}
+use Rattle.vc_model_parts.specs.declared.parts.BillItem.{BillItem}
+use Rattle.vc_model_parts.specs.declared.parts.Component.TheVariants as components
+use Rattle.vc_model_parts.specs.declared.parts.Model.{Model}
+use Rattle.vc_model_parts.specs.declared.parts.NamedDependency.{NamedDependency}
+use Rattle.vc_syntax_terms.specs.declared.tree.Relator.TheVariants as relators
+use Rattle.vc_syntax_terms.specs.declared.tree.Term.{Term}
+use Rattle.vc_types.specs.declared.fault.TypeFaultKind.{TypeFaultKind}
+use Rattle.vc_types.specs.declared.fault.TypeFaultKind.TheVariants as kinds
+use Rattle.vc_compile_plan.specs.Refusals.{compile_fault, first_of, TypeFault}
+use Rattle.vc_compile_plan.specs.declared.fault.CompileFault.TheVariants as faults
+use Rattle.vc_compile_plan.proofs.PlanRows.Models.{pump, step, sizes_and_motors}
+use Rattle.vc_compile_plan.proofs.PlanRows.Words.{Spots, text, whole, plain, asks, precondition, term_box, listed_text, texts, from_to, numbers, characteristic, class, line, object, empty}
+
+-- sound models
+pump_is_sound : (p : Spots) → compile_fault p.node (pump p) (sizes_and_motors ∷ []) ≡ None
+pump_is_sound p = refl
+
+step_is_sound : (p : Spots) → compile_fault p.node (step p) [] ≡ None
+step_is_sound p = refl
+
+-- a chain of five objects with a faulty quantity: the levels are told first; of four, the quantity
+abbrev at_line : ℕ → BillItem → BillItem
+at_line n item = record item { line = n }
+
+abbrev brings : Spots → ℕ → Term → BillItem
+brings p o quantity = record (line p 10 (components.Object o) 1 []) { quantity = term_box p quantity }
+
+abbrev chain : Spots → Model
+chain p = record empty {
+  classes = class (codes "K") [] ∷ [];
+  objects =
+      object (codes "A") 0 []
+      ∷ object (codes "B") 0 (at_line 7 (brings p 0 (text (codes "X"))) ∷ [])
+      ∷ object (codes "C") 0 (at_line 9 (brings p 1 (plain (codes "NONE"))) ∷ [])
+      ∷ object (codes "D") 0 (at_line 11 (brings p 2 (whole 1)) ∷ [])
+      ∷ object (codes "E") 0 (at_line 13 (brings p 3 (whole 1)) ∷ [])
+      ∷ [];
+  root = 4;
+}
+
+levels_first : (p : Spots) → compile_fault p.node (chain p) [] ≡ Some faults.TooDeep
+levels_first p = refl
+
+-- the first line, though the quantity of a later line has a lesser kind
+first_line : (p : Spots) → compile_fault p.node (record (chain p) { root = 3 }) [] ≡ Some (faults.Typing kinds.WrongKind 7)
+first_line p = refl
+
+-- what stands at no slot isn't typed
+at_no_slot : (p : Spots) → compile_fault p.node (record (chain p) { root = 0 }) [] ≡ None
+at_no_slot p = refl
+
+-- too many slots, before the quantities of their lines
+abbrev wide : Spots → ℕ → Model
+wide p n = record empty {
+  classes = class (codes "K") [] ∷ [];
+  objects = object (codes "A") 0 [] ∷ object (codes "B") 0 (replicate n (at_line 5 (brings p 0 (plain (codes "NONE"))))) ∷ [];
+  root = 1;
+}
+
+slots_first : (p : Spots) → compile_fault p.node (wide p 40) [] ≡ Some faults.TooManySlots
+slots_first p = refl
+
+then_typing : (p : Spots) → compile_fault p.node (wide p 39) [] ≡ Some (faults.Typing kinds.UnknownName 5)
+then_typing p = refl
+
+-- one dependency at two objects, whose classes differ: the least kind over its places. A is a text where N is a number
+abbrev at : ℕ → NamedDependency → NamedDependency
+at n named = record named { line = n }
+
+abbrev two_places : Spots → Model
+two_places p = record empty {
+  characteristics =
+      record (characteristic (codes "A") false (texts false (listed_text 0 ∷ []))) { uses = 0 ∷ [] }
+      ∷ characteristic (codes "N") false (numbers 0 (from_to 0 9 ∷ []))
+      ∷ [];
+  texts = codes "X" ∷ [];
+  classes = class (codes "BOTH") (0 ∷ 1 ∷ []) ∷ class (codes "ONE") (0 ∷ []) ∷ [];
+  dependencies = at 3 (precondition p (codes "P") (asks p (plain (codes "N")) relators.Equal (plain (codes "A")))) ∷ [];
+  objects = object (codes "PART") 1 [] ∷ object (codes "TOP") 0 (line p 10 (components.Object 0) 1 [] ∷ []) ∷ [];
+  root = 1;
+}
+
+least_kind : (p : Spots) → compile_fault p.node (two_places p) [] ≡ Some (faults.Typing kinds.UnknownName 3)
+least_kind p = refl
+
+one_place : (p : Spots) → compile_fault p.node (record (two_places p) { objects = object (codes "TOP") 0 [] ∷ []; root = 0 }) [] ≡ Some (faults.Typing kinds.WrongKind 3)
+one_place p = refl
+
+-- faults by line, then by kind
+abbrev fault : ℕ → TypeFaultKind → TypeFault
+fault line kind = record { line = line; kind = kind }
+
+in_order : first_of (fault 8 kinds.UnknownName ∷ fault 7 kinds.WrongKind ∷ fault 7 kinds.DoubleName ∷ fault 7 kinds.NoKey ∷ []) ≡ Some (fault 7 kinds.DoubleName)
+in_order = refl
