@@ -1,0 +1,3 @@
+pub mod Forced
+pub mod Triggers
+pub mod Waking
