@@ -4,6 +4,7 @@ ghost use Rattle.vc_net_laws.specs.Forced.{BaseIsForced, LogsAreForced, GivenIsF
 ghost use Rattle.vc_net_laws.specs.Forced.{UnclearBreaks, ClashBreaks, QuietSettles};
 ghost use Rattle.vc_net_laws.specs.Triggers.{TriggersAreNeeded};
 ghost use Rattle.vc_net_laws.specs.Waking.{UntouchedGivesTheSame, UnchangedGivesTheSame, WokenIsEnough, GiversWakeThemselves};
+ghost use Rattle.vc_net_laws.specs.Working.{AgendasMayGrow, AtomsCome, QuietMayLeave, WorkBegins, WorkEnds, WorkIsKept};
 
 /// What must stand: that the root is here, what an accepted log concludes, and what is given where all must stand.
 pub fn given_is_forced()
@@ -40,4 +41,20 @@ pub fn untouched_givers_stay()
 pub fn waking_is_enough()
     ensures others { WokenIsEnough }
     ensures itself { GiversWakeThemselves }
+{}
+
+/// Work with an agenda begins with any accepted log and all givers, goes on with each forced atom that leaves the set
+/// clear, and with what is kept when sources change.
+pub fn work_goes_on()
+    ensures begins { WorkBegins }
+    ensures comes { AtomsCome }
+    ensures kept { WorkIsKept }
+{}
+
+/// Who is quiet may leave the agenda, anybody may come on it, and where nobody is left on it settling ends with just the
+/// atoms that stand.
+pub fn work_ends()
+    ensures leave { QuietMayLeave }
+    ensures grow { AgendasMayGrow }
+    ensures ends { WorkEnds }
 {}

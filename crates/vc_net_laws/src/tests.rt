@@ -2,7 +2,7 @@
 
 use crate::laws::{
     given_is_forced, sound_sets_end, sound_sets_grow, triggers_are_needed, untouched_givers_stay,
-    waking_is_enough,
+    waking_is_enough, work_ends, work_goes_on,
 };
 use std::test::Fail;
 
@@ -14,5 +14,7 @@ fn laws_ask_for_nothing(_rt: HostRuntime) -> Result<(), Fail> {
     triggers_are_needed();
     untouched_givers_stay();
     waking_is_enough();
+    work_goes_on();
+    work_ends();
     Ok(())
 }
