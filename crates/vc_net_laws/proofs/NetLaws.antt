@@ -1,0 +1,5 @@
+-- Laws of settling one atom at a time.
+pub mod Forced
+pub mod Triggers
+pub mod Waking
+pub mod Working

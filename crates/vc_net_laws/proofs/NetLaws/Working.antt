@@ -1,0 +1,192 @@
+-- The work on the way to where settling ends: how it begins, goes on and ends.
+use Rattle.std.proofs.Common.{◌≡◌, ℕ, Bool, true, false, ◌&&◌, ◌||◌, ◌⊎◌, List, [], ◌∷◌, ◌++◌, refl, sym, ◌∙◌, ap, subst, inl, inr}
+use Rattle.std.specs.List.{AllByRecursion, IsDistinct, filter}
+use Rattle.std.proofs.lemmas.Bool.{and_from, eq-eqb, eqb-true, or_left, or_parts, or_right}
+use Rattle.vc_base.specs.Rounds.{Given, clash, atoms, atoms_of, is_clash}
+use Rattle.vc_base.specs.Sets.{has, Within}
+use Rattle.vc_base.proofs.SetLaws.{both, filter_has, has_back, has_cases, has_either, has_first, has_front, has_more, none_from, told}
+use Rattle.vc_base.proofs.Settling as settling
+use Rattle.vc_plan.specs.declared.atoms.Atom.{Atom}
+use Rattle.vc_plan.specs.declared.plans.Plan.{Plan}
+use Rattle.vc_plan.specs.Gives.{Giver, by_rule, by_user, by_entry, gives, givers_of}
+use Rattle.vc_plan.specs.Seen.{same_atom, seen_of}
+use Rattle.vc_plan.specs.Settle.{base}
+use Rattle.vc_plan.specs.Sources.{Sources}
+use Rattle.vc_plan.proofs.PlanLaws.Atoms.{atom_exact, atom_itself}
+use Rattle.vc_plan.proofs.PlanLaws.Facts.{part_clear}
+use Rattle.vc_plan_reasons.specs.Checking.{concluded, is_silent}
+use Rattle.vc_plan_reasons.proofs.ReasonLaws.Givers.{clashing_in, giving_in}
+use Rattle.vc_net_laws.specs.Forced.{IsSound, is_quiet}
+use Rattle.vc_net_laws.specs.Triggers.{stands_in, trigger_by}
+use Rattle.vc_net_laws.specs.Waking.{IsSplit, giver_differs, is_woken, touches_some}
+use Rattle.vc_net_laws.specs.Working.{AgendasMayGrow, AtomsCome, IsWorking, QuietMayLeave, WorkBegins, WorkEnds, WorkIsKept, disturbed, is_disturbed, same_giver, woken}
+use Rattle.vc_net_laws.proofs.NetLaws.Forced.{closed_settles, logs_are_forced, quiet_closed, sound_sets_grow}
+use Rattle.vc_net_laws.proofs.NetLaws.Triggers.{triggers_are_needed}
+use Rattle.vc_net_laws.proofs.NetLaws.Waking.{unchanged_gives_the_same, woken_is_enough}
+
+-- givers are told apart exactly
+pub giver_exact : (a b : Giver) → same_giver a b ≡ true → a ≡ b
+giver_exact (by_rule r) (by_rule s) e = ap by_rule (eqb-true r s e)
+giver_exact (by_rule r) (by_user w) e = absurd (cc)
+giver_exact (by_rule r) (by_entry w) e = absurd (cc)
+giver_exact (by_user v) (by_rule s) e = absurd (cc)
+giver_exact (by_user v) (by_user w) e = ap by_user (eqb-true v w e)
+giver_exact (by_user v) (by_entry w) e = absurd (cc)
+giver_exact (by_entry v) (by_rule s) e = absurd (cc)
+giver_exact (by_entry v) (by_user w) e = absurd (cc)
+giver_exact (by_entry v) (by_entry w) e = ap by_entry (eqb-true v w e)
+
+pub giver_itself : (a : Giver) → same_giver a a ≡ true
+giver_itself (by_rule r) = eq-eqb r r refl
+giver_itself (by_user v) = eq-eqb v v refl
+giver_itself (by_entry v) = eq-eqb v v refl
+
+in_has : (giver : Giver) (givers : List Giver) → settling.IsIn giver givers → has same_giver givers giver ≡ true
+in_has giver [] i = absurd i
+in_has giver (x ∷ xs) (inl e) =
+    subst (λ g. has same_giver (x ∷ xs) g ≡ true) (sym e) (has_first same_giver giver_exact giver_itself x xs)
+in_has giver (x ∷ xs) (inr i) = has_more same_giver giver_exact giver_itself x xs giver (in_has giver xs i)
+
+-- who isn't a giver of the plan is quiet
+loud : (x : Given Atom) → is_silent x ≡ false → (is_clash x ≡ true) ⊎ ((a : Atom) × (has same_atom (atoms_of x) a ≡ true))
+loud clash e = inl refl
+loud (atoms []) e = absurd (cc)
+loud (atoms (a ∷ more)) e = inr (a, has_first same_atom atom_exact atom_itself a more)
+
+stranger_quiet : (plan : Plan) (sources : Sources) (set : List Atom) (giver : Giver)
+    → has same_giver (givers_of plan) giver ≡ false → is_quiet plan sources set giver ≡ true
+stranger_quiet plan sources set giver e =
+    elim (told (is_quiet plan sources set giver)) [
+      | inl q ↦ q
+      | inr q ↦ elim (loud (gives plan sources giver (seen_of set)) q) [
+        | inl h ↦ absurd (both (in_has giver (givers_of plan) (clashing_in plan sources giver set h)) e)
+        | inr r ↦ absurd (both (in_has giver (givers_of plan) (giving_in plan sources giver set r.0 r.1)) e)
+      ]
+    ]
+
+-- what isn't in a whole isn't in a part
+part_lacks : (part whole : List Giver) → Within same_giver part whole → (giver : Giver) → has same_giver whole giver ≡ false
+    → has same_giver part giver ≡ false
+part_lacks part whole w giver e =
+    elim (told (has same_giver part giver)) [
+      | inl h ↦ absurd (both (w giver h) e)
+      | inr h ↦ h
+    ]
+
+-- a giver of the plan that a filter of them lacks fails the test
+lacks_fails : (plan : Plan) (p : Giver → Bool) (giver : Giver) → has same_giver (givers_of plan) giver ≡ true
+    → has same_giver (filter p (givers_of plan)) giver ≡ false → p giver ≡ false
+lacks_fails plan p giver i e =
+    elim (told (p giver)) [
+      | inl h ↦ absurd (both (filter_has same_giver giver_exact giver_itself p (givers_of plan) giver i h) e)
+      | inr h ↦ h
+    ]
+
+pub work_begins : WorkBegins
+work_begins plan sources log agenda accepted clear distinct all = record {
+  sound = record {
+    clear = clear;
+    rooted = λ a h. has_front same_atom atom_exact atom_itself base (concluded log) a h;
+    forced = logs_are_forced plan sources log accepted;
+  };
+  distinct = distinct;
+  quiet = λ giver e. stranger_quiet plan sources (base ++ concluded log) giver (part_lacks (givers_of plan) agenda all giver e);
+}
+
+-- one element more that wasn't there
+more_apart : (a : Atom) (xs : List Atom) (b : Atom) → AllByRecursion (λ x. same_atom a x ≡ false) xs → same_atom a b ≡ false
+    → AllByRecursion (λ x. same_atom a x ≡ false) (xs ++ b ∷ [])
+more_apart a [] b h e = (e, tt)
+more_apart a (x ∷ xs) b h e = (h.0, more_apart a xs b h.1 e)
+
+distinct_more : (xs : List Atom) (b : Atom) → IsDistinct same_atom xs → has same_atom xs b ≡ false
+    → IsDistinct same_atom (xs ++ b ∷ [])
+unfolding IsDistinct
+distinct_more [] b d e = (tt, tt)
+distinct_more (x ∷ xs) b d e =
+    let p = or_parts (same_atom b x) (has same_atom xs b) e in
+    let apart : same_atom x b ≡ false
+    = elim (told (same_atom x b)) [
+      | inl q ↦ absurd (both (subst (λ z. same_atom z x ≡ true) (atom_exact x b q) (atom_itself x)) p.0)
+      | inr q ↦ q
+    ] in
+    (more_apart x xs b d.0 apart, distinct_more xs b d.1 p.1)
+
+pub atoms_come : AtomsCome
+atoms_come plan sources agenda later set atom work forced new clear stay wake = record {
+  sound = sound_sets_grow plan sources set atom work.sound forced clear;
+  distinct = distinct_more set atom work.distinct new;
+  quiet = λ giver e. elim (told (has same_giver (givers_of plan) giver)) [
+    | inl i ↦
+        woken_is_enough plan sources set atom giver work.sound.clear (work.quiet giver (part_lacks agenda later stay giver e))
+        (lacks_fails plan (is_woken plan set atom) giver i (part_lacks (woken plan set atom) later wake giver e))
+    | inr i ↦ stranger_quiet plan sources (set ++ atom ∷ []) giver i
+  ];
+}
+
+pub quiet_may_leave : QuietMayLeave
+quiet_may_leave plan sources agenda set giver work done = record {
+  sound = work.sound;
+  distinct = work.distinct;
+  quiet = λ other e. elim (told (has same_giver (agenda ++ giver ∷ []) other)) [
+    | inl h ↦ elim (has_either same_giver giver_exact giver_itself agenda (giver ∷ []) other h) [
+      | inl p ↦ absurd (both p e)
+      | inr p ↦ elim (has_cases same_giver giver_exact giver_itself giver [] other p) [
+        | inl q ↦ ap (is_quiet plan sources set) q ∙ done
+        | inr q ↦ absurd (cc)
+      ]
+    ]
+    | inr h ↦ work.quiet other h
+  ];
+}
+
+pub agendas_may_grow : AgendasMayGrow
+agendas_may_grow plan sources agenda later set work stay = record {
+  sound = work.sound;
+  distinct = work.distinct;
+  quiet = λ giver e. work.quiet giver (part_lacks agenda later stay giver e);
+}
+
+-- a part of what is split
+split_part : (set kept dropped : List Atom) → IsSplit set kept dropped → Within same_atom kept set
+split_part set kept dropped split a h = split a ∙ or_left (has same_atom kept a) (has same_atom dropped a) h
+
+-- who isn't disturbed is as quiet as it was
+undisturbed_quiet : (plan : Plan) (old new : Sources) (agenda : List Giver) (set kept dropped : List Atom) (giver : Giver)
+    → IsWorking plan old agenda set → IsSplit set kept dropped → has same_giver agenda giver ≡ false
+    → is_disturbed plan old new kept dropped giver ≡ false → is_quiet plan new kept giver ≡ true
+undisturbed_quiet plan old new agenda set kept dropped giver work split off e =
+    let differs = giver_differs old new giver in
+    let touched = touches_some plan dropped giver in
+    elim (told (stands_in kept (trigger_by plan giver))) [
+      | inl t ↦ elim (told (differs || touched)) [
+        | inl h ↦ absurd (both (and_from (differs || touched) (stands_in kept (trigger_by plan giver)) h t) e)
+        | inr h ↦
+            let p = or_parts differs touched h in
+            ap is_silent (unchanged_gives_the_same plan old new set kept dropped giver work.sound.clear split p.1 p.0)
+            ∙ work.quiet giver off
+      ]
+      | inr t ↦ ap is_silent (triggers_are_needed plan new kept giver t)
+    ]
+
+pub work_is_kept : WorkIsKept
+work_is_kept plan old new agenda later set kept dropped work split forced root distinct stay wake = record {
+  sound = record {
+    clear = part_clear plan kept set work.sound.clear (split_part set kept dropped split);
+    rooted = root;
+    forced = forced;
+  };
+  distinct = distinct;
+  quiet = λ giver e. elim (told (has same_giver (givers_of plan) giver)) [
+    | inl i ↦
+        undisturbed_quiet plan old new agenda set kept dropped giver work split (part_lacks agenda later stay giver e)
+        (lacks_fails plan (is_disturbed plan old new kept dropped) giver i
+        (part_lacks (disturbed plan old new kept dropped) later wake giver e))
+    | inr i ↦ stranger_quiet plan new kept giver i
+  ];
+}
+
+pub work_ends : WorkEnds
+work_ends plan sources set work =
+    closed_settles plan sources set work.sound
+    (quiet_closed plan sources set work.sound.clear (λ giver i. work.quiet giver refl))

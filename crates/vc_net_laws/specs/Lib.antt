@@ -1,0 +1,4 @@
+pub mod Forced
+pub mod Triggers
+pub mod Waking
+pub mod Working

@@ -1,0 +1,20 @@
+//! Each law called once: a law that asked for anything couldn't be.
+
+use crate::laws::{
+    given_is_forced, sound_sets_end, sound_sets_grow, triggers_are_needed, untouched_givers_stay,
+    waking_is_enough, work_ends, work_goes_on,
+};
+use std::test::Fail;
+
+#[test]
+fn laws_ask_for_nothing(_rt: HostRuntime) -> Result<(), Fail> {
+    given_is_forced();
+    sound_sets_grow();
+    sound_sets_end();
+    triggers_are_needed();
+    untouched_givers_stay();
+    waking_is_enough();
+    work_goes_on();
+    work_ends();
+    Ok(())
+}
