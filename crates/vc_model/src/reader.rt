@@ -29,8 +29,8 @@ fn describe(alloc: Global, sound: Sound, text: &[u8]) -> Result<Model, AllocErro
         readings,
         places,
     } = sound;
-    let texts = scope.scope().declared.texts.words(alloc)?;
     let draft = draft_lines(alloc, scope.scope(), text, places, readings)?;
+    let texts = scope.into_texts(alloc)?;
     Ok(draft.into_model(texts))
 }
 

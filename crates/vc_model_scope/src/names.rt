@@ -69,13 +69,14 @@ impl Names {
         Ok(())
     }
 
-    /// The names as words.
-    pub fn words(&self, alloc: Global) -> Result<Listed<Word>, AllocError>
-        ensures { IfOk result (λ words. words ≡ self.now) }
+    /// The names as words, none of them copied.
+    pub fn into_words(self, alloc: Global) -> Result<Listed<Word>, AllocError>
+        ensures { IfOk result (λ words. words ≡ self) }
     {
+        let Names { met } = self;
         let mut words = Listed::new(alloc);
-        for name in self.met.as_slice() {
-            words.push(Word::from_bytes(alloc, name.as_slice())?)?;
+        for name in met {
+            words.push(Word::from_vec(name))?;
         }
         Ok(words)
     }

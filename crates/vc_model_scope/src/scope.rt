@@ -1,6 +1,6 @@
 //! The scope of a line: all that the lines above it say.
 
-ghost use Rattle.std.specs.Prelude.{◌≡◌, [], OnOk};
+ghost use Rattle.std.specs.Prelude.{◌≡◌, [], IfOk, OnOk};
 ghost use Rattle.vc_model_scope.specs.Scope as scopes;
 
 use crate::contents::{column_of, entry_of, item_of, member_of, operation_of, text_of, use_of};
@@ -11,8 +11,9 @@ use crate::stands::{Under, UsesPlace, counts, is_head, is_root, under_at, uses_p
 use crate::tables::{list_entry, list_name, list_number};
 use std::alloc::{AllocError, Global};
 use std::marker::Model;
+use std::mem::replace;
 use vc_model_lines::Line;
-use vc_value::Listed;
+use vc_value::{Listed, Word};
 
 /// What a line may belong to, and what is listed there so far.
 #[derive(Drop)]
@@ -196,5 +197,14 @@ impl ScopeBuilder {
     {
         self.scope.extend(alloc, line)?;
         Ok(())
+    }
+
+    /// The texts of values that were met, as words, none of them copied.
+    pub fn into_texts(self, alloc: Global) -> Result<Listed<Word>, AllocError>
+        ensures { IfOk result (λ words. words ≡ self.declared.texts) }
+    {
+        let ScopeBuilder { mut scope } = self;
+        let texts = replace(&mut scope.declared.texts, Names::new(alloc));
+        texts.into_words(alloc)
     }
 }

@@ -34,7 +34,7 @@ fn lines_make_a_scope(rt: HostRuntime) -> Result<(), Fail> {
     assert!(rt; scope.standing.members.has(b"SIZE".as_slice()));
     assert!(rt; scope.standing.texts.is_empty());
     assert!(rt; scope.uses.place == UsesPlace::Nowhere);
-    let words = scope.declared.texts.words(rt.alloc())?;
+    let words = builder.into_texts(rt.alloc())?;
     match words.as_slice() {
         [first, second] => {
             assert!(rt; first.is(b"S".as_slice()) && second.is(b"L".as_slice()));
