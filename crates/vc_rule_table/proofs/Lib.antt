@@ -2,4 +2,6 @@ pub mod AgreedLemmas
 pub mod CellLemmas
 pub mod CitingSteps
 pub mod ConcludingSteps
+pub mod FollowingLaws
 pub mod SaidLaws
+pub mod StandingLaws

@@ -1,8 +1,20 @@
 //! Laws of what a table call says, each the contract of a function that does nothing.
 
-ghost use Rattle.vc_rule_table.specs.Laws.{TableIsSaid};
+ghost use Rattle.vc_rule_table.specs.Laws.{TableIsSaid, TableStands, TableFollows};
 
 /// What is said, without what it follows from, is what the table call gives and doesn't stand yet.
 pub fn table_is_said()
     ensures { TableIsSaid }
+{}
+
+/// Each premise of what is said stands.
+pub fn table_stands()
+    ensures { TableStands }
+{}
+
+/// What is said follows from its premises alone: wherever a part of what is seen says them, the
+/// table call gives it too. That no grain which holds its variable's value is out is taken for
+/// granted.
+pub fn table_follows()
+    ensures { TableFollows }
 {}
