@@ -249,11 +249,11 @@ module _ (plan : Plan) (seen : Seen) (table : ℕ) (columns : List Binding) (kep
       → AllByRecursion (IsGivenFor v) (map (cell_agreed plan seen rows columns v) given)
   cells_given v [] r within = tt
   cells_given v (a ∷ given) r within = (
-      λ part w said.
-          let same = rows_same plan seen part w kept (other_columns v columns) rows said in
-          ap (λ b. has same_atom (cond b (map (Out v) (filter (missing_at part v) (numbers_below (count_of plan v)))) (agreed_at part v)) a) r
-          ∙ (ap (λ rs. has same_atom (agreed plan v (columns_of v columns) rs) a) same ∙ within a (has_first same_atom atom_exact atom_itself a given)),
-      cells_given v given r (λ b k. within b (has_more same_atom atom_exact atom_itself a given b k)),
+    λ part w said.
+        let same = rows_same plan seen part w kept (other_columns v columns) rows said in
+        ap (λ b. has same_atom (cond b (map (Out v) (filter (missing_at part v) (numbers_below (count_of plan v)))) (agreed_at part v)) a) r
+        ∙ (ap (λ rs. has same_atom (agreed plan v (columns_of v columns) rs) a) same ∙ within a (has_first same_atom atom_exact atom_itself a given)),
+    cells_given v given r (λ b k. within b (has_more same_atom atom_exact atom_itself a given b k)),
   )
 
   variable_given : (v : ℕ) → AllByRecursion (IsGivenFor v) (concluded_newly plan seen rows columns v)

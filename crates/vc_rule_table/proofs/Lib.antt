@@ -3,5 +3,7 @@ pub mod CellLemmas
 pub mod CitingSteps
 pub mod ConcludingSteps
 pub mod FollowingLaws
+pub mod ReadLaws
 pub mod SaidLaws
 pub mod StandingLaws
+pub mod TableSaidRows

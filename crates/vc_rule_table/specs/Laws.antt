@@ -1,5 +1,5 @@
 -- Laws of what a table call says.
-use Rattle.std.specs.Prelude.{◌≡◌, ℕ, true, false, List, map, flat_map, Some}
+use Rattle.std.specs.Prelude.{◌≡◌, ℕ, Bool, true, false, List, map, flat_map, Some}
 use Rattle.vc_value.specs.declared.value.Value.{Value}
 use Rattle.vc_plan.specs.declared.plans.Plan.{Plan}
 use Rattle.vc_plan.specs.declared.rules.Binding.{Binding}
@@ -9,6 +9,7 @@ use Rattle.vc_plan.specs.Domains.{is_grain_with}
 use Rattle.vc_plan.specs.Pieces.{lies_in}
 use Rattle.vc_plan.specs.Seen.{Seen, says}
 use Rattle.vc_plan.specs.TableRows.{by_table}
+use Rattle.vc_plan_reasons.specs.Things.{var_at, has_thing, thing_of, vars_of_column}
 use Rattle.vc_rule_premises.specs.Saying.{given_of}
 use Rattle.vc_rule_premises.specs.Sufficing.{each_premise, EachFollows}
 use Rattle.vc_rule_table.specs.TableSaid.{table_said}
@@ -31,3 +32,8 @@ ValuesAreLeft plan seen = (v g : ℕ) (a : Value) → seen.value v ≡ Some a �
 abbrev pub TableFollows : Type 0
 TableFollows = (plan : Plan) (seen : Seen) (rule : Rule) (table : ℕ) (columns : List Binding) → ValuesAreLeft plan seen
     → EachFollows (λ part. by_table plan part rule table columns) seen (table_said plan seen rule table columns)
+
+-- each premise is of a variable that a column is given
+abbrev pub TableIsRead : Type 0
+TableIsRead = (plan : Plan) (seen : Seen) (rule : Rule) (table : ℕ) (columns : List Binding)
+    → each_premise (λ a. has_thing (map var_at (flat_map vars_of_column columns)) (thing_of a)) (table_said plan seen rule table columns) ≡ true

@@ -1,6 +1,6 @@
 //! Laws of what a table call says, each the contract of a function that does nothing.
 
-ghost use Rattle.vc_rule_table.specs.Laws.{TableIsSaid, TableStands, TableFollows};
+ghost use Rattle.vc_rule_table.specs.Laws.{TableIsSaid, TableStands, TableIsRead, TableFollows};
 
 /// What is said, without what it follows from, is what the table call gives and doesn't stand yet.
 pub fn table_is_said()
@@ -10,6 +10,11 @@ pub fn table_is_said()
 /// Each premise of what is said stands.
 pub fn table_stands()
     ensures { TableStands }
+{}
+
+/// Each premise is of a variable that a column is given.
+pub fn table_is_read()
+    ensures { TableIsRead }
 {}
 
 /// What is said follows from its premises alone: wherever a part of what is seen says them, the
