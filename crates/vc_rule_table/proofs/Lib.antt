@@ -2,6 +2,7 @@ pub mod AgreedLemmas
 pub mod CellLemmas
 pub mod CitingSteps
 pub mod ConcludingSteps
+pub mod FewLaws
 pub mod FollowingLaws
 pub mod ReadLaws
 pub mod SaidLaws
