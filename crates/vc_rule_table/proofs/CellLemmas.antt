@@ -60,7 +60,7 @@ pub filter_ends : (p : ℕ → Bool) (g n : ℕ) → n ≤ g → filter p (range
 filter_ends p g n past = ap (filter p) (range_ends g n past)
 
 -- a list's elements by their numbers: the elements from one on, where others come before
-element_after : {A : Type 0} (before after : List A) (x : A) → slice_get (before ++ x ∷ after) (length before) ≡ Some x
+pub element_after : {A : Type 0} (before after : List A) (x : A) → slice_get (before ++ x ∷ after) (length before) ≡ Some x
 element_after [] after x = refl
 element_after (y ∷ before) after x = element_after before after x
 

@@ -2,4 +2,9 @@ pub mod AgreedLemmas
 pub mod CellLemmas
 pub mod CitingSteps
 pub mod ConcludingSteps
+pub mod FewLaws
+pub mod FollowingLaws
+pub mod ReadLaws
 pub mod SaidLaws
+pub mod StandingLaws
+pub mod TableSaidRows

@@ -34,7 +34,7 @@ cells_said premises [] = refl
 cells_said premises (a ∷ given) = ap (λ xs. a ∷ xs) (cells_said premises given)
 
 -- what a variable's conclusions conclude
-abbrev given_for : Plan → Seen → ℕ → List Binding → ℕ → List Atom
+abbrev pub given_for : Plan → Seen → ℕ → List Binding → ℕ → List Atom
 given_for plan seen table columns v =
     let rows = rows_for plan seen table columns v in
     let own = columns_of v columns in
@@ -65,7 +65,7 @@ new_said seen (c ∷ cs) =
     ]
 
 -- lists of atoms that are gathered
-gathered_atoms : (h : ℕ → List Atom) (vs : List ℕ) → gathered (λ v. atoms (h v)) vs ≡ atoms (flat_map h vs)
+pub gathered_atoms : (h : ℕ → List Atom) (vs : List ℕ) → gathered (λ v. atoms (h v)) vs ≡ atoms (flat_map h vs)
 gathered_atoms h [] = refl
 gathered_atoms h (v ∷ vs) = ap (beside (atoms (h v))) (gathered_atoms h vs)
 
