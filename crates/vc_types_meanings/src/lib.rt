@@ -3,6 +3,11 @@
 
 pub mod meanings;
 pub mod setting;
+pub mod tree;
 pub mod variables;
 
 pub use setting::Setting;
+pub use tree::{Tree, borrowed};
+
+#[cfg(test)]
+mod tests;

@@ -7,9 +7,10 @@ ghost use Rattle.vc_types_names.specs.FirstNames.{value_of};
 ghost use Rattle.vc_types_meanings.specs.Referents.{referent_among};
 
 use crate::meanings::{owned_meaning, plain_meaning, variable_member, variable_value};
+use crate::tree::Tree;
 use crate::variables::referents;
 use std::alloc::{AllocError, Global};
-use vc_syntax_terms::tree::{Dependency, NameLeaf, Object, Operand, Owner};
+use vc_syntax_terms::tree::{NameLeaf, Object, Operand, Owner};
 use vc_types::{Meaning, Place, Referent};
 use vc_types_names::{FirstNamed, Names};
 
@@ -26,11 +27,11 @@ pub struct Setting<'a> {
 
 impl<'a> Setting<'a> {
     ghost use Rattle.std.specs.Prelude.{IfOk};
-    ghost use Rattle.vc_syntax_terms.specs.Trees.{dependency_of};
     ghost use Rattle.vc_syntax_terms.specs.declared.tree.Operand.TheVariants.{Owned};
     ghost use Rattle.vc_syntax_terms.specs.declared.tree.Owner.TheVariants.{Itself};
     ghost use Rattle.vc_types.specs.Meanings.{referent_of, variable_named};
     ghost use Rattle.vc_types.specs.Settings.{setting_of, meaning};
+    ghost use Rattle.vc_types_meanings.specs.Borrowed.{tree_of};
     ghost use Rattle.vc_types_meanings.specs.Seen.{seen};
 
     /// The setting of a dependency at a place.
@@ -38,12 +39,12 @@ impl<'a> Setting<'a> {
         alloc: Global,
         names: &'a Names<'a>,
         place: Place,
-        dependency: &'a Dependency,
+        tree: Tree<'a>,
     ) -> Result<Setting<'a>, AllocError>
-        ensures { IfOk result (λ setting. seen setting ≡ setting_of names.now.model.now place (dependency_of dependency.now)) }
+        ensures { IfOk result (λ setting. seen setting ≡ setting_of names.now.model.now place (tree_of tree.entry)) }
     {
-        let objects = match dependency {
-            Dependency::Constraint(constraint) => constraint.objects.as_slice(),
+        let objects = match tree {
+            Tree::Constraint(constraint) => constraint.objects.as_slice(),
             _ => &[],
         };
         let variables = referents(alloc, names, objects)?;

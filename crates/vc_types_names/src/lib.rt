@@ -7,3 +7,6 @@ pub mod names;
 
 pub use first_named::FirstNamed;
 pub use names::Names;
+
+#[cfg(test)]
+mod tests;

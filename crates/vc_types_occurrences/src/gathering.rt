@@ -1,8 +1,8 @@
 //! All that stands in a dependency.
 
 ghost use Rattle.std.specs.Prelude.{◌≡◌, ◌++◌, flat_map, map, IfOk, OnOk};
-ghost use Rattle.vc_syntax_terms.specs.Trees.{dependency_of};
 ghost use Rattle.vc_types.specs.Occurrences as occurrences;
+ghost use Rattle.vc_types_meanings.specs.Borrowed.{tree_of};
 ghost use Rattle.vc_types_meanings.specs.Seen.{seen};
 ghost use Rattle.vc_types_occurrences.specs.Gathered.{AreParts, AreTerms, AreLeaves};
 ghost use Rattle.vc_types_occurrences.specs.Met.{all_met};
@@ -18,8 +18,8 @@ use crate::uses::{
     Use, put_all_specified, put_relations_uses, put_targets, put_terms_uses, put_values,
 };
 use std::alloc::{AllocError, Global};
-use vc_syntax_terms::tree::{Condition, Dependency, NameLeaf, Relation, TableCall, Term};
-use vc_types_meanings::Setting;
+use vc_syntax_terms::tree::{Condition, NameLeaf, Relation, TableCall, Term};
+use vc_types_meanings::{Setting, Tree};
 use vc_value::Listed;
 
 /// The conditions, relations and calls of tables of a dependency.
@@ -48,50 +48,50 @@ pub struct Leaves<'a> {
 
 fn put_conditions<'a>(
     out: &mut Listed<&'a Condition>,
-    dependency: &'a Dependency,
+    tree: Tree<'a>,
 ) -> Result<(), AllocError>
     ensures { OnOk result (conditions_seen out.new ≡ conditions_seen out.old
-        ++ occurrences.conditions_in (dependency_of dependency.now)) }
+        ++ occurrences.conditions_in (tree_of tree.entry)) }
 {
-    match dependency {
-        Dependency::Precondition(condition) => out.push(condition),
-        Dependency::Selection(condition) => out.push(condition),
-        Dependency::Procedure(statements) => put_statement_conditions(out, statements.as_slice()),
-        Dependency::Constraint(constraint) => {
+    match tree {
+        Tree::Precondition(condition) => out.push(condition),
+        Tree::Selection(condition) => out.push(condition),
+        Tree::Procedure(statements) => put_statement_conditions(out, statements),
+        Tree::Constraint(constraint) => {
             put_condition(out, &constraint.condition)?;
             put_restriction_conditions(out, constraint.restrictions.as_slice())
         }
-        Dependency::Term(_) => Ok(()),
+        Tree::Term(_) => Ok(()),
     }
 }
 
 fn put_calls<'a>(
     out: &mut Listed<&'a TableCall>,
-    dependency: &'a Dependency,
+    tree: Tree<'a>,
 ) -> Result<(), AllocError>
     ensures { OnOk result (calls_seen out.new ≡ calls_seen out.old
-        ++ occurrences.calls_in (dependency_of dependency.now)) }
+        ++ occurrences.calls_in (tree_of tree.entry)) }
 {
-    match dependency {
-        Dependency::Precondition(_) => Ok(()),
-        Dependency::Selection(_) => Ok(()),
-        Dependency::Procedure(statements) => put_statement_calls(out, statements.as_slice()),
-        Dependency::Constraint(constraint) => {
+    match tree {
+        Tree::Precondition(_) => Ok(()),
+        Tree::Selection(_) => Ok(()),
+        Tree::Procedure(statements) => put_statement_calls(out, statements),
+        Tree::Constraint(constraint) => {
             put_demanded_calls(out, constraint.restrictions.as_slice())
         }
-        Dependency::Term(_) => Ok(()),
+        Tree::Term(_) => Ok(()),
     }
 }
 
 fn put_demanded<'a>(
     out: &mut Listed<&'a Relation>,
-    dependency: &'a Dependency,
+    tree: Tree<'a>,
 ) -> Result<(), AllocError>
     ensures { OnOk result (relations_seen out.new ≡ relations_seen out.old
-        ++ occurrences.demanded_relations (dependency_of dependency.now)) }
+        ++ occurrences.demanded_relations (tree_of tree.entry)) }
 {
-    match dependency {
-        Dependency::Constraint(constraint) => {
+    match tree {
+        Tree::Constraint(constraint) => {
             put_demanded_relations(out, constraint.restrictions.as_slice())
         }
         _ => Ok(()),
@@ -100,14 +100,14 @@ fn put_demanded<'a>(
 
 fn put_own_terms<'a>(
     out: &mut Listed<&'a Term>,
-    dependency: &'a Dependency,
+    tree: Tree<'a>,
 ) -> Result<(), AllocError>
     ensures { OnOk result (terms_seen out.new ≡ terms_seen out.old
-        ++ occurrences.own_terms (dependency_of dependency.now)) }
+        ++ occurrences.own_terms (tree_of tree.entry)) }
 {
-    match dependency {
-        Dependency::Procedure(statements) => put_statement_terms(out, statements.as_slice()),
-        Dependency::Term(term) => out.push(term),
+    match tree {
+        Tree::Procedure(statements) => put_statement_terms(out, statements),
+        Tree::Term(term) => out.push(term),
         _ => Ok(()),
     }
 }
@@ -115,14 +115,14 @@ fn put_own_terms<'a>(
 fn put_other_names(
     out: &mut Listed<Use>,
     setting: &Setting,
-    dependency: &Dependency,
+    tree: Tree,
 ) -> Result<(), AllocError>
     ensures { OnOk result (out.new ≡ out.old ++ all_met (seen setting.now)
-        (map occurrences.as_value (occurrences.other_names (dependency_of dependency.now)))) }
+        (map occurrences.as_value (occurrences.other_names (tree_of tree.entry)))) }
 {
-    match dependency {
-        Dependency::Procedure(statements) => put_targets(out, setting, statements.as_slice()),
-        Dependency::Constraint(constraint) => {
+    match tree {
+        Tree::Procedure(statements) => put_targets(out, setting, statements),
+        Tree::Constraint(constraint) => {
             put_values(out, setting, constraint.inferences.as_slice())
         }
         _ => Ok(()),
@@ -156,16 +156,16 @@ fn put_all_parted<'a>(
 }
 
 /// The conditions, relations and calls of a dependency.
-pub fn gather_parts(alloc: Global, dependency: &Dependency) -> Result<Parts<'_>, AllocError>
-    ensures { IfOk result (λ parts. AreParts (dependency_of dependency.now) parts) }
+pub fn gather_parts<'a>(alloc: Global, tree: Tree<'a>) -> Result<Parts<'a>, AllocError>
+    ensures { IfOk result (λ parts. AreParts (tree_of tree.entry) parts) }
 {
     let mut conditions = Listed::new(alloc);
-    put_conditions(&mut conditions, dependency)?;
+    put_conditions(&mut conditions, tree)?;
     let mut relations = Listed::new(alloc);
     put_all_relations(&mut relations, conditions.as_slice())?;
-    put_demanded(&mut relations, dependency)?;
+    put_demanded(&mut relations, tree)?;
     let mut calls = Listed::new(alloc);
-    put_calls(&mut calls, dependency)?;
+    put_calls(&mut calls, tree)?;
     Ok(Parts {
         conditions,
         relations,
@@ -176,14 +176,14 @@ pub fn gather_parts(alloc: Global, dependency: &Dependency) -> Result<Parts<'_>,
 /// The terms of a dependency that has these parts.
 pub fn gather_terms<'a>(
     alloc: Global,
-    dependency: &'a Dependency,
+    tree: Tree<'a>,
     parts: &Parts<'a>,
 ) -> Result<Given<'a>, AllocError>
-    requires { AreParts (dependency_of dependency.now) parts.now }
-    ensures { IfOk result (λ terms. AreTerms (dependency_of dependency.now) terms) }
+    requires { AreParts (tree_of tree) parts.now }
+    ensures { IfOk result (λ terms. AreTerms (tree_of tree.entry) terms) }
 {
     let mut given = Listed::new(alloc);
-    put_own_terms(&mut given, dependency)?;
+    put_own_terms(&mut given, tree)?;
     put_call_values(&mut given, parts.calls.as_slice())?;
     let mut all = Listed::new(alloc);
     put_all_sides(&mut all, parts.relations.as_slice())?;
@@ -194,19 +194,19 @@ pub fn gather_terms<'a>(
 fn gather_uses(
     alloc: Global,
     setting: &Setting,
-    dependency: &Dependency,
+    tree: Tree,
     parts: &Parts,
     terms: &Given,
 ) -> Result<Listed<Use>, AllocError>
-    requires parts { AreParts (dependency_of dependency.now) parts.now }
-    requires terms { AreTerms (dependency_of dependency.now) terms.now }
-    ensures { IfOk result (λ uses. uses ≡ all_met (seen setting.now) (occurrences.uses_in (dependency_of dependency.now))) }
+    requires parts { AreParts (tree_of tree) parts.now }
+    requires terms { AreTerms (tree_of tree) terms.now }
+    ensures { IfOk result (λ uses. uses ≡ all_met (seen setting.now) (occurrences.uses_in (tree_of tree.entry))) }
 {
     let mut uses = Listed::new(alloc);
     put_relations_uses(&mut uses, setting, parts.relations.as_slice())?;
     put_all_specified(&mut uses, setting, parts.conditions.as_slice())?;
     put_terms_uses(&mut uses, setting, terms.given.as_slice())?;
-    put_other_names(&mut uses, setting, dependency)?;
+    put_other_names(&mut uses, setting, tree)?;
     Ok(uses)
 }
 
@@ -214,15 +214,15 @@ fn gather_uses(
 pub fn gather_leaves<'a>(
     alloc: Global,
     setting: &Setting,
-    dependency: &Dependency,
+    tree: Tree,
     parts: &Parts<'a>,
     terms: &Given<'a>,
 ) -> Result<Leaves<'a>, AllocError>
-    requires parts { AreParts (dependency_of dependency.now) parts.now }
-    requires terms { AreTerms (dependency_of dependency.now) terms.now }
-    ensures { IfOk result (λ leaves. AreLeaves (seen setting.now) (dependency_of dependency.now) leaves) }
+    requires parts { AreParts (tree_of tree) parts.now }
+    requires terms { AreTerms (tree_of tree) terms.now }
+    ensures { IfOk result (λ leaves. AreLeaves (seen setting.now) (tree_of tree.entry) leaves) }
 {
-    let uses = gather_uses(alloc, setting, dependency, parts, terms)?;
+    let uses = gather_uses(alloc, setting, tree, parts, terms)?;
     let mut parted = Listed::new(alloc);
     put_all_parted(&mut parted, parts.conditions.as_slice())?;
     let mut summed = Listed::new(alloc);

@@ -9,3 +9,6 @@ pub mod uses;
 
 pub use gathering::{Given, Leaves, Parts};
 pub use uses::Use;
+
+#[cfg(test)]
+mod tests;
