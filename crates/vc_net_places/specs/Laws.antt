@@ -5,7 +5,7 @@ use Rattle.vc_plan.specs.declared.plans.Plan.{Plan}
 use Rattle.vc_plan.specs.Bounds.{Place}
 use Rattle.vc_plan.specs.Clear.{is_named}
 use Rattle.vc_plan.specs.Domains.{atom_count}
-use Rattle.vc_net_places.specs.Places.{index_of, is_place, number_of, place_for, place_in, place_of, thing_at, things_before}
+use Rattle.vc_net_places.specs.Places.{index_of, is_place, number_of, place_for, place_in, place_of, thing_at}
 
 -- an atom that the plan names has a place
 abbrev pub NamedHavePlaces : Type 0
@@ -37,3 +37,7 @@ IndexTellsThings = (plan : Plan) (place : Place) → is_place plan place ≡ tru
 
 abbrev pub ThingsAreCounted : Type 0
 ThingsAreCounted = (plan : Plan) → length (index_of plan).things ≡ atom_count plan
+
+-- a first place is kept of each variable
+abbrev pub FirstsAreCounted : Type 0
+FirstsAreCounted = (plan : Plan) → length (index_of plan).firsts ≡ length plan.vars

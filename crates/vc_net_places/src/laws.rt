@@ -1,7 +1,7 @@
 //! Laws of places, each the contract of a function that does nothing.
 
-ghost use Rattle.vc_net_places.specs.Laws.{IndexTellsPlaces, IndexTellsThings, NamedHavePlaces, NumbersAreTaken};
-ghost use Rattle.vc_net_places.specs.Laws.{PlacesAreApart, PlacesAreCounted, ThingsAreCounted};
+ghost use Rattle.vc_net_places.specs.Laws.{FirstsAreCounted, IndexTellsPlaces, IndexTellsThings, NamedHavePlaces};
+ghost use Rattle.vc_net_places.specs.Laws.{NumbersAreTaken, PlacesAreApart, PlacesAreCounted, ThingsAreCounted};
 
 /// Each atom that a plan names has a place, numbered below the count of atoms; no two places have one number, and each
 /// number is that of a place.
@@ -17,4 +17,5 @@ pub fn index_tells_places()
     ensures places { IndexTellsPlaces }
     ensures things { IndexTellsThings }
     ensures counted { ThingsAreCounted }
+    ensures firsts { FirstsAreCounted }
 {}

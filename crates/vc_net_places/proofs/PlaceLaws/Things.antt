@@ -1,20 +1,18 @@
 -- What is kept of places, read at a number.
-use Rattle.std.proofs.Common.{◌≡◌, ℕ, zero, suc, ◌+◌, ◌-◌, ◌<◌, ◌≤◌, ◌⊎◌, Bool, true, ◌&&◌, List, [], ◌∷◌, ◌++◌, length, map, refl, sym, ◌∙◌, ap, subst, inl, inr, arith, append_assoc, append-nil, length-append}
-use Rattle.std.specs.Prelude.{Option, None, Some, nat_lt, replicate, slice_get, slice_index_or}
-use Rattle.std.specs.List.{flat_map, range_with_len, sum_by}
+use Rattle.std.proofs.Common.{◌≡◌, ℕ, zero, suc, ◌+◌, ◌<◌, ◌≤◌, ◌⊎◌, List, [], ◌∷◌, ◌++◌, length, map, refl, sym, ◌∙◌, ap, subst, inl, inr, arith, append_assoc, append-nil, length-append}
+use Rattle.std.specs.Prelude.{Some, nat_lt, replicate, slice_get, slice_index_or}
+use Rattle.std.specs.List.{flat_map, range_with_len}
 use Rattle.std.proofs.lemmas.Bool.{and_parts, cases_lt, ltb-true}
 use Rattle.std.proofs.lemmas.Grind.{flat_map-append}
 use Rattle.std.proofs.lemmas.List.{length-map, length-replicate, map-append}
 use Rattle.vc_base.proofs.ListLaws.{range_split}
-use Rattle.vc_plan.specs.declared.atoms.Atom.{Atom}
 use Rattle.vc_plan.specs.declared.atoms.Atom.TheVariants.{Here, Out, Is}
 use Rattle.vc_plan.specs.declared.plans.Plan.{Plan}
-use Rattle.vc_plan.specs.Bounds.{Place, here_at, is_at, out_at}
-use Rattle.vc_plan.specs.Domains.{atom_count, count_of, numbers_below}
-use Rattle.vc_net_places.specs.declared.places.Thing.{Thing}
+use Rattle.vc_plan.specs.Bounds.{here_at, is_at, out_at}
+use Rattle.vc_plan.specs.Domains.{count_of, numbers_below}
 use Rattle.vc_net_places.specs.declared.places.Thing.TheVariants.{Slot, Var}
-use Rattle.vc_net_places.specs.Laws.{IndexTellsPlaces, IndexTellsThings, ThingsAreCounted}
-use Rattle.vc_net_places.specs.Places.{first_in, first_place, index_of, is_place, number_of, thing_at, things_before, things_of_var}
+use Rattle.vc_net_places.specs.Laws.{FirstsAreCounted, IndexTellsPlaces, IndexTellsThings, ThingsAreCounted}
+use Rattle.vc_net_places.specs.Places.{first_in, first_place, index_of, things_before, things_of_var}
 use Rattle.vc_net_places.proofs.PlaceLaws.Numbering.{first_next}
 
 -- an element of a mapped range
@@ -80,6 +78,10 @@ things_length plan (suc v) =
 
 pub things_are_counted : ThingsAreCounted
 things_are_counted plan = things_length plan (length plan.vars)
+
+pub firsts_are_counted : FirstsAreCounted
+firsts_are_counted plan =
+    length-map (numbers_below (length plan.vars)) (first_place plan) ∙ length_range 0 (length plan.vars)
 
 -- what a variable's places are of stays when further variables come
 thing_of_var : (plan : Plan) (v k i : ℕ) → v < k → i < count_of plan v + 1
