@@ -16,7 +16,7 @@ use Rattle.vc_net_places.specs.Places.{first_in, first_place, index_of, things_b
 use Rattle.vc_net_places.proofs.PlaceLaws.Numbering.{first_next}
 
 -- an element of a mapped range
-range_at : {X : Type 0} (f : ℕ → X) (a n i : ℕ) → i < n → slice_get (map f (range_with_len a n)) i ≡ Some (f (a + i))
+pub range_at : {X : Type 0} (f : ℕ → X) (a n i : ℕ) → i < n → slice_get (map f (range_with_len a n)) i ≡ Some (f (a + i))
 range_at f a zero i below = absurd (omega (arith, below))
 range_at f a (suc n) zero below = ap (λ k. Some (f k)) (omega arith)
 range_at f a (suc n) (suc i) below = range_at f (a + 1) n i (omega (arith, below)) ∙ ap (λ k. Some (f k)) (omega arith)
@@ -27,12 +27,12 @@ index_at f a (suc n) zero below = ap f (omega arith)
 index_at f a (suc n) (suc i) below = index_at f (a + 1) n i (omega (arith, below)) ∙ ap f (omega arith)
 
 -- an element of the first or of the second of two lists
-get_first : {X : Type 0} (xs ys : List X) (i : ℕ) (x : X) → slice_get xs i ≡ Some x → slice_get (xs ++ ys) i ≡ Some x
+pub get_first : {X : Type 0} (xs ys : List X) (i : ℕ) (x : X) → slice_get xs i ≡ Some x → slice_get (xs ++ ys) i ≡ Some x
 get_first [] ys i x e = absurd (cc)
 get_first (z ∷ xs) ys zero x e = e
 get_first (z ∷ xs) ys (suc i) x e = get_first xs ys i x e
 
-get_second : {X : Type 0} (xs ys : List X) (n i : ℕ) → n ≡ length xs + i → slice_get (xs ++ ys) n ≡ slice_get ys i
+pub get_second : {X : Type 0} (xs ys : List X) (n i : ℕ) → n ≡ length xs + i → slice_get (xs ++ ys) n ≡ slice_get ys i
 get_second [] ys n i is = ap (slice_get ys) (omega (arith, is))
 get_second (z ∷ xs) ys zero i is = absurd (omega (arith, is))
 get_second (z ∷ xs) ys (suc n) i is = get_second xs ys n i (omega (arith, is))
@@ -42,7 +42,7 @@ get_replicate zero i x below = absurd (omega (arith, below))
 get_replicate (suc n) zero x below = refl
 get_replicate (suc n) (suc i) x below = get_replicate n i x (omega (arith, below))
 
-length_range : (a n : ℕ) → length (range_with_len a n) ≡ n
+pub length_range : (a n : ℕ) → length (range_with_len a n) ≡ n
 length_range a zero = refl
 length_range a (suc n) = let rest = length_range (a + 1) n in omega (arith, rest)
 
