@@ -6,7 +6,7 @@ use Rattle.vc_plan.specs.Bounds.{Place, cell_bound, clash_bound, greatest}
 use Rattle.vc_plan.specs.Clear.{is_named}
 use Rattle.vc_plan.specs.Domains.{atom_count}
 use Rattle.vc_net_places.specs.Cells.{all_places, begins_from, bounds_of, own_bound, total}
-use Rattle.vc_net_places.specs.Places.{index_of, is_place, number_of, place_for, place_in, place_of, thing_at}
+use Rattle.vc_net_places.specs.Places.{index_of, is_place, number_of, place_for, place_in, place_numbered, place_of, thing_at}
 
 -- an atom that the plan names has a place
 abbrev pub NamedHavePlaces : Type 0
@@ -35,6 +35,10 @@ IndexTellsPlaces = (plan : Plan) (atom : Atom) → is_place plan (place_for atom
 abbrev pub IndexTellsThings : Type 0
 IndexTellsThings = (plan : Plan) (place : Place) → is_place plan place ≡ true
     → slice_get (index_of plan).things (number_of plan place) ≡ Some (thing_at place)
+
+abbrev pub IndexTellsBack : Type 0
+IndexTellsBack = (plan : Plan) (place : Place) → is_place plan place ≡ true
+    → place_numbered (index_of plan) (number_of plan place) ≡ place
 
 abbrev pub ThingsAreCounted : Type 0
 ThingsAreCounted = (plan : Plan) → length (index_of plan).things ≡ atom_count plan

@@ -1,7 +1,7 @@
 //! Laws of places, each the contract of a function that does nothing.
 
 ghost use Rattle.vc_net_places.specs.Laws.{BoundsAreByPlace, CellsAreApart, CellsEndAtTotal, CellsSuffice};
-ghost use Rattle.vc_net_places.specs.Laws.{FirstsAreCounted, IndexTellsPlaces, IndexTellsThings, NamedHavePlaces};
+ghost use Rattle.vc_net_places.specs.Laws.{FirstsAreCounted, IndexTellsBack, IndexTellsPlaces, IndexTellsThings, NamedHavePlaces};
 ghost use Rattle.vc_net_places.specs.Laws.{NumbersAreTaken, PlacesAreApart, PlacesAreCounted, PlacesAreInOrder};
 ghost use Rattle.vc_net_places.specs.Laws.{ThingsAreCounted};
 
@@ -14,10 +14,11 @@ pub fn places_are_counted()
     ensures taken { NumbersAreTaken }
 {}
 
-/// What is kept of a plan tells the place of each atom, and what each place is of.
+/// What is kept of a plan tells the place of each atom, what each place is of, and what may stand there.
 pub fn index_tells_places()
     ensures places { IndexTellsPlaces }
     ensures things { IndexTellsThings }
+    ensures back { IndexTellsBack }
     ensures counted { ThingsAreCounted }
     ensures firsts { FirstsAreCounted }
 {}

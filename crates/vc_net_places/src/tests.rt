@@ -4,8 +4,8 @@ ghost use Rattle.std.specs.Prelude.{◌≡◌, ◌^◌, ◌<◌, false, [], ◌�
 ghost use Rattle.vc_value.specs.declared.table_header.Domain.TheVariants.{Texts};
 ghost use Rattle.vc_plan.specs.Domains.{atom_count};
 
-use crate::laws::{index_tells_places, places_are_counted};
-use crate::{Places, Thing};
+use crate::laws::{cells_suffice, index_tells_places, places_are_counted};
+use crate::{Cells, Places, Spot, Thing};
 use std::alloc::{AllocError, Global};
 use std::test::Fail;
 use vc_plan::{Atom, Plan, Slot, Var};
@@ -89,6 +89,14 @@ fn thing(places: &Places, place: usize) -> Option<Thing> {
     }
 }
 
+fn spot(places: &Places, place: usize) -> Option<Spot> {
+    if place < places.count() && places.count() < 100 {
+        Some(places.spot(place))
+    } else {
+        None
+    }
+}
+
 #[test]
 fn numbers_two_variables(rt: HostRuntime) -> Result<(), Fail> {
     let places = places_of_two(rt.alloc())?;
@@ -102,6 +110,19 @@ fn numbers_two_variables(rt: HostRuntime) -> Result<(), Fail> {
     assert_eq!(rt; thing(&places, 3), Some(Thing::Var(0)));
     assert_eq!(rt; thing(&places, 6), Some(Thing::Var(1)));
     assert_eq!(rt; thing(&places, 7), None);
+    assert_eq!(rt; spot(&places, 0), Some(Spot::Here(0)));
+    assert_eq!(rt; spot(&places, 4), Some(Spot::Is(1)));
+    assert_eq!(rt; spot(&places, 3), Some(Spot::Out(0, 1)));
+    Ok(())
+}
+
+#[test]
+fn cells_follow_one_another(rt: HostRuntime) -> Result<(), Fail> {
+    let cells = Cells::new(rt.alloc(), &[2, 0, 3])?;
+    assert_eq!(rt; cells.begin(0), 0);
+    assert_eq!(rt; cells.begin(1), 2);
+    assert_eq!(rt; cells.begin(2), 2);
+    assert_eq!(rt; cells.begin(3), 5);
     Ok(())
 }
 
@@ -109,5 +130,6 @@ fn numbers_two_variables(rt: HostRuntime) -> Result<(), Fail> {
 fn laws_ask_for_nothing(_rt: HostRuntime) -> Result<(), Fail> {
     places_are_counted();
     index_tells_places();
+    cells_suffice();
     Ok(())
 }

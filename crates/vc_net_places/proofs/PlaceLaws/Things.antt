@@ -1,5 +1,5 @@
 -- What is kept of places, read at a number.
-use Rattle.std.proofs.Common.{◌≡◌, ℕ, zero, suc, ◌+◌, ◌<◌, ◌≤◌, ◌⊎◌, List, [], ◌∷◌, ◌++◌, length, map, refl, sym, ◌∙◌, ap, subst, inl, inr, arith, append_assoc, append-nil, length-append}
+use Rattle.std.proofs.Common.{◌≡◌, ℕ, true, zero, suc, ◌+◌, ◌<◌, ◌≤◌, ◌⊎◌, List, [], ◌∷◌, ◌++◌, length, map, refl, sym, ◌∙◌, ap, subst, inl, inr, arith, append_assoc, append-nil, length-append, ◌-◌}
 use Rattle.std.specs.Prelude.{Some, nat_lt, replicate, slice_get, slice_index_or}
 use Rattle.std.specs.List.{flat_map, range_with_len}
 use Rattle.std.proofs.lemmas.Bool.{and_parts, cases_lt, ltb-true}
@@ -8,11 +8,12 @@ use Rattle.std.proofs.lemmas.List.{length-map, length-replicate, map-append}
 use Rattle.vc_base.proofs.ListLaws.{range_split}
 use Rattle.vc_plan.specs.declared.atoms.Atom.TheVariants.{Here, Out, Is}
 use Rattle.vc_plan.specs.declared.plans.Plan.{Plan}
-use Rattle.vc_plan.specs.Bounds.{here_at, is_at, out_at}
+use Rattle.vc_plan.specs.Bounds.{here_at, is_at, out_at, Place}
 use Rattle.vc_plan.specs.Domains.{count_of, numbers_below}
+use Rattle.vc_net_places.specs.declared.places.Thing.{Thing}
 use Rattle.vc_net_places.specs.declared.places.Thing.TheVariants.{Slot, Var}
-use Rattle.vc_net_places.specs.Laws.{FirstsAreCounted, IndexTellsPlaces, IndexTellsThings, ThingsAreCounted}
-use Rattle.vc_net_places.specs.Places.{first_in, first_place, index_of, things_before, things_of_var}
+use Rattle.vc_net_places.specs.Laws.{FirstsAreCounted, IndexTellsBack, IndexTellsPlaces, IndexTellsThings, ThingsAreCounted}
+use Rattle.vc_net_places.specs.Places.{first_in, first_place, index_of, things_before, things_of_var, place_after, place_by, thing_at, is_place, number_of}
 use Rattle.vc_net_places.proofs.PlaceLaws.Numbering.{first_next}
 
 -- an element of a mapped range
@@ -138,6 +139,30 @@ index_tells_things plan (out_at v g) e =
     let p = and_parts (nat_lt v (length plan.vars)) (nat_lt g (count_of plan v)) e in
     let below : g < count_of plan v = ltb-true g (count_of plan v) p.1 in
     thing_of_var plan v (length plan.vars) (1 + g) (ltb-true v (length plan.vars) p.0) (omega (arith, below))
+
+-- what may stand at a number
+by_thing : (plan : Plan) (place : Place) (thing : Thing) → is_place plan place ≡ true → thing_at place ≡ thing
+    → place_by (index_of plan) (number_of plan place) (Some thing) ≡ place
+by_thing plan (here_at i) (Slot j) e is = let same : i ≡ j = cc in ap here_at (sym same)
+by_thing plan (here_at i) (Var w) e is = absurd (cc)
+by_thing plan (is_at v) (Slot j) e is = absurd (cc)
+by_thing plan (is_at v) (Var w) e is =
+    let same : v ≡ w = cc in
+    let first = first_is plan v (ltb-true v (length plan.vars) e) in
+    let none : first_place plan v - first_in (index_of plan) v ≡ 0 = omega (arith, first) in
+    ap (λ z. place_after z (first_place plan v - first_in (index_of plan) z)) (sym same) ∙ ap (place_after v) none
+by_thing plan (out_at v g) (Slot j) e is = absurd (cc)
+by_thing plan (out_at v g) (Var w) e is =
+    let same : v ≡ w = cc in
+    let p = and_parts (nat_lt v (length plan.vars)) (nat_lt g (count_of plan v)) e in
+    let first = first_is plan v (ltb-true v (length plan.vars) p.0) in
+    let rest : first_place plan v + (1 + g) - first_in (index_of plan) v ≡ suc g = omega (arith, first) in
+    ap (λ z. place_after z (first_place plan v + (1 + g) - first_in (index_of plan) z)) (sym same) ∙ ap (place_after v) rest
+
+pub index_tells_back : IndexTellsBack
+index_tells_back plan place e =
+    ap (place_by (index_of plan) (number_of plan place)) (index_tells_things plan place e)
+    ∙ by_thing plan place (thing_at place) e refl
 
 -- one more of the same
 pub replicate_next : {X : Type 0} (n : ℕ) (x : X) → replicate (n + 1) x ≡ replicate n x ++ x ∷ []
