@@ -1,18 +1,18 @@
 -- Places in order, and the cells that they have of their own.
-use Rattle.std.proofs.Common.{◌≡◌, ℕ, zero, suc, ◌+◌, ◌<◌, ◌≤◌, ◌⊎◌, max, Bool, true, false, cond, ◌&&◌, List, [], ◌∷◌, ◌++◌, length, map, refl, sym, ◌∙◌, ap, subst, inl, inr, arith, append_assoc, append-nil, length-append}
-use Rattle.std.specs.Prelude.{Option, None, Some, drop, nat_lt, slice_get, slice_index_or, ◌==◌}
+use Rattle.std.proofs.Common.{◌≡◌, ℕ, zero, suc, ◌+◌, ◌<◌, ◌≤◌, ◌⊎◌, max, false, cond, List, [], ◌∷◌, ◌++◌, length, map, refl, sym, ◌∙◌, ap, subst, inl, inr, arith, append_assoc, append-nil, length-append}
+use Rattle.std.specs.Prelude.{Some, drop, nat_lt, slice_get, slice_index_or, ◌==◌}
 use Rattle.std.specs.List.{flat_map, range_with_len, sum_by}
 use Rattle.std.proofs.lemmas.Bool.{and_parts, cases_lt, eqb-true, false_from_ne_true, ltb-true}
 use Rattle.std.proofs.lemmas.Grind.{flat_map-append}
-use Rattle.std.proofs.lemmas.List.{length-map, map-append}
+use Rattle.std.proofs.lemmas.List.{length-map}
 use Rattle.std.proofs.lemmas.List.Sums.{sum_by-append, sum_by-cons}
 use Rattle.vc_base.proofs.ListLaws.{range_split}
 use Rattle.vc_plan.specs.declared.plans.Plan.{Plan}
-use Rattle.vc_plan.specs.Bounds.{Place, cell_bound, clash_bound, greatest, here_at, is_at, out_at, place_bound, places, places_of}
+use Rattle.vc_plan.specs.Bounds.{Place, clash_bound, greatest, here_at, is_at, out_at, place_bound, places, places_of}
 use Rattle.vc_plan.specs.Domains.{count_of, numbers_below}
 use Rattle.vc_net_places.specs.Cells.{all_places, begins_from, bounds_of, own_bound, places_before, places_of_var, total}
 use Rattle.vc_net_places.specs.Laws.{BoundsAreByPlace, CellsAreApart, CellsEndAtTotal, CellsSuffice, PlacesAreInOrder}
-use Rattle.vc_net_places.specs.Places.{first_place, is_place, number_of}
+use Rattle.vc_net_places.specs.Places.{first_place, number_of}
 use Rattle.vc_net_places.proofs.PlaceLaws.Numbering.{first_next}
 use Rattle.vc_net_places.proofs.PlaceLaws.Things.{get_first, get_second, length_range, range_at}
 
