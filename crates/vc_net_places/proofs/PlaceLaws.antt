@@ -1,3 +1,4 @@
 -- Laws of places.
+pub mod Cells
 pub mod Numbering
 pub mod Things

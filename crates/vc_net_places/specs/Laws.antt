@@ -1,11 +1,12 @@
 -- Laws of places: each atom of a plan has its own, and all are counted.
-use Rattle.std.specs.Prelude.{◌≡◌, ◌<◌, ℕ, true, length, slice_get, Some}
+use Rattle.std.specs.Prelude.{◌≡◌, ◌<◌, ◌+◌, ℕ, max, true, List, length, slice_get, slice_index_or, Some}
 use Rattle.vc_plan.specs.declared.atoms.Atom.{Atom}
 use Rattle.vc_plan.specs.declared.plans.Plan.{Plan}
-use Rattle.vc_plan.specs.Bounds.{Place}
+use Rattle.vc_plan.specs.Bounds.{Place, cell_bound, clash_bound, greatest}
 use Rattle.vc_plan.specs.Clear.{is_named}
 use Rattle.vc_plan.specs.Domains.{atom_count}
-use Rattle.vc_net_places.specs.Places.{index_of, is_place, number_of, place_for, place_in, place_of, thing_at, things_before}
+use Rattle.vc_net_places.specs.Cells.{all_places, begins_from, bounds_of, own_bound, total}
+use Rattle.vc_net_places.specs.Places.{index_of, is_place, number_of, place_for, place_in, place_numbered, place_of, thing_at}
 
 -- an atom that the plan names has a place
 abbrev pub NamedHavePlaces : Type 0
@@ -35,5 +36,35 @@ abbrev pub IndexTellsThings : Type 0
 IndexTellsThings = (plan : Plan) (place : Place) → is_place plan place ≡ true
     → slice_get (index_of plan).things (number_of plan place) ≡ Some (thing_at place)
 
+abbrev pub IndexTellsBack : Type 0
+IndexTellsBack = (plan : Plan) (place : Place) → is_place plan place ≡ true
+    → place_numbered (index_of plan) (number_of plan place) ≡ place
+
 abbrev pub ThingsAreCounted : Type 0
 ThingsAreCounted = (plan : Plan) → length (index_of plan).things ≡ atom_count plan
+
+-- a first place is kept of each variable
+abbrev pub FirstsAreCounted : Type 0
+FirstsAreCounted = (plan : Plan) → length (index_of plan).firsts ≡ length plan.vars
+
+-- the places in their order stand at their numbers
+abbrev pub PlacesAreInOrder : Type 0
+PlacesAreInOrder = (plan : Plan) (place : Place) → is_place plan place ≡ true
+    → slice_get (all_places plan) (number_of plan place) ≡ Some place
+
+-- the cells of all places, and those of one clash, are what the plan's bound counts
+abbrev pub CellsSuffice : Type 0
+CellsSuffice = (plan : Plan) → total (bounds_of plan) + max 1 (greatest (clash_bound plan) plan.rules) ≡ cell_bound plan
+
+-- cells that follow one another don't overlap: each begin where those before them end, the last at the total
+abbrev pub CellsAreApart : Type 0
+CellsAreApart = (bounds : List ℕ) (n : ℕ) → n < length bounds
+    → slice_index_or (begins_from 0 bounds) n 0 + slice_index_or bounds n 0 ≡ slice_index_or (begins_from 0 bounds) (n + 1) 0
+
+abbrev pub CellsEndAtTotal : Type 0
+CellsEndAtTotal = (bounds : List ℕ) → slice_index_or (begins_from 0 bounds) (length bounds) 0 ≡ total bounds
+
+-- what a place's cells are counted by
+abbrev pub BoundsAreByPlace : Type 0
+BoundsAreByPlace = (plan : Plan) (place : Place) → is_place plan place ≡ true
+    → slice_get (bounds_of plan) (number_of plan place) ≡ Some (own_bound plan place)

@@ -1,12 +1,14 @@
 -- The place of each atom that may stand in a net: the plan's slots first, then variable by variable one place for its value
 -- and one for each of its grains.
-use Rattle.std.specs.Prelude.{ℕ, ◌+◌, Bool, true, ◌&&◌, nat_lt, List, [], ◌∷◌, ◌++◌, length, map, replicate, slice_index_or}
+use Rattle.std.specs.Prelude.{ℕ, ◌+◌, Bool, true, ◌&&◌, nat_lt, List, ◌++◌, length, map, replicate, slice_index_or, zero, suc, ◌-◌, slice_get, Option, None, Some}
 use Rattle.std.specs.List.{flat_map, sum_by}
 use Rattle.vc_plan.specs.declared.atoms.Atom.{Atom}
 use Rattle.vc_plan.specs.declared.atoms.Atom.TheVariants.{Here, Out, Is}
 use Rattle.vc_plan.specs.declared.plans.Plan.{Plan}
 use Rattle.vc_plan.specs.Bounds.{Place, here_at, out_at, is_at}
 use Rattle.vc_plan.specs.Domains.{numbers_below, count_of}
+use Rattle.vc_net_places.specs.declared.places.Spot.{Spot}
+use Rattle.vc_net_places.specs.declared.places.Spot.TheVariants as spots
 use Rattle.vc_net_places.specs.declared.places.Thing.{Thing}
 use Rattle.vc_net_places.specs.declared.places.Thing.TheVariants.{Slot, Var}
 
@@ -67,6 +69,25 @@ abbrev pub place_in : Index → Atom → ℕ
 place_in index (Here i) = i
 place_in index (Out v g) = first_in index v + (1 + g)
 place_in index (Is v a) = first_in index v
+
+-- and the other way: the place of this number, by what it is of
+abbrev pub place_after : ℕ → ℕ → Place
+place_after v zero = is_at v
+place_after v (suc g) = out_at v g
+
+abbrev pub place_by : Index → ℕ → Option Thing → Place
+place_by index n None = here_at 0
+place_by index n (Some (Slot i)) = here_at i
+place_by index n (Some (Var v)) = place_after v (n - first_in index v)
+
+abbrev pub place_numbered : Index → ℕ → Place
+place_numbered index n = place_by index n (slice_get index.things n)
+
+-- the place that is told of
+abbrev pub told_place : Spot → Place
+told_place (spots.Here i) = here_at i
+told_place (spots.Out v g) = out_at v g
+told_place (spots.Is v) = is_at v
 
 -- whether the atom's variable, if it is of one, is kept
 abbrev pub var_kept : Index → Atom → Bool

@@ -2,10 +2,12 @@
 //! knows of the atom.
 #![tactic(auto)]
 
+pub mod cells;
 pub mod laws;
 pub mod places;
 
-pub use places::{Places, Thing};
+pub use cells::Cells;
+pub use places::{Places, Spot, Thing};
 
 #[cfg(test)]
 mod tests;

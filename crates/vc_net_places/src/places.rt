@@ -2,7 +2,7 @@
 
 ghost use Rattle.std.specs.Prelude.{◌≡◌, ◌^◌, ◌<◌, ◌++◌, IfOk, OnOk};
 ghost use Rattle.vc_plan.specs.Domains.{atom_count, count_of};
-ghost use Rattle.vc_net_places.specs.Places.{things_before, things_of_var};
+ghost use Rattle.vc_net_places.specs.Places.{place_after, things_before, things_of_var, told_place};
 
 use std::alloc::{AllocError, Global};
 use std::marker::Model;
@@ -14,6 +14,17 @@ use vc_value::Listed;
 pub enum Thing {
     Slot(u32),
     Var(u32),
+}
+
+/// What may stand at a place.
+#[derive(Clone, Copy, Debug, PartialEq, Eq)]
+pub enum Spot {
+    /// That the slot is here.
+    Here(u32),
+    /// That the grain of the variable is excluded.
+    Out(u32, u32),
+    /// The variable's value, whichever it has.
+    Is(u32),
 }
 
 /// The places of a plan's atoms: the slots first, then variable by variable one for its value and one for each of its
@@ -35,7 +46,7 @@ impl Model for Places {
 impl Places {
     ghost use Rattle.std.specs.Prelude.{◌≡◌, ◌^◌, ◌<◌, true, length, slice_get, IfOk, Some};
     ghost use Rattle.vc_plan.specs.Domains.{atom_count};
-    ghost use Rattle.vc_net_places.specs.Places.{first_in, index_of, place_in, var_kept};
+    ghost use Rattle.vc_net_places.specs.Places.{first_in, index_of, place_in, place_numbered, told_place, var_kept};
 
     /// The places of the plan's atoms.
     pub fn new(alloc: Global, plan: &Plan) -> Result<Places, AllocError>
@@ -85,6 +96,42 @@ impl Places {
         ensures { slice_get self.now.things place ≡ Some result }
     {
         self.things.as_slice()[place]
+    }
+
+    /// What may stand at the place.
+    pub fn spot(&self, place: usize) -> Spot
+        requires inside { place < length self.now.things }
+        requires few { length self.now.things < 2 ^ 32 }
+        ensures { told_place result ≡ place_numbered self.now place }
+    {
+        match self.thing(place) {
+            Thing::Slot(slot) => Spot::Here(slot),
+            Thing::Var(var) => spot_after(
+                var,
+                place.saturating_sub(self.first_or_zero(var)) as u32,
+            ),
+        }
+    }
+
+    // The place of a variable's value; 0 where there is no such variable.
+    fn first_or_zero(&self, var: u32) -> usize
+        ensures { result ≡ first_in self.now var }
+    {
+        match self.firsts.as_slice().get(var as usize) {
+            Some(first) => *first as usize,
+            None => 0,
+        }
+    }
+}
+
+// What may stand at one of a variable's places: its value, then its grains.
+fn spot_after(var: u32, rest: u32) -> Spot
+    ensures { told_place result ≡ place_after var rest }
+{
+    if rest == 0 {
+        Spot::Is(var)
+    } else {
+        Spot::Out(var, rest - 1)
     }
 }
 

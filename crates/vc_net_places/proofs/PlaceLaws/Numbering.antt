@@ -1,13 +1,11 @@
 -- Places are numbered one after another, without gaps.
-use Rattle.std.proofs.Common.{◌≡◌, ℕ, zero, suc, ◌+◌, ◌-◌, ◌<◌, ◌≤◌, ◌⊎◌, Bool, true, false, ◌&&◌, ◌||◌, List, [], ◌∷◌, length, refl, sym, ◌∙◌, ap, subst, inl, inr, arith}
+use Rattle.std.proofs.Common.{◌≡◌, ℕ, zero, suc, ◌+◌, ◌-◌, ◌<◌, ◌≤◌, true, ◌&&◌, List, [], ◌∷◌, length, refl, ◌∙◌, ap, inl, inr, arith}
 use Rattle.std.specs.Prelude.{Option, None, Some, nat_lt, slice_get}
 use Rattle.std.proofs.lemmas.Bool.{and_from, and_parts, cases_lt, lt-ltb, ltb-true}
-use Rattle.vc_plan.specs.declared.atoms.Atom.{Atom}
 use Rattle.vc_plan.specs.declared.atoms.Atom.TheVariants.{Here, Out, Is}
 use Rattle.vc_plan.specs.declared.plans.Plan.{Plan}
 use Rattle.vc_plan.specs.declared.plans.Var as variable
 use Rattle.vc_plan.specs.Bounds.{Place, here_at, is_at, out_at}
-use Rattle.vc_plan.specs.Clear.{is_named}
 use Rattle.vc_plan.specs.Domains.{atom_count, count_of, domain_of, grains_in, grains_of}
 use Rattle.vc_plan.specs.Pieces.{lies_in_some}
 use Rattle.vc_plan.proofs.PlanLaws.Counts.{atoms_within, sum_front, sum_next}

@@ -1,24 +1,23 @@
 -- What is kept of places, read at a number.
-use Rattle.std.proofs.Common.{◌≡◌, ℕ, zero, suc, ◌+◌, ◌-◌, ◌<◌, ◌≤◌, ◌⊎◌, Bool, true, ◌&&◌, List, [], ◌∷◌, ◌++◌, length, map, refl, sym, ◌∙◌, ap, subst, inl, inr, arith, append_assoc, append-nil, length-append}
-use Rattle.std.specs.Prelude.{Option, None, Some, nat_lt, replicate, slice_get, slice_index_or}
-use Rattle.std.specs.List.{flat_map, range_with_len, sum_by}
+use Rattle.std.proofs.Common.{◌≡◌, ℕ, true, zero, suc, ◌+◌, ◌<◌, ◌≤◌, ◌⊎◌, List, [], ◌∷◌, ◌++◌, length, map, refl, sym, ◌∙◌, ap, subst, inl, inr, arith, append_assoc, append-nil, length-append, ◌-◌}
+use Rattle.std.specs.Prelude.{Some, nat_lt, replicate, slice_get, slice_index_or}
+use Rattle.std.specs.List.{flat_map, range_with_len}
 use Rattle.std.proofs.lemmas.Bool.{and_parts, cases_lt, ltb-true}
 use Rattle.std.proofs.lemmas.Grind.{flat_map-append}
 use Rattle.std.proofs.lemmas.List.{length-map, length-replicate, map-append}
 use Rattle.vc_base.proofs.ListLaws.{range_split}
-use Rattle.vc_plan.specs.declared.atoms.Atom.{Atom}
 use Rattle.vc_plan.specs.declared.atoms.Atom.TheVariants.{Here, Out, Is}
 use Rattle.vc_plan.specs.declared.plans.Plan.{Plan}
-use Rattle.vc_plan.specs.Bounds.{Place, here_at, is_at, out_at}
-use Rattle.vc_plan.specs.Domains.{atom_count, count_of, numbers_below}
+use Rattle.vc_plan.specs.Bounds.{here_at, is_at, out_at, Place}
+use Rattle.vc_plan.specs.Domains.{count_of, numbers_below}
 use Rattle.vc_net_places.specs.declared.places.Thing.{Thing}
 use Rattle.vc_net_places.specs.declared.places.Thing.TheVariants.{Slot, Var}
-use Rattle.vc_net_places.specs.Laws.{IndexTellsPlaces, IndexTellsThings, ThingsAreCounted}
-use Rattle.vc_net_places.specs.Places.{first_in, first_place, index_of, is_place, number_of, thing_at, things_before, things_of_var}
+use Rattle.vc_net_places.specs.Laws.{FirstsAreCounted, IndexTellsBack, IndexTellsPlaces, IndexTellsThings, ThingsAreCounted}
+use Rattle.vc_net_places.specs.Places.{first_in, first_place, index_of, things_before, things_of_var, place_after, place_by, thing_at, is_place, number_of}
 use Rattle.vc_net_places.proofs.PlaceLaws.Numbering.{first_next}
 
 -- an element of a mapped range
-range_at : {X : Type 0} (f : ℕ → X) (a n i : ℕ) → i < n → slice_get (map f (range_with_len a n)) i ≡ Some (f (a + i))
+pub range_at : {X : Type 0} (f : ℕ → X) (a n i : ℕ) → i < n → slice_get (map f (range_with_len a n)) i ≡ Some (f (a + i))
 range_at f a zero i below = absurd (omega (arith, below))
 range_at f a (suc n) zero below = ap (λ k. Some (f k)) (omega arith)
 range_at f a (suc n) (suc i) below = range_at f (a + 1) n i (omega (arith, below)) ∙ ap (λ k. Some (f k)) (omega arith)
@@ -29,12 +28,12 @@ index_at f a (suc n) zero below = ap f (omega arith)
 index_at f a (suc n) (suc i) below = index_at f (a + 1) n i (omega (arith, below)) ∙ ap f (omega arith)
 
 -- an element of the first or of the second of two lists
-get_first : {X : Type 0} (xs ys : List X) (i : ℕ) (x : X) → slice_get xs i ≡ Some x → slice_get (xs ++ ys) i ≡ Some x
+pub get_first : {X : Type 0} (xs ys : List X) (i : ℕ) (x : X) → slice_get xs i ≡ Some x → slice_get (xs ++ ys) i ≡ Some x
 get_first [] ys i x e = absurd (cc)
 get_first (z ∷ xs) ys zero x e = e
 get_first (z ∷ xs) ys (suc i) x e = get_first xs ys i x e
 
-get_second : {X : Type 0} (xs ys : List X) (n i : ℕ) → n ≡ length xs + i → slice_get (xs ++ ys) n ≡ slice_get ys i
+pub get_second : {X : Type 0} (xs ys : List X) (n i : ℕ) → n ≡ length xs + i → slice_get (xs ++ ys) n ≡ slice_get ys i
 get_second [] ys n i is = ap (slice_get ys) (omega (arith, is))
 get_second (z ∷ xs) ys zero i is = absurd (omega (arith, is))
 get_second (z ∷ xs) ys (suc n) i is = get_second xs ys n i (omega (arith, is))
@@ -44,7 +43,7 @@ get_replicate zero i x below = absurd (omega (arith, below))
 get_replicate (suc n) zero x below = refl
 get_replicate (suc n) (suc i) x below = get_replicate n i x (omega (arith, below))
 
-length_range : (a n : ℕ) → length (range_with_len a n) ≡ n
+pub length_range : (a n : ℕ) → length (range_with_len a n) ≡ n
 length_range a zero = refl
 length_range a (suc n) = let rest = length_range (a + 1) n in omega (arith, rest)
 
@@ -80,6 +79,10 @@ things_length plan (suc v) =
 
 pub things_are_counted : ThingsAreCounted
 things_are_counted plan = things_length plan (length plan.vars)
+
+pub firsts_are_counted : FirstsAreCounted
+firsts_are_counted plan =
+    length-map (numbers_below (length plan.vars)) (first_place plan) ∙ length_range 0 (length plan.vars)
 
 -- what a variable's places are of stays when further variables come
 thing_of_var : (plan : Plan) (v k i : ℕ) → v < k → i < count_of plan v + 1
@@ -136,6 +139,30 @@ index_tells_things plan (out_at v g) e =
     let p = and_parts (nat_lt v (length plan.vars)) (nat_lt g (count_of plan v)) e in
     let below : g < count_of plan v = ltb-true g (count_of plan v) p.1 in
     thing_of_var plan v (length plan.vars) (1 + g) (ltb-true v (length plan.vars) p.0) (omega (arith, below))
+
+-- what may stand at a number
+by_thing : (plan : Plan) (place : Place) (thing : Thing) → is_place plan place ≡ true → thing_at place ≡ thing
+    → place_by (index_of plan) (number_of plan place) (Some thing) ≡ place
+by_thing plan (here_at i) (Slot j) e is = let same : i ≡ j = cc in ap here_at (sym same)
+by_thing plan (here_at i) (Var w) e is = absurd (cc)
+by_thing plan (is_at v) (Slot j) e is = absurd (cc)
+by_thing plan (is_at v) (Var w) e is =
+    let same : v ≡ w = cc in
+    let first = first_is plan v (ltb-true v (length plan.vars) e) in
+    let none : first_place plan v - first_in (index_of plan) v ≡ 0 = omega (arith, first) in
+    ap (λ z. place_after z (first_place plan v - first_in (index_of plan) z)) (sym same) ∙ ap (place_after v) none
+by_thing plan (out_at v g) (Slot j) e is = absurd (cc)
+by_thing plan (out_at v g) (Var w) e is =
+    let same : v ≡ w = cc in
+    let p = and_parts (nat_lt v (length plan.vars)) (nat_lt g (count_of plan v)) e in
+    let first = first_is plan v (ltb-true v (length plan.vars) p.0) in
+    let rest : first_place plan v + (1 + g) - first_in (index_of plan) v ≡ suc g = omega (arith, first) in
+    ap (λ z. place_after z (first_place plan v + (1 + g) - first_in (index_of plan) z)) (sym same) ∙ ap (place_after v) rest
+
+pub index_tells_back : IndexTellsBack
+index_tells_back plan place e =
+    ap (place_by (index_of plan) (number_of plan place)) (index_tells_things plan place e)
+    ∙ by_thing plan place (thing_at place) e refl
 
 -- one more of the same
 pub replicate_next : {X : Type 0} (n : ℕ) (x : X) → replicate (n + 1) x ≡ replicate n x ++ x ∷ []

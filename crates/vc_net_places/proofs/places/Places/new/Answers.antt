@@ -1,5 +1,5 @@
 -- What is pushed is small where the atoms are, and puts the next variable's places after the others.
-use Rattle.std.proofs.Common.{◌≡◌, ◌^◌, ◌<◌, ◌∙◌, ◌++◌, [], ◌∷◌, ap, sym, arith, length, map}
+use Rattle.std.proofs.Common.{◌≡◌, ◌^◌, ◌∙◌, ◌++◌, [], ◌∷◌, ap, sym, arith, length, map}
 use Rattle.vc_plan.specs.Domains.{numbers_below}
 use Rattle.vc_net_places.specs.Places.{first_place, things_of_var}
 use Rattle.vc_net_places.proofs.PlaceLaws.Numbering.{IsSmall, small}
