@@ -22,7 +22,7 @@ use Rattle.vc_compile_plan.specs.Layouts.{layout_of}
 use Rattle.vc_compile_plan.proofs.PlanRows.Words.{Spots, millionths, number, whole, plain, member, relation, asks, of_class, binds, calls, always, where_true, constraint, called, precondition, from_to, numbers, characteristic, class, column, net, object, empty, rows}
 
 -- A is 0 .. 100 with one decimal, B the same with none; what is used stands at the object of the only slot
-abbrev lists : Model
+abbrev pub lists : Model
 lists = record empty {
   characteristics =
       characteristic (codes "A") true (numbers 1 (from_to 0 100 ∷ []))
@@ -34,18 +34,18 @@ lists = record empty {
   objects = record (object (codes "M") 0 []) { nets = 0 ∷ [] } ∷ [];
 }
 
-abbrev restricted : List Restriction → Model
+abbrev pub restricted : List Restriction → Model
 restricted restrictions = record lists {
   dependencies = called (codes "C") (constraint (of_class (codes "X") (codes "K") ∷ []) None restrictions []) ∷ [];
 }
 
-abbrev a : Term
+abbrev pub a : Term
 a = member (codes "X") (codes "A")
 
-abbrev b : Term
+abbrev pub b : Term
 b = member (codes "X") (codes "B")
 
-abbrev relates : Spots → Term → Relator → Term → Restriction
+abbrev pub relates : Spots → Term → Relator → Term → Restriction
 relates p left relator right = always (demands.Relation (relation p left relator right))
 
 abbrev cut_by : List Restriction → List Domain
