@@ -17,7 +17,7 @@ use Rattle.vc_plan.specs.declared.rules.Rule.{Rule}
 use Rattle.vc_compile_plan.specs.Layouts.{Layout}
 use Rattle.vc_compile_plan.specs.Procedures.{Action, assign, set_default, delete_default, look_up, KeyDraft, StatementDraft, ProcedureDraft, procedure_drafts}
 use Rattle.vc_compile_plan.specs.Rules.{Demand, among, compare, equate, by_table, never, last, line, Draft, rule_drafts}
-use Rattle.vc_compile_plan.specs.Shown.{Choice, GuardDraft, RequirementDraft, Step, guard_drafts, requirement_drafts, line_drafts, operation_drafts}
+use Rattle.vc_compile_plan.specs.Shown.{Choice, GuardDraft, RequirementDraft, ItemDraft, guard_drafts, requirement_drafts, line_drafts, operation_drafts}
 use Rattle.vc_compile_plan.specs.Trees.{Term, Condition, Always}
 
 -- the conditions and the terms that a thing brings
@@ -86,31 +86,31 @@ abbrev pub requirement_from : ℕ → ℕ → RequirementDraft → Requirement
 requirement_from c t draft = record { at = draft.at; selection = record { dependency = draft.choice.dependency; condition = c } }
 
 -- lines and operations
-abbrev pub step_brings : Brings Step
-step_brings = record { conditions = λ step. map (λ choice. choice.condition) step.choices; terms = λ step. step.term ∷ [] }
+abbrev pub item_brings : Brings ItemDraft
+item_brings = record { conditions = λ draft. map (λ choice. choice.condition) draft.choices; terms = λ draft. draft.term ∷ [] }
 
 abbrev pub selections_from : ℕ → List Choice → List Selection
 selections_from c [] = []
 selections_from c (choice ∷ choices) = record { dependency = choice.dependency; condition = c } ∷ selections_from (suc c) choices
 
-abbrev pub line_from : ℕ → ℕ → Step → Line
-line_from c t step = record {
-  slot = step.slot;
-  item = step.number;
-  material = step.word;
-  unit = step.unit;
+abbrev pub line_from : ℕ → ℕ → ItemDraft → Line
+line_from c t draft = record {
+  slot = draft.slot;
+  item = draft.number;
+  material = draft.word;
+  unit = draft.unit;
   quantity = t;
-  selections = selections_from c step.choices;
+  selections = selections_from c draft.choices;
 }
 
-abbrev pub operation_from : ℕ → ℕ → Step → Operation
-operation_from c t step = record {
-  slot = step.slot;
-  number = step.number;
-  name = step.word;
-  unit = step.unit;
+abbrev pub operation_from : ℕ → ℕ → ItemDraft → Operation
+operation_from c t draft = record {
+  slot = draft.slot;
+  number = draft.number;
+  name = draft.word;
+  unit = draft.unit;
   time = t;
-  selections = selections_from c step.choices;
+  selections = selections_from c draft.choices;
 }
 
 -- procedures
@@ -155,8 +155,8 @@ pub record Drafts : Type 0 where
   pub rules : List Draft
   pub guards : List GuardDraft
   pub requirements : List RequirementDraft
-  pub lines : List Step
-  pub operations : List Step
+  pub lines : List ItemDraft
+  pub operations : List ItemDraft
   pub procedures : List ProcedureDraft
 
 abbrev pub drafts_of : Layout → Drafts
@@ -181,14 +181,14 @@ conditions_of drafts =
     Always ∷ brought_conditions rule_brings drafts.rules
     ++ (brought_conditions guard_brings drafts.guards
     ++ (brought_conditions requirement_brings drafts.requirements
-    ++ (brought_conditions step_brings drafts.lines
-    ++ (brought_conditions step_brings drafts.operations ++ brought_conditions procedure_brings drafts.procedures))))
+    ++ (brought_conditions item_brings drafts.lines
+    ++ (brought_conditions item_brings drafts.operations ++ brought_conditions procedure_brings drafts.procedures))))
 
 abbrev pub terms_of : Drafts → List Term
 terms_of drafts =
     brought_terms rule_brings drafts.rules
-    ++ (brought_terms step_brings drafts.lines
-    ++ (brought_terms step_brings drafts.operations ++ brought_terms procedure_brings drafts.procedures))
+    ++ (brought_terms item_brings drafts.lines
+    ++ (brought_terms item_brings drafts.operations ++ brought_terms procedure_brings drafts.procedures))
 
 -- the number of the first condition of each kind
 abbrev pub guards_begin : Drafts → ℕ
@@ -201,20 +201,20 @@ abbrev pub lines_begin : Drafts → ℕ
 lines_begin drafts = requirements_begin drafts + length (brought_conditions requirement_brings drafts.requirements)
 
 abbrev pub operations_begin : Drafts → ℕ
-operations_begin drafts = lines_begin drafts + length (brought_conditions step_brings drafts.lines)
+operations_begin drafts = lines_begin drafts + length (brought_conditions item_brings drafts.lines)
 
 abbrev pub procedures_begin : Drafts → ℕ
-procedures_begin drafts = operations_begin drafts + length (brought_conditions step_brings drafts.operations)
+procedures_begin drafts = operations_begin drafts + length (brought_conditions item_brings drafts.operations)
 
 -- and that of the first term
 abbrev pub line_terms_begin : Drafts → ℕ
 line_terms_begin drafts = length (brought_terms rule_brings drafts.rules)
 
 abbrev pub operation_terms_begin : Drafts → ℕ
-operation_terms_begin drafts = line_terms_begin drafts + length (brought_terms step_brings drafts.lines)
+operation_terms_begin drafts = line_terms_begin drafts + length (brought_terms item_brings drafts.lines)
 
 abbrev pub procedure_terms_begin : Drafts → ℕ
-procedure_terms_begin drafts = operation_terms_begin drafts + length (brought_terms step_brings drafts.operations)
+procedure_terms_begin drafts = operation_terms_begin drafts + length (brought_terms item_brings drafts.operations)
 
 -- the numbered things
 abbrev pub rules_of : Drafts → List Rule
@@ -227,10 +227,10 @@ abbrev pub requirements_of : Drafts → List Requirement
 requirements_of drafts = numbered requirement_brings requirement_from (requirements_begin drafts) 0 drafts.requirements
 
 abbrev pub lines_of : Drafts → List Line
-lines_of drafts = numbered step_brings line_from (lines_begin drafts) (line_terms_begin drafts) drafts.lines
+lines_of drafts = numbered item_brings line_from (lines_begin drafts) (line_terms_begin drafts) drafts.lines
 
 abbrev pub operations_of : Drafts → List Operation
-operations_of drafts = numbered step_brings operation_from (operations_begin drafts) (operation_terms_begin drafts) drafts.operations
+operations_of drafts = numbered item_brings operation_from (operations_begin drafts) (operation_terms_begin drafts) drafts.operations
 
 abbrev pub procedures_of : Drafts → List Procedure
 procedures_of drafts = numbered procedure_brings procedure_from (procedures_begin drafts) (procedure_terms_begin drafts) drafts.procedures

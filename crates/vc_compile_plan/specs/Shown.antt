@@ -93,7 +93,7 @@ abbrev pub requirement_drafts : Layout → List RequirementDraft
 requirement_drafts layout = by_slot (requirements_at layout) 0 layout.slots
 
 -- a line of a bill or an operation: its number in the object, its words, its quantity or time, and what it asks
-pub record Step : Type 0 where
+pub record ItemDraft : Type 0 where
   pub slot : ℕ
   pub number : ℕ
   pub word : List ℕ
@@ -118,7 +118,7 @@ abbrev pub line_choices : Layout → Site → Component → List ℕ → List Ch
 line_choices layout site (components.Object o) uses = []
 line_choices layout site (components.Plain material) uses = map (choice_at layout site) (selections_among layout.model uses)
 
-abbrev pub line_at : Layout → ℕ → Slot → BillItem → Step
+abbrev pub line_at : Layout → ℕ → Slot → BillItem → ItemDraft
 line_at layout i slot item =
     let site = site_at layout i slot (at.Line (is_configurable item.component)) in
     record {
@@ -130,7 +130,7 @@ line_at layout i slot item =
       choices = line_choices layout site item.component item.uses;
     }
 
-abbrev pub line_drafts : Layout → List Step
+abbrev pub line_drafts : Layout → List ItemDraft
 line_drafts layout = by_slot (λ i slot. map (line_at layout i slot) (bill_of layout.model slot.object)) 0 layout.slots
 
 -- the operations of an object
@@ -138,7 +138,7 @@ abbrev pub operations_in : Option Object → List Operation
 operations_in None = []
 operations_in (Some object) = object.operations
 
-abbrev pub operation_at : Layout → ℕ → Slot → Operation → Step
+abbrev pub operation_at : Layout → ℕ → Slot → Operation → ItemDraft
 operation_at layout i slot operation =
     let site = operation_site layout i slot in
     record {
@@ -150,6 +150,6 @@ operation_at layout i slot operation =
       choices = map (choice_at layout site) (selections_among layout.model operation.uses);
     }
 
-abbrev pub operation_drafts : Layout → List Step
+abbrev pub operation_drafts : Layout → List ItemDraft
 operation_drafts layout =
     by_slot (λ i slot. map (operation_at layout i slot) (operations_in (slice_get layout.model.objects slot.object))) 0 layout.slots

@@ -1,5 +1,5 @@
 -- Which objects have so many levels of components below them, object by object.
-use Rattle.std.specs.Prelude.{ℕ, Bool, true, false, is_some, List, map, slice_get, Option, None, Some}
+use Rattle.std.specs.Prelude.{ℕ, Bool, false, is_some, List, map, slice_get, Option, None, Some}
 use Rattle.std.specs.List.{list_any}
 use Rattle.vc_model_parts.specs.declared.parts.BillItem.{BillItem}
 use Rattle.vc_model_parts.specs.declared.parts.Object.{Object}

@@ -6,9 +6,14 @@ use Rattle.vc_value.specs.declared.grains.Grain.{Grain}
 use Rattle.vc_value.specs.declared.table_header.Domain.{Domain}
 use Rattle.vc_value.specs.declared.table_header.Domain.TheVariants.{Nums}
 use Rattle.vc_value.specs.declared.value.Value.TheVariants.{Num}
+use Rattle.vc_model_parts.specs.declared.parts.Characteristic.{Characteristic}
+use Rattle.vc_model_parts.specs.declared.parts.Component.TheVariants as components
 use Rattle.vc_model_parts.specs.declared.parts.Model.{Model}
 use Rattle.vc_model_parts.specs.declared.parts.NamedDependency.{NamedDependency}
+use Rattle.vc_model_parts.specs.declared.parts.Object.{Object}
+use Rattle.vc_syntax_terms.specs.declared.tree.Action.TheVariants as actions
 use Rattle.vc_syntax_terms.specs.declared.tree.Demand.TheVariants as demands
+use Rattle.vc_syntax_terms.specs.declared.tree.Operand.TheVariants.{Variable}
 use Rattle.vc_syntax_terms.specs.declared.tree.Operator.TheVariants.{Times}
 use Rattle.vc_syntax_terms.specs.declared.tree.Relator.{Relator}
 use Rattle.vc_syntax_terms.specs.declared.tree.Relator.TheVariants as relators
@@ -19,10 +24,10 @@ use Rattle.vc_table.specs.declared.table.VariantTable.{VariantTable}
 use Rattle.vc_plan.proofs.PlanRows.Models as plans
 use Rattle.vc_compile_plan.specs.Cuts.{domains_of}
 use Rattle.vc_compile_plan.specs.Layouts.{layout_of}
-use Rattle.vc_compile_plan.proofs.PlanRows.Words.{Spots, millionths, number, whole, plain, member, relation, asks, of_class, binds, calls, always, where_true, constraint, called, precondition, from_to, numbers, characteristic, class, column, net, object, empty, rows}
+use Rattle.vc_compile_plan.proofs.PlanRows.Words.{Spots, millionths, number, whole, plain, member, relation, asks, of_class, binds, calls, always, where_true, constraint, called, precondition, from_to, numbers, characteristic, class, column, net, object, empty, rows, selection, procedure, does_if, leaf, term_box, line}
 
 -- A is 0 .. 100 with one decimal, B the same with none; what is used stands at the object of the only slot
-abbrev lists : Model
+abbrev pub lists : Model
 lists = record empty {
   characteristics =
       characteristic (codes "A") true (numbers 1 (from_to 0 100 ∷ []))
@@ -34,18 +39,18 @@ lists = record empty {
   objects = record (object (codes "M") 0 []) { nets = 0 ∷ [] } ∷ [];
 }
 
-abbrev restricted : List Restriction → Model
+abbrev pub restricted : List Restriction → Model
 restricted restrictions = record lists {
   dependencies = called (codes "C") (constraint (of_class (codes "X") (codes "K") ∷ []) None restrictions []) ∷ [];
 }
 
-abbrev a : Term
+abbrev pub a : Term
 a = member (codes "X") (codes "A")
 
-abbrev b : Term
+abbrev pub b : Term
 b = member (codes "X") (codes "B")
 
-abbrev relates : Spots → Term → Relator → Term → Restriction
+abbrev pub relates : Spots → Term → Relator → Term → Restriction
 relates p left relator right = always (demands.Relation (relation p left relator right))
 
 abbrev cut_by : List Restriction → List Domain
@@ -132,3 +137,56 @@ without_tuple : (p : Spots)
     })) []
     ≡ a_in (tenths 0 49 ∷ tenths 50 50 ∷ tenths 51 1000 ∷ [])
 without_tuple p = refl
+
+-- what stands at a value, in the profile, at a line and at an operation cuts too
+abbrev uncut : List Characteristic
+uncut = characteristic (codes "A") true (numbers 1 (from_to 0 100 ∷ [])) ∷ characteristic (codes "B") true (numbers 0 (from_to 0 100 ∷ [])) ∷ []
+
+abbrev at_five : List Domain
+at_five = a_in (tenths 0 49 ∷ tenths 50 50 ∷ tenths 51 1000 ∷ [])
+
+abbrev chosen : Spots → NamedDependency
+chosen p = selection p (codes "S") (asks p (plain (codes "A")) relators.Greater (whole 5))
+
+abbrev cut_where : Spots → NamedDependency → List Characteristic → Object → List Domain
+cut_where p dependency listed o =
+    domains_of (layout_of (record lists { characteristics = listed; dependencies = dependency ∷ []; nets = []; objects = o ∷ [] })) []
+
+at_value : (p : Spots)
+    → cut_where p (asked p)
+    (characteristic (codes "A") true (numbers 1 (from_to 0 100 ∷ []))
+    ∷ characteristic (codes "B") true (numbers 0 (record (from_to 0 100) { uses = 0 ∷ [] } ∷ []))
+    ∷ [])
+    (object (codes "M") 0 [])
+    ≡ at_five
+at_value p = refl
+
+in_profile : (p : Spots)
+    → cut_where p
+    (procedure (codes "P") (does_if p (asks p (plain (codes "A")) relators.Greater (whole 5)) (actions.Assign (leaf (codes "B")) (term_box p (whole 7))) ∷ []))
+    uncut
+    (record (object (codes "M") 0 []) { procedures = 0 ∷ [] })
+    ≡ at_five
+in_profile p = refl
+
+in_line : (p : Spots)
+    → cut_where p (chosen p) uncut (object (codes "M") 0 (line p 10 (components.Plain (codes "SEAL")) 1 (0 ∷ []) ∷ [])) ≡ at_five
+in_line p = refl
+
+in_operation : (p : Spots)
+    → cut_where p (chosen p) uncut
+    (record (object (codes "M") 0 []) {
+      operations = record { number = 10; centre = codes "ASSY"; unit = codes "MIN"; time = term_box p (whole 1); uses = 0 ∷ []; line = 0 } ∷ [];
+    })
+    ≡ at_five
+in_operation p = refl
+
+-- a WHERE variable is what it stands for
+by_alias : (p : Spots)
+    → domains_of (layout_of (record lists {
+      dependencies = called (codes "C") (constraint
+          (record (of_class (codes "X") (codes "K")) { aliases = record { variable = leaf (codes "V"); characteristic = leaf (codes "A") } ∷ [] } ∷ [])
+          None (relates p (terms.Operand (Variable (leaf (codes "V")))) relators.Less (whole 5) ∷ []) []) ∷ [];
+    })) []
+    ≡ at_five
+by_alias p = refl

@@ -24,7 +24,9 @@ use Rattle.vc_plan.specs.declared.terms.Function.TheVariants.{Negative}
 use Rattle.vc_plan.specs.declared.terms.Term.TheVariants.{Literal, Read, PartCount, Applied'}
 use Rattle.vc_plan.proofs.PlanRows.Models as plans
 use Rattle.vc_plan.proofs.StageRows.StageModels.{says}
+use Rattle.vc_compile_plan.specs.Conditions.{holds_one}
 use Rattle.vc_compile_plan.specs.PlanOf.{plan_of}
+use Rattle.vc_compile_plan.specs.Trees as trees
 use Rattle.vc_compile_plan.proofs.PlanRows.Words.{Spots, leaf, text, whole, plain, own, asks, binds, calls, precondition, selection, procedure, does, does_if, term_box, listed_text, texts, from_to, numbers, characteristic, class, column, object, empty}
 
 -- MODE H or N; OPT, a set of A and B; N, 0 .. 9 and 20 .. 30; T has the key MODE, and N
@@ -118,3 +120,7 @@ standing_terms : (p : Spots)
     ∷ Literal (plans.number (neg_ℤ (pos 5_000_000)))
     ∷ []
 standing_terms p = refl
+
+-- OR groups to the left
+three_texts : holds_one 0 (2 ∷ 3 ∷ 4 ∷ []) ≡ trees.Or (trees.Or (trees.Holds 0 2) (trees.Holds 0 3)) (trees.Holds 0 4)
+three_texts = refl

@@ -1,6 +1,7 @@
 -- Constraints over two objects, with PART_OF, WHERE, and a text that no value is.
-use Rattle.std.proofs.Common.{◌≡◌, ℕ, true, false, List, [], ◌∷◌, refl}
+use Rattle.std.proofs.Common.{◌≡◌, not, ℕ, true, false, List, [], ◌∷◌, refl}
 use Rattle.std.specs.Prelude.{None, Some, codes}
+use Rattle.std.specs.List.{filter}
 use Rattle.vc_value.specs.declared.table_header.Domain.TheVariants.{Texts, Nums}
 use Rattle.vc_value.specs.declared.value.Value.TheVariants.{Text}
 use Rattle.vc_model_parts.specs.declared.parts.Component.TheVariants as components
@@ -30,6 +31,7 @@ use Rattle.vc_plan.proofs.PlanRows.Models as plans
 use Rattle.vc_compile_plan.specs.Layouts.{layout_of}
 use Rattle.vc_compile_plan.specs.PlanOf.{plan_of}
 use Rattle.vc_compile_plan.specs.Trees.{Spot}
+use Rattle.vc_compile_plan.specs.Texts.{each_once, is_text_of}
 use Rattle.vc_compile_plan.specs.Tuples.{tuples_of}
 use Rattle.vc_compile_plan.proofs.PlanRows.Words.{Spots, leaf, millionths, condition_box, text, whole, member, relation, asks, both, of_class, always, where_true, constraint, inferred, called, listed_text, texts, from_to, numbers, characteristic, class, net, line, object, empty}
 
@@ -137,3 +139,10 @@ machine_last p = refl
 
 of_no_class : (p : Spots) → tuples_of (layout_of (twins p)) (over (of_class (codes "A") (codes "LAMPS") ∷ [])) ≡ []
 of_no_class p = refl
+
+abbrev unlisted_of : List (List ℕ) → List (List ℕ)
+unlisted_of named = each_once (filter (λ text. not (is_text_of (codes "S" ∷ []) text)) named)
+
+-- a text that is named twice, and one that is a value
+named_twice : unlisted_of (codes "S" ∷ codes "Q" ∷ codes "R" ∷ codes "Q" ∷ []) ≡ codes "Q" ∷ codes "R" ∷ []
+named_twice = refl
