@@ -2,4 +2,5 @@
 pub mod Forced
 pub mod Triggers
 pub mod Waking
+pub mod Wakings
 pub mod Working

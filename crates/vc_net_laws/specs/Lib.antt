@@ -1,4 +1,5 @@
 pub mod Forced
 pub mod Triggers
 pub mod Waking
+pub mod Wakings
 pub mod Working

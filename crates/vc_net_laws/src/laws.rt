@@ -4,6 +4,7 @@ ghost use Rattle.vc_net_laws.specs.Forced.{BaseIsForced, LogsAreForced, GivenIsF
 ghost use Rattle.vc_net_laws.specs.Forced.{UnclearBreaks, ClashBreaks, QuietSettles};
 ghost use Rattle.vc_net_laws.specs.Triggers.{TriggersAreNeeded};
 ghost use Rattle.vc_net_laws.specs.Waking.{UntouchedGivesTheSame, UnchangedGivesTheSame, WokenIsEnough, GiversWakeThemselves};
+ghost use Rattle.vc_net_laws.specs.Wakings.{AtomsPayForTurns, WokenAreFew, WorkIsEnough};
 ghost use Rattle.vc_net_laws.specs.Working.{AgendasMayGrow, AtomsCome, QuietMayLeave, WorkBegins, WorkEnds, WorkIsKept};
 
 /// What must stand: that the root is here, what an accepted log concludes, and what is given where all must stand.
@@ -57,4 +58,12 @@ pub fn work_ends()
     ensures leave { QuietMayLeave }
     ensures grow { AgendasMayGrow }
     ensures ends { WorkEnds }
+{}
+
+/// Each atom pays for those that it wakes, so only so many turns are left; and the rules that are asked are within the
+/// work on the things of the atoms that come.
+pub fn turns_are_few()
+    ensures woken { WokenAreFew }
+    ensures turns { AtomsPayForTurns }
+    ensures rules { WorkIsEnough }
 {}

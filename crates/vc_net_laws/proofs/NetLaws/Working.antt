@@ -94,28 +94,28 @@ work_begins plan sources log agenda accepted clear distinct all = record {
 }
 
 -- one element more that wasn't there
-more_apart : (a : Atom) (xs : List Atom) (b : Atom) → AllByRecursion (λ x. same_atom a x ≡ false) xs → same_atom a b ≡ false
-    → AllByRecursion (λ x. same_atom a x ≡ false) (xs ++ b ∷ [])
-more_apart a [] b h e = (e, tt)
-more_apart a (x ∷ xs) b h e = (h.0, more_apart a xs b h.1 e)
+module _ {A : Type 0} (same : A → A → Bool) (exact : (a b : A) → same a b ≡ true → a ≡ b) (itself : (a : A) → same a a ≡ true) where
+  more_apart : (a : A) (xs : List A) (b : A) → AllByRecursion (λ x. same a x ≡ false) xs → same a b ≡ false
+      → AllByRecursion (λ x. same a x ≡ false) (xs ++ b ∷ [])
+  more_apart a [] b h e = (e, tt)
+  more_apart a (x ∷ xs) b h e = (h.0, more_apart a xs b h.1 e)
 
-distinct_more : (xs : List Atom) (b : Atom) → IsDistinct same_atom xs → has same_atom xs b ≡ false
-    → IsDistinct same_atom (xs ++ b ∷ [])
-unfolding IsDistinct
-distinct_more [] b d e = (tt, tt)
-distinct_more (x ∷ xs) b d e =
-    let p = or_parts (same_atom b x) (has same_atom xs b) e in
-    let apart : same_atom x b ≡ false
-    = elim (told (same_atom x b)) [
-      | inl q ↦ absurd (both (subst (λ z. same_atom z x ≡ true) (atom_exact x b q) (atom_itself x)) p.0)
-      | inr q ↦ q
-    ] in
-    (more_apart x xs b d.0 apart, distinct_more xs b d.1 p.1)
+  pub distinct_more : (xs : List A) (b : A) → IsDistinct same xs → has same xs b ≡ false → IsDistinct same (xs ++ b ∷ [])
+  unfolding IsDistinct
+  distinct_more [] b d e = (tt, tt)
+  distinct_more (x ∷ xs) b d e =
+      let p = or_parts (same b x) (has same xs b) e in
+      let apart : same x b ≡ false
+      = elim (told (same x b)) [
+        | inl q ↦ absurd (both (subst (λ z. same z x ≡ true) (exact x b q) (itself x)) p.0)
+        | inr q ↦ q
+      ] in
+      (more_apart x xs b d.0 apart, distinct_more xs b d.1 p.1)
 
 pub atoms_come : AtomsCome
 atoms_come plan sources agenda later set atom work forced new clear stay wake = record {
   sound = sound_sets_grow plan sources set atom work.sound forced clear;
-  distinct = distinct_more set atom work.distinct new;
+  distinct = distinct_more same_atom atom_exact atom_itself set atom work.distinct new;
   quiet = λ giver e. elim (told (has same_giver (givers_of plan) giver)) [
     | inl i ↦
         woken_is_enough plan sources set atom giver work.sound.clear (work.quiet giver (part_lacks agenda later stay giver e))

@@ -1,0 +1,3 @@
+pub mod AgendaLaws
+pub mod AgendaRows
+pub mod PendingLaws
