@@ -6,6 +6,7 @@ pub mod allowing;
 pub mod confining;
 pub mod grains;
 pub mod kinds;
+pub mod laws;
 pub mod remaining;
 pub mod testing;
 
