@@ -117,7 +117,9 @@ fn find_fault(
             number: line,
             start,
         };
-        match check_next(alloc, scope, readings, places, text, inside, place, raw, more)? {
+        match check_next(
+            alloc, scope, readings, places, text, inside, place, raw, more,
+        )? {
             Step::Fault(kind) => return Ok(Some(FaultyLine { kind, line })),
             Step::Goes(next) => inside = next,
         }

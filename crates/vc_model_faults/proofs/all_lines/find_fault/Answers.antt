@@ -41,8 +41,8 @@ lines-preserved c =
     record {
       counted = omega (arith, c.in-Some.ensures.shorter);
       from =
-        c.in-Some.ensures.rest ∙ ap (drop (length c.lines.rest.now - length c.in-Some.more.now)) c.lines.invariant.from
-        ∙ drop-drop (length c.lines.rest.now - length c.in-Some.more.now) c.lines.start c.args.text.now;
+          c.in-Some.ensures.rest ∙ ap (drop (length c.lines.rest.now - length c.in-Some.more.now)) c.lines.invariant.from
+          ∙ drop-drop (length c.lines.rest.now - length c.in-Some.more.now) c.lines.start c.args.text.now;
       passed = omega (arith, c.in-Some.ensures.shorter, c.lines.invariant.passed);
       checked = subst Q (sym adds.next_is) (check_goes_on (lines_of c.args.text.now) (lines_from c.lines.inside (lines c.lines.rest.now)) below line c.lines.line
           c.lines.scope c.check_next.new.scope (seen_readings c.lines.readings) (seen_readings c.check_next.new.readings) (seen_places c.args.text.now c.lines.places)
