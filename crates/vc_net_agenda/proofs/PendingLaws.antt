@@ -1,14 +1,14 @@
 -- The flags mark just the numbers that wait, also after one came or went.
-use Rattle.std.proofs.Common.{◌≡◌, ℕ, zero, suc, ◌+◌, ◌-◌, ◌<◌, ◌≤◌, leb, Bool, true, false, not, ◌&&◌, ◌||◌, List, [], ◌∷◌, ◌++◌, length, take, get_or, refl, sym, ◌∙◌, ap, subst, inl, inr, arith, length-append}
+use Rattle.std.proofs.Common.{◌≡◌, ℕ, zero, suc, ◌+◌, ◌-◌, ◌<◌, ◌≤◌, Bool, true, false, not, ◌||◌, List, [], ◌∷◌, ◌++◌, length, take, refl, sym, ◌∙◌, ap, subst, inl, inr, arith, length-append}
 use Rattle.std.specs.Prelude.{nat_eq, nat_lt, replicate, slice_index_or, slice_set, if◌then◌else◌}
 use Rattle.std.specs.List.{AllByRecursion, IsDistinct}
-use Rattle.std.proofs.lemmas.Bool.{and_from, cases_lt, le-leb, lt-ltb, ltb-true, not_from_false}
+use Rattle.std.proofs.lemmas.Bool.{and_from, cases_lt, le-leb, lt-ltb, not_from_false}
 use Rattle.std.proofs.lemmas.List.{get_or-set_other, get_or-set_same, length-replicate, length-set}
 use Rattle.std.proofs.lemmas.List.Folds.{list_any-append}
 use Rattle.std.proofs.lemmas.Map.Steps.{length-le_from_distinct_below}
 use Rattle.vc_base.specs.Sets.{has}
 use Rattle.vc_base.proofs.ListLaws.{number_exact, number_itself}
-use Rattle.vc_base.proofs.SetLaws.{both, has_back, has_cases, has_either, has_first, has_more, told}
+use Rattle.vc_base.proofs.SetLaws.{both, has_back, has_cases, has_either, has_first, told}
 use Rattle.vc_rule_yield.specs.Filling.{Filled, with_items}
 use Rattle.vc_net_laws.proofs.NetLaws.Working.{distinct_more}
 use Rattle.vc_net_agenda.specs.Pending.{IsMarked, pushed, with_last}

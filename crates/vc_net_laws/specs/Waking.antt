@@ -1,5 +1,5 @@
 -- Who is to be asked again when an atom comes, when atoms go, and when sources change.
-use Rattle.std.specs.Prelude.{◌≡◌, Bool, true, false, ◌&&◌, ◌||◌, List, [], ◌∷◌, ◌++◌, Option, None, Some, slice_get}
+use Rattle.std.specs.Prelude.{◌≡◌, Bool, true, false, ◌&&◌, ◌||◌, List, [], ◌∷◌, ◌++◌}
 use Rattle.std.specs.List.{list_any}
 use Rattle.vc_base.specs.Rounds.{atoms_of}
 use Rattle.vc_base.specs.Sets.{has, Within}

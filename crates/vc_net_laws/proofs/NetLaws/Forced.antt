@@ -1,5 +1,5 @@
 -- Forced and sound sets, and how their ends tell where settling ends.
-use Rattle.std.proofs.Common.{◌≡◌, ◌<◌, Bool, true, false, ◌&&◌, List, [], ◌∷◌, ◌++◌, length, ◌∙◌, ap, sym, inl, inr, subst, refl}
+use Rattle.std.proofs.Common.{◌≡◌, ◌<◌, Bool, true, List, [], ◌∷◌, ◌++◌, length, ◌∙◌, ap, sym, inl, inr, subst, refl}
 use Rattle.std.specs.List.{list_all}
 use Rattle.std.proofs.lemmas.Bool.{and_parts, ltb-true}
 use Rattle.vc_base.specs.Rounds.{Given, clash, atoms, is_clash, atoms_of, Settlement, broken, settled, some_clash}

@@ -1,11 +1,11 @@
 -- A giver whose trigger doesn't stand gives nothing.
-use Rattle.std.proofs.Common.{◌≡◌, ℕ, Bool, true, false, cond, ◌&&◌, List, refl, sym, ◌∙◌, ap, subst, inl, inr}
+use Rattle.std.proofs.Common.{◌≡◌, ℕ, Bool, true, false, cond, ◌&&◌, List, refl, sym, ◌∙◌, ap}
 use Rattle.std.specs.Prelude.{Option, None, Some, slice_get}
 use Rattle.std.specs.List.{list_all}
 use Rattle.std.specs.Ordering.{int_eq}
 use Rattle.std.proofs.lemmas.Bool.{and_parts}
 use Rattle.vc_base.specs.Sets.{has}
-use Rattle.vc_base.proofs.SetLaws.{both, told}
+use Rattle.vc_base.proofs.SetLaws.{both}
 use Rattle.vc_value.specs.declared.value.Value.{Value}
 use Rattle.vc_value.specs.declared.value.Value.TheVariants.{Text, Num}
 use Rattle.vc_plan.specs.declared.atoms.Atom.{Atom}
@@ -21,9 +21,9 @@ use Rattle.vc_plan.specs.declared.rules.Rule.{Rule}
 use Rattle.vc_plan.specs.declared.terms.Term.{Term}
 use Rattle.vc_plan.specs.declared.terms.Term.TheVariants.{Literal, Read, PartSum, PartCount, Applied', Joined'}
 use Rattle.vc_plan.specs.Answers.{fresh, nothing}
-use Rattle.vc_plan.specs.Gives.{Giver, by_rule, by_user, by_entry, kind_gives, rule_says}
+use Rattle.vc_plan.specs.Gives.{by_rule, by_user, by_entry, kind_gives, rule_says}
 use Rattle.vc_plan.specs.Kleene.{truth_of, is_true, kleene_and}
-use Rattle.vc_plan.specs.Pieces.{relates, same_value}
+use Rattle.vc_plan.specs.Pieces.{relates}
 use Rattle.vc_plan.specs.Readings.{net_reading}
 use Rattle.vc_plan.specs.Seen.{same_atom, seen_of, value_in}
 use Rattle.vc_plan.specs.Truth.{compared, term_value, truth, truth_in}

@@ -1,9 +1,9 @@
 -- Who doesn't touch what came, went or changed gives what it gave.
-use Rattle.std.proofs.Common.{◌≡◌, Bool, true, false, not, ◌&&◌, ◌||◌, List, [], ◌∷◌, ◌++◌, refl, sym, ◌∙◌, ap, subst, inl, inr}
+use Rattle.std.proofs.Common.{◌≡◌, Bool, true, false, ◌&&◌, ◌||◌, List, [], ◌∷◌, ◌++◌, refl, sym, ◌∙◌, ap, inl, inr}
 use Rattle.std.specs.Prelude.{Option, None, Some}
 use Rattle.std.proofs.lemmas.Bool.{and_from, and_parts, not-false, or_left, or_right}
 use Rattle.std.proofs.lemmas.List.Folds.{list_any-append}
-use Rattle.vc_base.specs.Rounds.{Given, atoms_of}
+use Rattle.vc_base.specs.Rounds.{atoms_of}
 use Rattle.vc_base.specs.Sets.{has, Within}
 use Rattle.vc_base.proofs.SetLaws.{both, has_cases, has_either, has_front, none_at, same_test, told}
 use Rattle.vc_value.specs.declared.value.Value.{Value}
@@ -12,22 +12,18 @@ use Rattle.vc_plan.specs.declared.atoms.Atom.TheVariants.{Is}
 use Rattle.vc_plan.specs.declared.atoms.Mark.{Mark}
 use Rattle.vc_plan.specs.declared.atoms.Mark.TheVariants.{Held, Outside}
 use Rattle.vc_plan.specs.declared.plans.Plan.{Plan}
-use Rattle.vc_plan.specs.Answers.{fresh, nothing}
-use Rattle.vc_plan.specs.Clear.{is_clear}
+use Rattle.vc_plan.specs.Answers.{fresh}
 use Rattle.vc_plan.specs.Gives.{Giver, by_rule, by_user, by_entry, entry_says, gives, if_here, mark_says, value_says}
-use Rattle.vc_plan.specs.Pieces.{same_value}
 use Rattle.vc_plan.specs.Seen.{Seen, same_atom, seen_of}
 use Rattle.vc_plan.specs.Sources.{Sources, Entry, entry_of, user_of}
 use Rattle.vc_plan.proofs.PlanLaws.Atoms.{atom_exact, atom_itself, value_exact}
 use Rattle.vc_plan_reasons.specs.Checking.{is_silent}
 use Rattle.vc_plan_reasons.specs.Keeping.{same_entry, same_mark, same_user}
-use Rattle.vc_plan_reasons.specs.Laws.{AreAlike}
 use Rattle.vc_plan_reasons.specs.Things.{Thing, giver_reads, giver_writes, has_thing, same_thing, thing_of}
 use Rattle.vc_plan_reasons.proofs.ReasonLaws.Local.{gives_locally}
 use Rattle.vc_plan_reasons.proofs.ReasonLaws.Writing.{gives_what_it_writes}
-use Rattle.vc_net_laws.specs.Forced.{is_quiet}
 use Rattle.vc_net_laws.specs.Triggers.{stands_in, trigger_by}
-use Rattle.vc_net_laws.specs.Waking.{GiversWakeThemselves, UnchangedGivesTheSame, UntouchedGivesTheSame, WokenIsEnough, giver_differs, giver_touches, is_woken}
+use Rattle.vc_net_laws.specs.Waking.{GiversWakeThemselves, UnchangedGivesTheSame, UntouchedGivesTheSame, WokenIsEnough, giver_differs, giver_touches}
 use Rattle.vc_net_laws.specs.declared.triggers.Trigger.{Trigger}
 use Rattle.vc_net_laws.proofs.NetLaws.Triggers.{triggers_are_needed}
 

@@ -1,13 +1,12 @@
 -- How often givers may be asked: sums over atoms and over givers, and few atoms of each thing.
-use Rattle.std.proofs.Common.{◌≡◌, ℕ, zero, suc, ◌+◌, ◌*◌, ◌-◌, ◌≤◌, ◌<◌, Bool, true, false, cond, ◌&&◌, ◌||◌, List, [], ◌∷◌, ◌++◌, length, map, refl, sym, ◌∙◌, ap, subst, inl, inr, arith}
-use Rattle.std.specs.Prelude.{nat_eq, Option, None, Some, slice_get}
+use Rattle.std.proofs.Common.{◌≡◌, ℕ, ◌+◌, ◌*◌, ◌-◌, ◌≤◌, ◌<◌, Bool, true, false, cond, ◌&&◌, ◌||◌, List, [], ◌∷◌, ◌++◌, length, map, refl, sym, ◌∙◌, ap, subst, inl, inr, arith}
+use Rattle.std.specs.Prelude.{nat_eq}
 use Rattle.std.specs.List.{IsDistinct, filter, list_any, sum_by}
 use Rattle.std.proofs.lemmas.Bool.{and_parts, cases_lt, ltb-true, or_parts}
 use Rattle.std.proofs.lemmas.List.Sums.{sum_by-cons, sum_by_push}
 use Rattle.vc_base.specs.Sets.{has}
 use Rattle.vc_base.proofs.ListLaws.{number_exact, number_itself, range_has}
 use Rattle.vc_base.proofs.SetLaws.{both, has_back, has_cases, has_first, has_front, has_more, told}
-use Rattle.vc_value.specs.declared.value.Value.{Value}
 use Rattle.vc_plan.specs.declared.atoms.Atom.{Atom}
 use Rattle.vc_plan.specs.declared.atoms.Atom.TheVariants.{Here, Out, Is}
 use Rattle.vc_plan.specs.declared.plans.Plan.{Plan}
@@ -21,13 +20,12 @@ use Rattle.vc_plan.proofs.PlanLaws.Atoms.{atom_exact, atom_itself}
 use Rattle.vc_plan.proofs.PlanLaws.Facts.{Facts, facts}
 use Rattle.vc_plan.proofs.PlanLaws.Lists.{get_past}
 use Rattle.vc_plan_reasons.specs.Things.{Thing, has_thing, same_thing, size_of, slot_at, thing_of, touches, var_at}
-use Rattle.vc_plan_reasons.specs.Work.{share_of, work_on}
+use Rattle.vc_plan_reasons.specs.Work.{share_of}
 use Rattle.vc_plan_reasons.proofs.ReasonLaws.Few.{few_of_a_thing}
 use Rattle.vc_plan_reasons.proofs.ReasonLaws.Reaching.{thing_exact, thing_itself}
 use Rattle.vc_net_laws.specs.Triggers.{stands_in, trigger_by}
-use Rattle.vc_net_laws.specs.Waking.{giver_touches, is_woken}
-use Rattle.vc_net_laws.specs.Wakings.{AtomsPayForTurns, WokenAreFew, WorkIsEnough, givers_at, most_wakings, rules_at, things_of, wakings}
-use Rattle.vc_net_laws.specs.Working.{woken}
+use Rattle.vc_net_laws.specs.Waking.{giver_touches}
+use Rattle.vc_net_laws.specs.Wakings.{AtomsPayForTurns, WokenAreFew, WorkIsEnough, givers_at, most_wakings, things_of, wakings}
 
 -- what no element passes keeps nothing
 none_kept : {X : Type 0} (p : X → Bool) (xs : List X) → ((x : X) → p x ≡ false) → length (filter p xs) ≤ 0

@@ -1,10 +1,10 @@
 -- The work on the way to where settling ends: how it begins, goes on and ends.
-use Rattle.std.proofs.Common.{◌≡◌, ℕ, Bool, true, false, ◌&&◌, ◌||◌, ◌⊎◌, List, [], ◌∷◌, ◌++◌, refl, sym, ◌∙◌, ap, subst, inl, inr}
+use Rattle.std.proofs.Common.{◌≡◌, Bool, true, false, ◌||◌, ◌⊎◌, List, [], ◌∷◌, ◌++◌, refl, sym, ◌∙◌, ap, subst, inl, inr}
 use Rattle.std.specs.List.{AllByRecursion, IsDistinct, filter}
-use Rattle.std.proofs.lemmas.Bool.{and_from, eq-eqb, eqb-true, or_left, or_parts, or_right}
+use Rattle.std.proofs.lemmas.Bool.{and_from, eq-eqb, eqb-true, or_left, or_parts}
 use Rattle.vc_base.specs.Rounds.{Given, clash, atoms, atoms_of, is_clash}
 use Rattle.vc_base.specs.Sets.{has, Within}
-use Rattle.vc_base.proofs.SetLaws.{both, filter_has, has_back, has_cases, has_either, has_first, has_front, has_more, none_from, told}
+use Rattle.vc_base.proofs.SetLaws.{both, filter_has, has_cases, has_either, has_first, has_front, has_more, told}
 use Rattle.vc_base.proofs.Settling as settling
 use Rattle.vc_plan.specs.declared.atoms.Atom.{Atom}
 use Rattle.vc_plan.specs.declared.plans.Plan.{Plan}
@@ -16,7 +16,7 @@ use Rattle.vc_plan.proofs.PlanLaws.Atoms.{atom_exact, atom_itself}
 use Rattle.vc_plan.proofs.PlanLaws.Facts.{part_clear}
 use Rattle.vc_plan_reasons.specs.Checking.{concluded, is_silent}
 use Rattle.vc_plan_reasons.proofs.ReasonLaws.Givers.{clashing_in, giving_in}
-use Rattle.vc_net_laws.specs.Forced.{IsSound, is_quiet}
+use Rattle.vc_net_laws.specs.Forced.{is_quiet}
 use Rattle.vc_net_laws.specs.Triggers.{stands_in, trigger_by}
 use Rattle.vc_net_laws.specs.Waking.{IsSplit, giver_differs, is_woken, touches_some}
 use Rattle.vc_net_laws.specs.Working.{AgendasMayGrow, AtomsCome, IsWorking, QuietMayLeave, WorkBegins, WorkEnds, WorkIsKept, disturbed, is_disturbed, same_giver, woken}

@@ -9,11 +9,10 @@ use Rattle.vc_plan.specs.declared.conditions.Condition.TheVariants.{Always, Comp
 use Rattle.vc_plan.specs.declared.conditions.Relation.TheVariants.{Equal, Unequal}
 use Rattle.vc_plan.specs.declared.plans.Plan.{Plan}
 use Rattle.vc_plan.specs.declared.rules.Kind.TheVariants.{Never}
-use Rattle.vc_plan.specs.declared.rules.Rule.{Rule}
 use Rattle.vc_plan.specs.declared.terms.Term.TheVariants.{Literal, Read}
 use Rattle.vc_plan.specs.Gives.{by_entry, by_rule, by_user}
 use Rattle.vc_plan.proofs.PlanRows.Models.{empty, pump, rule, whole}
-use Rattle.vc_net_laws.specs.Triggers.{stands_in, trigger_by, trigger_of}
+use Rattle.vc_net_laws.specs.Triggers.{trigger_by, trigger_of}
 use Rattle.vc_net_laws.specs.Waking.{is_woken}
 use Rattle.vc_net_laws.specs.declared.triggers.Trigger.{Trigger}
 
