@@ -6,3 +6,6 @@ pub mod laws;
 pub mod sides;
 
 pub use comparing::say_compare;
+
+#[cfg(test)]
+mod tests;
