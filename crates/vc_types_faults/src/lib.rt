@@ -6,3 +6,6 @@ pub mod names;
 pub mod places;
 pub mod sizes;
 pub mod sorts;
+
+#[cfg(test)]
+mod tests;
