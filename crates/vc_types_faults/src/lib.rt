@@ -6,3 +6,5 @@ pub mod names;
 pub mod places;
 pub mod sizes;
 pub mod sorts;
+#[cfg(test)]
+mod tests;

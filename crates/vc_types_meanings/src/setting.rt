@@ -16,16 +16,16 @@ use vc_types_names::{FirstNamed, Names};
 
 /// Where a dependency is typed: in which model, at which place, with which `?` variables.
 #[derive(Drop)]
-pub struct Setting<'a> {
-    names: &'a Names<'a>,
+pub struct Setting<'n, 'm, 't> {
+    names: &'n Names<'m>,
     place: Place,
-    objects: &'a [Object],
+    objects: &'t [Object],
     variables: FirstNamed<Referent>,
     ghost variables_are: { (name : List ℕ) → value_of variables name
         ≡ referent_among (variables_of names.now.model.now objects.now) name } by { Prim.hlevel props },
 }
 
-impl<'a> Setting<'a> {
+impl<'n, 'm, 't> Setting<'n, 'm, 't> {
     ghost use Rattle.std.specs.Prelude.{IfOk};
     ghost use Rattle.vc_syntax_terms.specs.declared.tree.Operand.TheVariants.{Owned};
     ghost use Rattle.vc_syntax_terms.specs.declared.tree.Owner.TheVariants.{Itself};
@@ -37,10 +37,10 @@ impl<'a> Setting<'a> {
     /// The setting of a dependency at a place.
     pub fn new(
         alloc: Global,
-        names: &'a Names<'a>,
+        names: &'n Names<'m>,
         place: Place,
-        tree: Tree<'a>,
-    ) -> Result<Setting<'a>, AllocError>
+        tree: Tree<'t>,
+    ) -> Result<Setting<'n, 'm, 't>, AllocError>
         ensures { IfOk result (λ setting. seen setting ≡ setting_of names.now.model.now place (tree_of tree.entry)) }
     {
         let objects = match tree {
@@ -57,7 +57,7 @@ impl<'a> Setting<'a> {
     }
 
     /// The index of the model's names.
-    pub fn names(&self) -> &Names<'a>
+    pub fn names(&self) -> &Names<'m>
         ensures { result.now.model.now ≡ (seen self.now).model }
     {
         self.names

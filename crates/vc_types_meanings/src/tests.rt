@@ -1,7 +1,7 @@
 //! What operands mean at the root of a model, and in a constraint.
 
-use crate::{Setting, borrowed};
 use crate::meanings::known;
+use crate::{Setting, borrowed};
 use std::alloc::{AllocError, Global};
 use std::test::Fail;
 use vc_model_parts::{

@@ -46,10 +46,7 @@ pub struct Leaves<'a> {
     pub summed: Listed<&'a NameLeaf>,
 }
 
-fn put_conditions<'a>(
-    out: &mut Listed<&'a Condition>,
-    tree: Tree<'a>,
-) -> Result<(), AllocError>
+fn put_conditions<'a>(out: &mut Listed<&'a Condition>, tree: Tree<'a>) -> Result<(), AllocError>
     ensures { OnOk result (conditions_seen out.new ≡ conditions_seen out.old
         ++ occurrences.conditions_in (tree_of tree.entry)) }
 {
@@ -65,10 +62,7 @@ fn put_conditions<'a>(
     }
 }
 
-fn put_calls<'a>(
-    out: &mut Listed<&'a TableCall>,
-    tree: Tree<'a>,
-) -> Result<(), AllocError>
+fn put_calls<'a>(out: &mut Listed<&'a TableCall>, tree: Tree<'a>) -> Result<(), AllocError>
     ensures { OnOk result (calls_seen out.new ≡ calls_seen out.old
         ++ occurrences.calls_in (tree_of tree.entry)) }
 {
@@ -83,10 +77,7 @@ fn put_calls<'a>(
     }
 }
 
-fn put_demanded<'a>(
-    out: &mut Listed<&'a Relation>,
-    tree: Tree<'a>,
-) -> Result<(), AllocError>
+fn put_demanded<'a>(out: &mut Listed<&'a Relation>, tree: Tree<'a>) -> Result<(), AllocError>
     ensures { OnOk result (relations_seen out.new ≡ relations_seen out.old
         ++ occurrences.demanded_relations (tree_of tree.entry)) }
 {
@@ -98,10 +89,7 @@ fn put_demanded<'a>(
     }
 }
 
-fn put_own_terms<'a>(
-    out: &mut Listed<&'a Term>,
-    tree: Tree<'a>,
-) -> Result<(), AllocError>
+fn put_own_terms<'a>(out: &mut Listed<&'a Term>, tree: Tree<'a>) -> Result<(), AllocError>
     ensures { OnOk result (terms_seen out.new ≡ terms_seen out.old
         ++ occurrences.own_terms (tree_of tree.entry)) }
 {
@@ -112,11 +100,7 @@ fn put_own_terms<'a>(
     }
 }
 
-fn put_other_names(
-    out: &mut Listed<Use>,
-    setting: &Setting,
-    tree: Tree,
-) -> Result<(), AllocError>
+fn put_other_names(out: &mut Listed<Use>, setting: &Setting, tree: Tree) -> Result<(), AllocError>
     ensures { OnOk result (out.new ≡ out.old ++ all_met (seen setting.now)
         (map occurrences.as_value (occurrences.other_names (tree_of tree.entry)))) }
 {

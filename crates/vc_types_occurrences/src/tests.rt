@@ -76,6 +76,12 @@ fn a_statement_has_its_parts(rt: HostRuntime) -> Result<(), Fail> {
     assert_eq!(rt; leaves.parted.len(), 2);
     assert_eq!(rt; leaves.summed.len(), 0);
     assert_eq!(rt; leaves.uses.len(), 2);
-    assert!(rt; leaves.uses.as_slice().iter().all(|u| u.meaning == Meaning::Unknown));
+    assert!(rt;
+        leaves
+            .uses
+            .as_slice()
+            .iter()
+            .all(|u| u.meaning == Meaning::Unknown)
+    );
     Ok(())
 }
