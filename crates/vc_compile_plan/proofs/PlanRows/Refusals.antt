@@ -9,7 +9,10 @@ use Rattle.vc_syntax_terms.specs.declared.tree.Relator.TheVariants as relators
 use Rattle.vc_syntax_terms.specs.declared.tree.Term.{Term}
 use Rattle.vc_types.specs.declared.fault.TypeFaultKind.{TypeFaultKind}
 use Rattle.vc_types.specs.declared.fault.TypeFaultKind.TheVariants as kinds
-use Rattle.vc_compile_plan.specs.Refusals.{compile_fault, first_of, TypeFault}
+use Rattle.vc_plan.proofs.PlanRows.Models as plans
+use Rattle.vc_plan.specs.declared.plans.Plan.{Plan}
+use Rattle.vc_value.specs.declared.table_header.Domain.TheVariants.{Texts}
+use Rattle.vc_compile_plan.specs.Refusals.{size_fault, has_too_many_rules, has_too_many_atoms, compile_fault, first_of, TypeFault}
 use Rattle.vc_compile_plan.specs.declared.fault.CompileFault.TheVariants as faults
 use Rattle.vc_compile_plan.proofs.PlanRows.Models.{pump, step, sizes_and_motors}
 use Rattle.vc_compile_plan.proofs.PlanRows.Words.{Spots, text, whole, plain, asks, precondition, term_box, listed_text, texts, from_to, numbers, characteristic, class, line, object, empty}
@@ -95,3 +98,29 @@ fault line kind = record { line = line; kind = kind }
 
 in_order : first_of (fault 8 kinds.UnknownName ∷ fault 7 kinds.WrongKind ∷ fault 7 kinds.DoubleName ∷ fault 7 kinds.NoKey ∷ []) ≡ Some (fault 7 kinds.DoubleName)
 in_order = refl
+
+-- sizes: 20,001 rules, and 40 variables of 1,000 texts, which are 40,041 atoms with their slot; rules are told first
+abbrev rules_of : ℕ → Plan
+rules_of n = record plans.empty { rules = replicate n (plans.last 0) }
+
+abbrev with_vars : Plan → ℕ → Plan
+with_vars plan n = record plan {
+  domains = Texts (replicate 1_000 0) ∷ [];
+  slots = plans.root ∷ [];
+  vars = replicate n (plans.open_var 0);
+}
+
+many_rules : size_fault (rules_of 20_001) ≡ Some faults.TooManyRules
+many_rules = refl
+
+enough_rules : has_too_many_rules (rules_of 20_000) ≡ false
+enough_rules = refl
+
+many_atoms : size_fault (with_vars plans.empty 40) ≡ Some faults.TooManyAtoms
+many_atoms = refl
+
+enough_atoms : has_too_many_atoms (with_vars plans.empty 39) ≡ false
+enough_atoms = refl
+
+rules_first : size_fault (with_vars (rules_of 20_001) 40) ≡ Some faults.TooManyRules
+rules_first = refl
