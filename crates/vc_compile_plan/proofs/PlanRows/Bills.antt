@@ -17,6 +17,7 @@ use Rattle.vc_plan.specs.declared.terms.Term.TheVariants.{Literal, Read}
 use Rattle.vc_plan.proofs.PlanRows.Models as plans
 use Rattle.vc_compile_plan.specs.PlanOf.{plan_of}
 use Rattle.vc_compile_plan.specs.Slots.{slots_of, is_too_deep, has_too_many_slots}
+use Rattle.vc_compile_plan.specs.Variables.{vars_of, sets_of}
 use Rattle.vc_compile_plan.proofs.PlanRows.Words.{Spots, leaf, text, plain, asks, selection, listed_text, texts, characteristic, class, line, object, empty}
 
 -- TOP has a plain line, MIDDLE and LEAF; MIDDLE has LEAF and a plain line
@@ -58,6 +59,18 @@ nested_vars : (p : Spots)
     ≡ record { slot = 0; characteristic = 0; domain = 0; restrictable = false }
     ∷ record { slot = 1; characteristic = 0; domain = 0; restrictable = false } ∷ []
 nested_vars p = refl
+
+-- where C is MULTIPLE they have sets
+abbrev nested_multiple : Spots → Model
+nested_multiple p = record (nested p) { characteristics = characteristic (codes "C") false (texts true (listed_text 0 ∷ [])) ∷ [] }
+
+multiple_sets : (p : Spots)
+    → sets_of (nested_multiple p) (slots_of (nested_multiple p))
+    ≡ record { slot = 0; characteristic = 0; domain = 0 } ∷ record { slot = 1; characteristic = 0; domain = 0 } ∷ []
+multiple_sets p = refl
+
+multiple_vars : (p : Spots) → vars_of (nested_multiple p) (slots_of (nested_multiple p)) ≡ []
+multiple_vars p = refl
 
 -- the LEAF of MIDDLE has a rule for each of its selection conditions, asked of MIDDLE and of the root; the others ask nothing
 nested_rules : (p : Spots)

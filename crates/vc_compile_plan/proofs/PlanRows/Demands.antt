@@ -1,8 +1,10 @@
 -- What restrictions become, and which faults of a constraint are told though it isn't active.
-use Rattle.std.proofs.Common.{◌≡◌, pos, neg_ℤ, true, false, List, [], ◌∷◌, map, refl}
+use Rattle.std.proofs.Common.{◌≡◌, pos, neg_ℤ, true, false, List, [], ◌∷◌, ◌++◌, map, refl}
 use Rattle.std.specs.Prelude.{None, Some, codes}
 use Rattle.vc_value.specs.declared.value.Value.TheVariants.{Num}
+use Rattle.vc_model_parts.specs.declared.parts.Component.TheVariants as components
 use Rattle.vc_model_parts.specs.declared.parts.Model.{Model}
+use Rattle.vc_syntax_terms.specs.declared.tree.Action.TheVariants as actions
 use Rattle.vc_syntax_terms.specs.declared.tree.Demand.TheVariants as demands
 use Rattle.vc_syntax_terms.specs.declared.tree.Operator.TheVariants as operators
 use Rattle.vc_syntax_terms.specs.declared.tree.Relator.TheVariants as relators
@@ -12,6 +14,8 @@ use Rattle.vc_syntax_terms.specs.declared.tree.Term.TheVariants as terms
 use Rattle.vc_types.specs.declared.fault.TypeFaultKind.TheVariants as kinds
 use Rattle.vc_plan.specs.declared.conditions.Relation.TheVariants as relations
 use Rattle.vc_plan.specs.declared.plans.Plan.{Plan}
+use Rattle.vc_plan.specs.declared.procedures.Action.TheVariants.{Assign}
+use Rattle.vc_plan.specs.declared.procedures.Trigger.TheVariants.{Anyway}
 use Rattle.vc_plan.specs.declared.rules.Kind.TheVariants.{Among, Compare, Equate, ByTable, Never}
 use Rattle.vc_plan.specs.declared.rules.Operand.TheVariants.{Constant, Variable}
 use Rattle.vc_plan.specs.declared.rules.Restriction.TheVariants.{Against}
@@ -22,7 +26,7 @@ use Rattle.vc_compile_plan.specs.PlanOf.{plan_of}
 use Rattle.vc_compile_plan.specs.Refusals.{compile_fault}
 use Rattle.vc_compile_plan.specs.declared.fault.CompileFault.TheVariants as faults
 use Rattle.vc_compile_plan.proofs.PlanRows.Cutting.{lists, restricted, relates, a, b}
-use Rattle.vc_compile_plan.proofs.PlanRows.Words.{Spots, whole, plain, of_class, binds, calls, always, constraint, called, term_box, object}
+use Rattle.vc_compile_plan.proofs.PlanRows.Words.{Spots, whole, plain, of_class, binds, calls, always, constraint, called, term_box, object, procedure, does, leaf, line}
 
 -- variable 0 is A, variable 1 is B
 abbrev twice_five : Spots → Term
@@ -62,6 +66,28 @@ demanded_terms : (p : Spots)
     → (demanded_plan p).terms
     ≡ Read 0 ∷ Read 1 ∷ Joined' Minus p.node (Literal (plans.whole 7)) p.node (Literal (plans.whole 5)) ∷ Read 0 ∷ []
 demanded_terms p = refl
+
+-- the terms of a line, of an operation and of a procedure come behind those of the rules
+abbrev taken : Spots → Plan
+taken p = plan_of p.node (record (restricted (demanded p)) {
+  dependencies = (restricted (demanded p)).dependencies
+      ++ procedure (codes "P") (does (actions.Assign (leaf (codes "A")) (term_box p (whole 3))) ∷ []) ∷ [];
+  objects = record (object (codes "M") 0 (line p 10 (components.Plain (codes "SEAL")) 1 [] ∷ [])) {
+    nets = 0 ∷ [];
+    procedures = 1 ∷ [];
+    operations = record { number = 10; centre = codes "ASSY"; unit = codes "MIN"; time = term_box p (whole 2); uses = []; line = 0 } ∷ [];
+  } ∷ [];
+}) []
+
+taken_line : (p : Spots) → map (λ line. line.quantity) (taken p).lines ≡ 4 ∷ []
+taken_line p = refl
+
+taken_operation : (p : Spots) → map (λ operation. operation.time) (taken p).operations ≡ 5 ∷ []
+taken_operation p = refl
+
+taken_procedure : (p : Spots)
+    → (taken p).procedures ≡ record { slot = 0; dependency = 1; trigger = Anyway; statements = record { action = Assign 0 6; condition = 0 } ∷ [] } ∷ []
+taken_procedure p = refl
 
 -- which columns of a table are keys
 table_columns : (p : Spots)

@@ -1,18 +1,25 @@
 -- Models without a plan, and which fault is told first.
-use Rattle.std.proofs.Common.{◌≡◌, ℕ, false, replicate, [], ◌∷◌, refl}
+use Rattle.std.proofs.Common.{List, ◌≡◌, ℕ, false, replicate, [], ◌∷◌, refl}
 use Rattle.std.specs.Prelude.{None, Some, codes}
 use Rattle.vc_model_parts.specs.declared.parts.BillItem.{BillItem}
 use Rattle.vc_model_parts.specs.declared.parts.Component.TheVariants as components
 use Rattle.vc_model_parts.specs.declared.parts.Model.{Model}
 use Rattle.vc_model_parts.specs.declared.parts.NamedDependency.{NamedDependency}
+use Rattle.vc_model_parts.specs.declared.parts.Object.{Object}
+use Rattle.vc_syntax_terms.specs.declared.tree.Action.TheVariants as actions
+use Rattle.vc_syntax_terms.specs.declared.tree.Condition.TheVariants as conditions
+use Rattle.vc_syntax_terms.specs.declared.tree.Operand.TheVariants.{Plain}
 use Rattle.vc_syntax_terms.specs.declared.tree.Relator.TheVariants as relators
 use Rattle.vc_syntax_terms.specs.declared.tree.Term.{Term}
 use Rattle.vc_types.specs.declared.fault.TypeFaultKind.{TypeFaultKind}
 use Rattle.vc_types.specs.declared.fault.TypeFaultKind.TheVariants as kinds
-use Rattle.vc_compile_plan.specs.Refusals.{compile_fault, first_of, TypeFault}
+use Rattle.vc_plan.proofs.PlanRows.Models as plans
+use Rattle.vc_plan.specs.declared.plans.Plan.{Plan}
+use Rattle.vc_value.specs.declared.table_header.Domain.TheVariants.{Texts}
+use Rattle.vc_compile_plan.specs.Refusals.{size_fault, has_too_many_rules, has_too_many_atoms, compile_fault, first_of, TypeFault}
 use Rattle.vc_compile_plan.specs.declared.fault.CompileFault.TheVariants as faults
 use Rattle.vc_compile_plan.proofs.PlanRows.Models.{pump, step, sizes_and_motors}
-use Rattle.vc_compile_plan.proofs.PlanRows.Words.{Spots, text, whole, plain, asks, precondition, term_box, listed_text, texts, from_to, numbers, characteristic, class, line, object, empty}
+use Rattle.vc_compile_plan.proofs.PlanRows.Words.{Spots, text, whole, plain, asks, precondition, term_box, listed_text, texts, from_to, numbers, characteristic, class, line, object, empty, procedure, does, leaf, selection}
 
 -- sound models
 pump_is_sound : (p : Spots) → compile_fault p.node (pump p) (sizes_and_motors ∷ []) ≡ None
@@ -89,9 +96,70 @@ least_kind p = refl
 one_place : (p : Spots) → compile_fault p.node (record (two_places p) { objects = object (codes "TOP") 0 [] ∷ []; root = 0 }) [] ≡ Some (faults.Typing kinds.WrongKind 3)
 one_place p = refl
 
+-- what stands at a line, at an operation and in the profile is typed too; NOT SPECIFIED only matters where a line brings a slot
+abbrev denies : Spots → Model
+denies p = record (two_places p) {
+  characteristics = characteristic (codes "A") false (texts false (listed_text 0 ∷ [])) ∷ [];
+  classes = class (codes "K") (0 ∷ []) ∷ [];
+  dependencies =
+      at 4 (selection p (codes "S") (conditions.Not' p.node (conditions.Specified (Plain (leaf (codes "A"))))))
+      ∷ at 6 (selection p (codes "S_NONE") (conditions.Specified (Plain (leaf (codes "NONE")))))
+      ∷ at 8 (procedure (codes "P_NONE") (does (actions.Assign (leaf (codes "NONE")) (term_box p (whole 1))) ∷ []))
+      ∷ [];
+}
+
+abbrev denied_with : Spots → List Object → Model
+denied_with p tops = record (denies p) { objects = object (codes "PART") 0 [] ∷ tops }
+
+at_component : (p : Spots)
+    → compile_fault p.node (denied_with p (object (codes "TOP") 0 (line p 10 (components.Object 0) 1 (0 ∷ []) ∷ []) ∷ [])) []
+    ≡ Some (faults.Typing kinds.NotMonotone 4)
+at_component p = refl
+
+at_plain_line : (p : Spots)
+    → compile_fault p.node (denied_with p (object (codes "TOP") 0 (line p 10 (components.Plain (codes "SEAL")) 1 (0 ∷ []) ∷ []) ∷ [])) [] ≡ None
+at_plain_line p = refl
+
+at_operation : (p : Spots)
+    → compile_fault p.node (denied_with p (record (object (codes "TOP") 0 []) {
+      operations = record { number = 10; centre = codes "ASSY"; unit = codes "MIN"; time = term_box p (whole 1); uses = 0 ∷ 1 ∷ []; line = 9 } ∷ [];
+    } ∷ [])) []
+    ≡ Some (faults.Typing kinds.UnknownName 6)
+at_operation p = refl
+
+in_profile : (p : Spots)
+    → compile_fault p.node (denied_with p (record (object (codes "TOP") 0 []) { procedures = 2 ∷ [] } ∷ [])) [] ≡ Some (faults.Typing kinds.UnknownName 8)
+in_profile p = refl
+
 -- faults by line, then by kind
 abbrev fault : ℕ → TypeFaultKind → TypeFault
 fault line kind = record { line = line; kind = kind }
 
 in_order : first_of (fault 8 kinds.UnknownName ∷ fault 7 kinds.WrongKind ∷ fault 7 kinds.DoubleName ∷ fault 7 kinds.NoKey ∷ []) ≡ Some (fault 7 kinds.DoubleName)
 in_order = refl
+
+-- sizes: 20,001 rules, and 40 variables of 1,000 texts, which are 40,041 atoms with their slot; rules are told first
+abbrev rules_of : ℕ → Plan
+rules_of n = record plans.empty { rules = replicate n (plans.last 0) }
+
+abbrev with_vars : Plan → ℕ → Plan
+with_vars plan n = record plan {
+  domains = Texts (replicate 1_000 0) ∷ [];
+  slots = plans.root ∷ [];
+  vars = replicate n (plans.open_var 0);
+}
+
+many_rules : size_fault (rules_of 20_001) ≡ Some faults.TooManyRules
+many_rules = refl
+
+enough_rules : has_too_many_rules (rules_of 20_000) ≡ false
+enough_rules = refl
+
+many_atoms : size_fault (with_vars plans.empty 40) ≡ Some faults.TooManyAtoms
+many_atoms = refl
+
+enough_atoms : has_too_many_atoms (with_vars plans.empty 39) ≡ false
+enough_atoms = refl
+
+rules_first : size_fault (with_vars (rules_of 20_001) 40) ≡ Some faults.TooManyRules
+rules_first = refl
