@@ -1,12 +1,12 @@
 -- Givers and their numbers.
-use Rattle.std.proofs.Common.{◌≡◌, ℕ, ◌+◌, ◌-◌, ◌<◌, ◌≤◌, Bool, true, false, cond, not, ◌&&◌, ◌||◌, List, [], ◌∷◌, ◌++◌, map, refl, sym, ◌∙◌, ap, inl, inr, arith}
+use Rattle.std.proofs.Common.{◌≡◌, ℕ, ◌+◌, ◌-◌, ◌<◌, ◌≤◌, Bool, true, false, cond, not, ◌&&◌, ◌||◌, List, [], ◌∷◌, ◌++◌, map, refl, sym, ◌∙◌, ap, inl, inr, arith, length, length-append}
 use Rattle.std.specs.Prelude.{nat_eq, nat_lt, if◌then◌else◌, None, Some}
 use Rattle.std.specs.List.{list_all}
 use Rattle.std.proofs.lemmas.Bool.{and_parts, cases_lt, lt-ltb, ltb-true}
 use Rattle.std.proofs.lemmas.List.{map-append}
-use Rattle.vc_base.specs.Sets.{has}
+use Rattle.vc_base.specs.Sets.{has, Within}
 use Rattle.vc_base.proofs.ListLaws.{number_exact, number_itself}
-use Rattle.vc_base.proofs.SetLaws.{same_test, told}
+use Rattle.vc_base.proofs.SetLaws.{has_back, has_first, has_front, same_test, told}
 use Rattle.vc_plan.specs.Gives.{Giver, by_entry, by_rule, by_user}
 use Rattle.vc_rule_yield.specs.Filling.{Filled}
 use Rattle.vc_net_laws.specs.Working.{same_giver}
@@ -166,3 +166,32 @@ is_added rules vars k stack next giver m e f =
         ap (λ (givers : List Giver). let a : Awaited = record { rules = rules; vars = vars; givers = givers } in a)
         (map-append (giver_at rules vars) stack.items (k ∷ [])
         ∙ ap (λ g. map (giver_at rules vars) stack.items ++ g ∷ []) o.giver_is)
+
+-- what an agenda has when a giver came
+module _ (agenda : Awaited) (giver : Giver) where
+  pub others_still_wait : Within same_giver agenda.givers (added agenda giver).givers
+  others_still_wait other h = by (is_of agenda giver && not (has same_giver agenda.givers giver))
+    where
+      by : (b : Bool) → (let next : Awaited = cond b (with_next agenda giver) agenda in has same_giver next.givers other) ≡ true
+      by true = has_front same_giver giver_exact giver_itself agenda.givers (giver ∷ []) other h
+      by false = h
+
+  pub who_comes_waits : is_of agenda giver ≡ true → has same_giver (added agenda giver).givers giver ≡ true
+  who_comes_waits there =
+      ap (λ b. let next : Awaited = cond (b && not (has same_giver agenda.givers giver)) (with_next agenda giver) agenda in
+      has same_giver next.givers giver) there
+      ∙ by (has same_giver agenda.givers giver) refl
+    where
+      by : (b : Bool) → has same_giver agenda.givers giver ≡ b
+          → (let next : Awaited = cond (not b) (with_next agenda giver) agenda in has same_giver next.givers giver) ≡ true
+      by true e = e
+      by false e =
+          has_back same_giver giver_exact giver_itself agenda.givers (giver ∷ []) giver
+          (has_first same_giver giver_exact giver_itself giver [])
+
+  pub one_more_waits : length (added agenda giver).givers ≤ length agenda.givers + 1
+  one_more_waits = by (is_of agenda giver && not (has same_giver agenda.givers giver))
+    where
+      by : (b : Bool) → (let next : Awaited = cond b (with_next agenda giver) agenda in length next.givers) ≤ length agenda.givers + 1
+      by true = omega (arith, length-append agenda.givers (giver ∷ []))
+      by false = omega arith

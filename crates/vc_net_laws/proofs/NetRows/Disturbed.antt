@@ -1,6 +1,6 @@
 -- Who is disturbed when the user's size of PUMP changes.
 use Rattle.std.proofs.Common.{◌≡◌, true, false, [], ◌∷◌, refl}
-use Rattle.std.specs.Prelude.{None, Some}
+use Rattle.std.specs.Prelude.{Some}
 use Rattle.vc_value.specs.declared.value.Value.TheVariants.{Text}
 use Rattle.vc_plan.specs.declared.atoms.Atom.TheVariants.{Here, Is, Out}
 use Rattle.vc_plan.specs.Gives.{by_entry, by_rule, by_user}

@@ -1,0 +1,10 @@
+//! Laws of agendas, each the contract of a function that does nothing.
+
+ghost use Rattle.vc_net_agenda.specs.Agendas.{OneMoreWaits, OthersStillWait, WhoComesWaits};
+
+/// Who comes on an agenda waits then, if the plan has it, and all others still do; no more than one more waits.
+pub fn who_comes_waits()
+    ensures others { OthersStillWait }
+    ensures itself { WhoComesWaits }
+    ensures length { OneMoreWaits }
+{}
