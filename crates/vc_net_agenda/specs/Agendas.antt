@@ -2,7 +2,8 @@
 use Rattle.std.specs.Prelude.{◌≡◌, ℕ, ◌+◌, ◌-◌, ◌≤◌, Bool, true, not, ◌&&◌, nat_lt, if◌then◌else◌, List, [], ◌∷◌, ◌++◌, length, map, Option, None, Some}
 use Rattle.std.specs.List.{list_all}
 use Rattle.vc_base.specs.Sets.{has, Within}
-use Rattle.vc_plan.specs.Gives.{Giver, by_entry, by_rule, by_user}
+use Rattle.vc_plan.specs.declared.plans.Plan.{Plan}
+use Rattle.vc_plan.specs.Gives.{Giver, by_entry, by_rule, by_user, givers_of}
 use Rattle.vc_rule_yield.specs.Filling.{Filled}
 use Rattle.vc_net_laws.specs.Working.{same_giver}
 use Rattle.vc_net_agenda.specs.declared.givers.Giver.{Giver as Named}
@@ -67,3 +68,8 @@ WhoComesWaits = (agenda : Awaited) (giver : Giver) → is_of agenda giver ≡ tr
 
 abbrev pub OneMoreWaits : Type 0
 OneMoreWaits = (agenda : Awaited) (giver : Giver) → length (added agenda giver).givers ≤ length agenda.givers + 1
+
+-- the givers of a plan are there on an agenda of so many rules and variables
+abbrev pub GiversAreThere : Type 0
+GiversAreThere = (plan : Plan) (waiting : List Giver) (giver : Giver) → has same_giver (givers_of plan) giver ≡ true
+    → is_of (record { rules = length plan.rules; vars = length plan.vars; givers = waiting }) giver ≡ true
