@@ -1,17 +1,19 @@
 -- Givers and their numbers.
-use Rattle.std.proofs.Common.{◌≡◌, ℕ, ◌+◌, ◌-◌, ◌<◌, ◌≤◌, Bool, true, false, cond, not, ◌&&◌, ◌||◌, List, [], ◌∷◌, ◌++◌, map, refl, sym, ◌∙◌, ap, inl, inr, arith}
+use Rattle.std.proofs.Common.{◌≡◌, ℕ, ◌+◌, ◌-◌, ◌<◌, ◌≤◌, Bool, true, false, cond, not, ◌&&◌, ◌||◌, List, [], ◌∷◌, ◌++◌, map, refl, sym, ◌∙◌, ap, inl, inr, arith, length, length-append}
 use Rattle.std.specs.Prelude.{nat_eq, nat_lt, if◌then◌else◌, None, Some}
 use Rattle.std.specs.List.{list_all}
 use Rattle.std.proofs.lemmas.Bool.{and_parts, cases_lt, lt-ltb, ltb-true}
 use Rattle.std.proofs.lemmas.List.{map-append}
-use Rattle.vc_base.specs.Sets.{has}
-use Rattle.vc_base.proofs.ListLaws.{number_exact, number_itself}
-use Rattle.vc_base.proofs.SetLaws.{same_test, told}
+use Rattle.vc_base.specs.Numbers.{numbers_below}
+use Rattle.vc_base.specs.Sets.{has, Within}
+use Rattle.vc_base.proofs.ListLaws.{has_range, number_exact, number_itself}
+use Rattle.vc_base.proofs.SetLaws.{both, has_back, has_either, has_first, has_front, same_test, told}
+use Rattle.vc_plan.specs.declared.plans.Plan.{Plan}
 use Rattle.vc_plan.specs.Gives.{Giver, by_entry, by_rule, by_user}
 use Rattle.vc_rule_yield.specs.Filling.{Filled}
 use Rattle.vc_net_laws.specs.Working.{same_giver}
 use Rattle.vc_net_laws.proofs.NetLaws.Working.{giver_exact, giver_itself}
-use Rattle.vc_net_agenda.specs.Agendas.{Awaited, IsNumbered, added, awaited_in, giver_at, is_of, number_of, with_next}
+use Rattle.vc_net_agenda.specs.Agendas.{Awaited, GiversAreThere, IsNumbered, added, awaited_in, giver_at, is_of, number_of, with_next}
 use Rattle.vc_net_agenda.specs.Pending.{pushed, with_last}
 
 -- a test of numbers that fails
@@ -166,3 +168,81 @@ is_added rules vars k stack next giver m e f =
         ap (λ (givers : List Giver). let a : Awaited = record { rules = rules; vars = vars; givers = givers } in a)
         (map-append (giver_at rules vars) stack.items (k ∷ [])
         ∙ ap (λ g. map (giver_at rules vars) stack.items ++ g ∷ []) o.giver_is)
+
+-- what an agenda has when a giver came
+module _ (agenda : Awaited) (giver : Giver) where
+  pub others_still_wait : Within same_giver agenda.givers (added agenda giver).givers
+  others_still_wait other h = by (is_of agenda giver && not (has same_giver agenda.givers giver))
+    where
+      by : (b : Bool) → (let next : Awaited = cond b (with_next agenda giver) agenda in has same_giver next.givers other) ≡ true
+      by true = has_front same_giver giver_exact giver_itself agenda.givers (giver ∷ []) other h
+      by false = h
+
+  pub who_comes_waits : is_of agenda giver ≡ true → has same_giver (added agenda giver).givers giver ≡ true
+  who_comes_waits there =
+      ap (λ b. let next : Awaited = cond (b && not (has same_giver agenda.givers giver)) (with_next agenda giver) agenda in
+      has same_giver next.givers giver) there
+      ∙ by (has same_giver agenda.givers giver) refl
+    where
+      by : (b : Bool) → has same_giver agenda.givers giver ≡ b
+          → (let next : Awaited = cond (not b) (with_next agenda giver) agenda in has same_giver next.givers giver) ≡ true
+      by true e = e
+      by false e =
+          has_back same_giver giver_exact giver_itself agenda.givers (giver ∷ []) giver
+          (has_first same_giver giver_exact giver_itself giver [])
+
+  pub one_more_waits : length (added agenda giver).givers ≤ length agenda.givers + 1
+  one_more_waits = by (is_of agenda giver && not (has same_giver agenda.givers giver))
+    where
+      by : (b : Bool) → (let next : Awaited = cond b (with_next agenda giver) agenda in length next.givers) ≤ length agenda.givers + 1
+      by true = omega (arith, length-append agenda.givers (giver ∷ []))
+      by false = omega arith
+
+-- of which class a giver among mapped numbers is
+none_of : (f : ℕ → Giver) (giver : Giver) → ((n : ℕ) → same_giver giver (f n) ≡ false) → (ns : List ℕ)
+    → has same_giver (map f ns) giver ≡ false
+none_of f giver h [] = refl
+none_of f giver h (n ∷ ns) = ap (λ b. b || has same_giver (map f ns) giver) (h n) ∙ none_of f giver h ns
+
+one_of : (f : ℕ → Giver) (k : ℕ) → ((n : ℕ) → same_giver (f k) (f n) ≡ nat_eq k n) → (ns : List ℕ)
+    → has same_giver (map f ns) (f k) ≡ has nat_eq ns k
+one_of f k h [] = refl
+one_of f k h (n ∷ ns) =
+    ap (λ b. b || has same_giver (map f ns) (f k)) (h n) ∙ ap (λ b. nat_eq k n || b) (one_of f k h ns)
+
+below_count : (count k : ℕ) → has nat_eq (numbers_below count) k ≡ true → nat_lt k count ≡ true
+below_count count k h = let r = has_range 0 count k h in lt-ltb k count (omega (arith, r.1))
+
+abbrev rules_of : Plan → List ℕ
+rules_of plan = numbers_below (length plan.rules)
+
+abbrev vars_of : Plan → List ℕ
+vars_of plan = numbers_below (length plan.vars)
+
+abbrev agenda_of : Plan → List Giver → Awaited
+agenda_of plan waiting = record { rules = length plan.rules; vars = length plan.vars; givers = waiting }
+
+pub givers_are_there : GiversAreThere
+givers_are_there plan waiting giver h =
+    elim (has_either same_giver giver_exact giver_itself (map by_rule (rules_of plan)) (map by_user (vars_of plan) ++ map by_entry (vars_of plan)) giver h) [
+      | inl p ↦ by_rules giver p
+      | inr p ↦ elim (has_either same_giver giver_exact giver_itself (map by_user (vars_of plan)) (map by_entry (vars_of plan)) giver p) [
+        | inl q ↦ by_users giver q
+        | inr q ↦ by_entries giver q
+      ]
+    ]
+  where
+    by_rules : (g : Giver) → has same_giver (map by_rule (rules_of plan)) g ≡ true → is_of (agenda_of plan waiting) g ≡ true
+    by_rules (by_rule r) p = below_count (length plan.rules) r (sym (one_of by_rule r (λ n. refl) (rules_of plan)) ∙ p)
+    by_rules (by_user v) p = absurd (both p (none_of by_rule (by_user v) (λ n. refl) (rules_of plan)))
+    by_rules (by_entry v) p = absurd (both p (none_of by_rule (by_entry v) (λ n. refl) (rules_of plan)))
+
+    by_users : (g : Giver) → has same_giver (map by_user (vars_of plan)) g ≡ true → is_of (agenda_of plan waiting) g ≡ true
+    by_users (by_rule r) p = absurd (both p (none_of by_user (by_rule r) (λ n. refl) (vars_of plan)))
+    by_users (by_user v) p = below_count (length plan.vars) v (sym (one_of by_user v (λ n. refl) (vars_of plan)) ∙ p)
+    by_users (by_entry v) p = absurd (both p (none_of by_user (by_entry v) (λ n. refl) (vars_of plan)))
+
+    by_entries : (g : Giver) → has same_giver (map by_entry (vars_of plan)) g ≡ true → is_of (agenda_of plan waiting) g ≡ true
+    by_entries (by_rule r) p = absurd (both p (none_of by_entry (by_rule r) (λ n. refl) (vars_of plan)))
+    by_entries (by_user v) p = absurd (both p (none_of by_entry (by_user v) (λ n. refl) (vars_of plan)))
+    by_entries (by_entry v) p = below_count (length plan.vars) v (sym (one_of by_entry v (λ n. refl) (vars_of plan)) ∙ p)

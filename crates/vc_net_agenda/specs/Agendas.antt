@@ -1,8 +1,9 @@
 -- Agendas: givers that are to be asked, and their numbers.
-use Rattle.std.specs.Prelude.{◌≡◌, ℕ, ◌+◌, ◌-◌, Bool, true, not, ◌&&◌, nat_lt, if◌then◌else◌, List, [], ◌∷◌, ◌++◌, map, Option, None, Some}
+use Rattle.std.specs.Prelude.{◌≡◌, ℕ, ◌+◌, ◌-◌, ◌≤◌, Bool, true, not, ◌&&◌, nat_lt, if◌then◌else◌, List, [], ◌∷◌, ◌++◌, length, map, Option, None, Some}
 use Rattle.std.specs.List.{list_all}
-use Rattle.vc_base.specs.Sets.{has}
-use Rattle.vc_plan.specs.Gives.{Giver, by_entry, by_rule, by_user}
+use Rattle.vc_base.specs.Sets.{has, Within}
+use Rattle.vc_plan.specs.declared.plans.Plan.{Plan}
+use Rattle.vc_plan.specs.Gives.{Giver, by_entry, by_rule, by_user, givers_of}
 use Rattle.vc_rule_yield.specs.Filling.{Filled}
 use Rattle.vc_net_laws.specs.Working.{same_giver}
 use Rattle.vc_net_agenda.specs.declared.givers.Giver.{Giver as Named}
@@ -56,3 +57,19 @@ awaited_in rules vars numbers = record { rules = rules; vars = vars; givers = ma
 pub record IsNumbered (rules vars : ℕ) (pending : Filled ℕ) : Type 0 where
   pub room : pending.room ≡ rules + (vars + vars)
   pub below : list_all (λ n. nat_lt n (rules + (vars + vars))) pending.items ≡ true
+
+-- who waits still waits when a giver comes; the giver waits then, if it is there; and no more than one more waits
+abbrev pub OthersStillWait : Type 0
+OthersStillWait = (agenda : Awaited) (giver : Giver) → Within same_giver agenda.givers (added agenda giver).givers
+
+abbrev pub WhoComesWaits : Type 0
+WhoComesWaits = (agenda : Awaited) (giver : Giver) → is_of agenda giver ≡ true
+    → has same_giver (added agenda giver).givers giver ≡ true
+
+abbrev pub OneMoreWaits : Type 0
+OneMoreWaits = (agenda : Awaited) (giver : Giver) → length (added agenda giver).givers ≤ length agenda.givers + 1
+
+-- the givers of a plan are there on an agenda of so many rules and variables
+abbrev pub GiversAreThere : Type 0
+GiversAreThere = (plan : Plan) (waiting : List Giver) (giver : Giver) → has same_giver (givers_of plan) giver ≡ true
+    → is_of (record { rules = length plan.rules; vars = length plan.vars; givers = waiting }) giver ≡ true

@@ -3,6 +3,7 @@
 
 pub mod agenda;
 pub mod givers;
+pub mod laws;
 pub mod pending;
 
 pub use agenda::Agenda;

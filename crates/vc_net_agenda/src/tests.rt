@@ -2,6 +2,7 @@
 
 ghost use Rattle.std.specs.Prelude.{◌≡◌, length, IfOk};
 
+use crate::laws::who_comes_waits;
 use crate::{Agenda, Giver, Pending};
 use std::alloc::{AllocError, Global};
 use std::test::Fail;
@@ -101,6 +102,7 @@ fn asks_the_last_first(rt: HostRuntime) -> Result<(), Fail> {
     assert_eq!(rt; agenda.pop(), Some(Giver::Rule(0)));
     assert_eq!(rt; agenda.pop(), None);
     agenda.push(Giver::User(0));
+    who_comes_waits();
     agenda.clear();
     assert!(rt; agenda.is_empty());
     Ok(())

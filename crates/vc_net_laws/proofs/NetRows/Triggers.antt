@@ -84,7 +84,7 @@ beside_or : (p : Box (Unit {0}) Global)
 beside_or p = refl
 
 -- PUMP with a rule that says that a large one, 2, must not have the motor 4
-abbrev triggered : Plan
+abbrev pub triggered : Plan
 triggered = record pump {
   conditions = Always ∷ Compared Equal (Read 0) (Literal (Text 2)) ∷ [];
   rules = rule 0 [] Never ∷ rule 1 [] Never ∷ [];
