@@ -100,7 +100,7 @@ value_said seen why y cites concludes keeps a e p q r =
     ∙ ap (λ b. take_conclusions y (map (conclusion_from why) (cond (not b) (a ∷ []) []))) (sym e)
 
 -- the grains that aren't out are those left where there is no value
-not_out_left : (plan : Plan) (seen : Seen) (v : ℕ) → left_by plan seen v None any_piece ≡ not_out plan seen v
+pub not_out_left : (plan : Plan) (seen : Seen) (v : ℕ) → left_by plan seen v None any_piece ≡ not_out plan seen v
 not_out_left plan seen v = below 0 (count_of plan v) (omega arith)
   where
     and_true : (b : Bool) → (b && true) ≡ b

@@ -1,4 +1,5 @@
 pub mod Confining
 pub mod Kinds
+pub mod Laws
 pub mod Remaining
 pub mod Tests

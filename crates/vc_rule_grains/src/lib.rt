@@ -6,9 +6,13 @@ pub mod allowing;
 pub mod confining;
 pub mod grains;
 pub mod kinds;
+pub mod laws;
 pub mod remaining;
 pub mod testing;
 
 pub use confining::{cite_why_left, confine};
 pub use kinds::{say_among, say_last, say_line, say_never};
 pub use testing::{AnyPiece, Test};
+
+#[cfg(test)]
+mod tests;
