@@ -9,7 +9,7 @@ use vc_model_parts::{
 use vc_syntax_terms::tree::{
     Condition, Dependency, NameLeaf, NumberLeaf, Operand, Relation, Relator, Term, TextLeaf,
 };
-use vc_types::{At, Meaning, Place, Sort, TypeFaultKind};
+use vc_types::{At, Place, TypeFaultKind};
 use vc_types_names::Names;
 use vc_value::{Dec, Listed, Word};
 
@@ -100,31 +100,50 @@ fn precondition(alloc: Global, relator: Relator) -> Result<Dependency, AllocErro
     Ok(Dependency::Precondition(condition))
 }
 
+const AT_LINE: Place = Place {
+    object: 0,
+    parent: None,
+    at: At::Line {
+        configurable: false,
+    },
+};
+
 const AT_ROOT: Place = Place {
     object: 0,
     parent: None,
     at: At::Characteristic,
 };
 
-#[test]
-fn a_condition_is_typed(rt: HostRuntime) -> Result<(), Fail> {
-    let alloc = rt.alloc();
+// The fault of `A` and `'X'`, related so.
+fn fault_of(alloc: Global, relator: Relator) -> Result<Option<TypeFault>, AllocError> {
     let model = model(alloc)?;
     let names = Names::new(alloc, &model)?;
-    let equal = precondition(alloc, Relator::Equal)?;
-    let a = operand(alloc)?;
-    let told = match type_dependency(alloc, &names, &equal, &AT_ROOT) {
-        Ok(typed) => Some((typed.meaning(&a), typed.is_set(&a))),
-        Err(_) => None,
-    };
-    assert!(rt; told == Some((Meaning::Characteristic(0), false)));
-    let less = precondition(alloc, Relator::Less)?;
-    let told = match type_dependency(alloc, &names, &less, &AT_ROOT) {
+    let dependency = precondition(alloc, relator)?;
+    let fault = match type_dependency(alloc, &names, &dependency, &AT_ROOT) {
         Ok(_) => None,
         Err(fault) => Some(fault),
     };
+    Ok(fault)
+}
+
+// The size that the quantity of a line has at most.
+fn bound_of(alloc: Global, quantity: &Term) -> Result<Option<u128>, AllocError> {
+    let model = model(alloc)?;
+    let names = Names::new(alloc, &model)?;
+    let bound = match type_term(alloc, &names, quantity, &AT_LINE) {
+        Ok(typed) => typed.bound(quantity),
+        Err(_) => None,
+    };
+    Ok(bound)
+}
+
+#[test]
+fn a_text_is_not_ordered(rt: HostRuntime) -> Result<(), Fail> {
+    let equal = fault_of(rt.alloc(), Relator::Equal)?;
+    assert!(rt; equal.is_none());
+    let less = fault_of(rt.alloc(), Relator::Less)?;
     assert!(rt;
-        told == Some(TypeFault::Bad {
+        less == Some(TypeFault::Bad {
             kind: TypeFaultKind::WrongKind
         })
     );
@@ -133,16 +152,6 @@ fn a_condition_is_typed(rt: HostRuntime) -> Result<(), Fail> {
 
 #[test]
 fn a_quantity_is_typed(rt: HostRuntime) -> Result<(), Fail> {
-    let alloc = rt.alloc();
-    let model = model(alloc)?;
-    let names = Names::new(alloc, &model)?;
-    let place = Place {
-        object: 0,
-        parent: None,
-        at: At::Line {
-            configurable: false,
-        },
-    };
     let two = Term::Number(NumberLeaf {
         number: Dec {
             millionths: 2_000_000,
@@ -150,13 +159,10 @@ fn a_quantity_is_typed(rt: HostRuntime) -> Result<(), Fail> {
         start: 0,
         end: 1,
     });
-    let told = match type_term(alloc, &names, &two, &place) {
-        Ok(typed) => Some((typed.sort_of(&two), typed.bound(&two))),
-        Err(_) => None,
-    };
-    assert!(rt; told == Some((Some(Sort::Numbers), Some(2_000_000))));
-    let text = text(alloc)?;
-    let is_refused = type_term(alloc, &names, &text, &place).is_err();
-    assert!(rt; is_refused);
+    let bound = bound_of(rt.alloc(), &two)?;
+    assert!(rt; bound == Some(2_000_000));
+    let text = text(rt.alloc())?;
+    let bound = bound_of(rt.alloc(), &text)?;
+    assert!(rt; bound.is_none());
     Ok(())
 }

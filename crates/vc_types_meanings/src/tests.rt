@@ -1,6 +1,5 @@
 //! What operands mean at the root of a model, and in a constraint.
 
-use crate::meanings::known;
 use crate::{Setting, borrowed};
 use std::alloc::{AllocError, Global};
 use std::test::Fail;
@@ -10,7 +9,7 @@ use vc_model_parts::{
 use vc_syntax_terms::tree::{
     Alias, Constraint, Dependency, NameLeaf, Object, ObjectKind, Operand, Owner,
 };
-use vc_types::{At, Meaning, Place, Referent};
+use vc_types::{At, Meaning, Place};
 use vc_types_names::Names;
 use vc_value::{Listed, Word};
 
@@ -105,49 +104,49 @@ fn constraint(alloc: Global) -> Result<Dependency, AllocError> {
     }))
 }
 
-#[test]
-fn a_name_alone_means_the_instance(rt: HostRuntime) -> Result<(), Fail> {
-    let alloc = rt.alloc();
+// What the operand means in the dependency at the root.
+fn meaning_at(
+    alloc: Global,
+    at: At,
+    dependency: &Dependency,
+    operand: &Operand,
+) -> Result<Meaning, AllocError> {
     let model = model(alloc)?;
     let names = Names::new(alloc, &model)?;
     let place = Place {
         object: 0,
         parent: None,
-        at: At::Procedure,
+        at,
     };
+    let setting = Setting::new(alloc, &names, place, borrowed(dependency))?;
+    Ok(setting.meaning(operand))
+}
+
+fn is_own(alloc: Global) -> Result<bool, AllocError> {
     let nothing = Dependency::Procedure(Listed::new(alloc));
-    let setting = Setting::new(alloc, &names, place, borrowed(&nothing))?;
     let a = Operand::Plain(leaf(alloc, "A")?);
-    assert_eq!(rt; setting.meaning(&a), Meaning::Characteristic(0));
-    let own = leaf(alloc, "A")?;
-    assert_eq!(rt; setting.own_meaning(&own), Meaning::Characteristic(0));
+    let meaning = meaning_at(alloc, At::Procedure, &nothing, &a)?;
+    Ok(meaning == Meaning::Characteristic(0))
+}
+
+fn lacks_a_parent(alloc: Global) -> Result<bool, AllocError> {
+    let nothing = Dependency::Procedure(Listed::new(alloc));
     let parent = Operand::Owned(Owner::Parent, leaf(alloc, "A")?);
-    assert_eq!(rt; setting.meaning(&parent), Meaning::NoParent);
-    let variable = Operand::Variable(leaf(alloc, "V")?);
-    assert_eq!(rt; setting.meaning(&variable), Meaning::VariableOutside);
-    assert_eq!(rt; setting.place(), place);
-    assert!(rt; setting.names().model().name.is(b"M"));
-    Ok(())
+    let meaning = meaning_at(alloc, At::Procedure, &nothing, &parent)?;
+    Ok(meaning == Meaning::NoParent)
+}
+
+fn is_of_the_object(alloc: Global) -> Result<bool, AllocError> {
+    let constraint = constraint(alloc)?;
+    let member = Operand::Member(leaf(alloc, "X")?, leaf(alloc, "A")?);
+    let meaning = meaning_at(alloc, At::Constraint, &constraint, &member)?;
+    Ok(meaning == Meaning::Characteristic(0))
 }
 
 #[test]
-fn variables_mean_what_is_declared(rt: HostRuntime) -> Result<(), Fail> {
-    let alloc = rt.alloc();
-    let model = model(alloc)?;
-    let names = Names::new(alloc, &model)?;
-    let place = Place {
-        object: 0,
-        parent: None,
-        at: At::Constraint,
-    };
-    let constraint = constraint(alloc)?;
-    let setting = Setting::new(alloc, &names, place, borrowed(&constraint))?;
-    let member = Operand::Member(leaf(alloc, "X")?, leaf(alloc, "A")?);
-    assert_eq!(rt; setting.meaning(&member), Meaning::Characteristic(0));
-    let value = leaf(alloc, "V")?;
-    assert_eq!(rt; setting.referent(&value), Some(Referent::Value(Some(0))));
-    let object = Operand::Variable(leaf(alloc, "X")?);
-    assert_eq!(rt; setting.meaning(&object), Meaning::ObjectForValue);
-    assert_eq!(rt; known(None), Meaning::Unknown);
+fn operands_mean_what_is_declared(rt: HostRuntime) -> Result<(), Fail> {
+    assert!(rt; is_own(rt.alloc())?);
+    assert!(rt; lacks_a_parent(rt.alloc())?);
+    assert!(rt; is_of_the_object(rt.alloc())?);
     Ok(())
 }
