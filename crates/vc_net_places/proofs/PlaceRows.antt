@@ -1,5 +1,5 @@
--- Worked rows of PUMP's places, by computing: the root, then size, motor and flow with three, three and one grain. Beside
--- what is so stands what would be so by a likely slip, and isn't.
+-- Worked rows of PUMP's places, by computing: the root, then size, motor and flow with three, three and one grain.
+-- Beside what is so stands what would be so by a likely slip, and isn't.
 use Rattle.std.proofs.Common.{◌≡◌, true, false, [], ◌∷◌, map, refl}
 use Rattle.std.specs.Prelude.{◌≢◌}
 use Rattle.vc_value.specs.declared.value.Value.TheVariants.{Text}
@@ -15,7 +15,8 @@ use Rattle.vc_net_places.specs.Places.{index_of, is_place, place_in, place_of, p
 
 -- the slots come first, then of each variable its value and its grains
 numbered : map (place_of pump)
-    (Here 0 ∷ Is 0 (Text 1) ∷ Out 0 0 ∷ Out 0 1 ∷ Out 0 2 ∷ Is 1 (Text 3) ∷ Out 1 0 ∷ Out 1 1 ∷ Out 1 2 ∷ Is 2 (whole 7) ∷ Out 2 0 ∷ [])
+    (Here 0 ∷ Is 0 (Text 1) ∷ Out 0 0 ∷ Out 0 1 ∷ Out 0 2 ∷ Is 1 (Text 3) ∷ Out 1 0 ∷ Out 1 1 ∷ Out 1 2
+    ∷ Is 2 (whole 7) ∷ Out 2 0 ∷ [])
     ≡ 0 ∷ 1 ∷ 2 ∷ 3 ∷ 4 ∷ 5 ∷ 6 ∷ 7 ∷ 8 ∷ 9 ∷ 10 ∷ []
 numbered = refl
 
@@ -47,7 +48,8 @@ read : map (place_in (index_of pump)) (Here 0 ∷ Is 2 (whole 7) ∷ Out 0 2 ∷
 read = refl
 
 -- and what may stand at a number
-back : map (place_numbered (index_of pump)) (0 ∷ 1 ∷ 4 ∷ 5 ∷ 10 ∷ []) ≡ here_at 0 ∷ is_at 0 ∷ out_at 0 2 ∷ is_at 1 ∷ out_at 2 0 ∷ []
+back : map (place_numbered (index_of pump)) (0 ∷ 1 ∷ 4 ∷ 5 ∷ 10 ∷ [])
+    ≡ here_at 0 ∷ is_at 0 ∷ out_at 0 2 ∷ is_at 1 ∷ out_at 2 0 ∷ []
 back = refl
 
 grain_for_value : place_numbered (index_of pump) 1 ≢ out_at 0 0
@@ -63,11 +65,12 @@ not_there = refl
 
 -- the places in order
 in_order : all_places pump
-    ≡ here_at 0 ∷ is_at 0 ∷ out_at 0 0 ∷ out_at 0 1 ∷ out_at 0 2 ∷ is_at 1 ∷ out_at 1 0 ∷ out_at 1 1 ∷ out_at 1 2 ∷ is_at 2 ∷ out_at 2 0 ∷ []
+    ≡ here_at 0 ∷ is_at 0 ∷ out_at 0 0 ∷ out_at 0 1 ∷ out_at 0 2 ∷ is_at 1 ∷ out_at 1 0 ∷ out_at 1 1 ∷ out_at 1 2
+    ∷ is_at 2 ∷ out_at 2 0 ∷ []
 in_order = refl
 
--- a value by the last grain needs the variable's grains, a grain that the table takes its slot and its rows, and a flow that
--- only the user gives nothing but the place of the user's step
+-- a value by the last grain needs the variable's grains; a grain that the table takes needs the rule's slot and its rows;
+-- a flow is by the user or by its last grain, which is its only one
 bounds : bounds_of pump ≡ 0 ∷ 3 ∷ 2 ∷ 3 ∷ 2 ∷ 3 ∷ 3 ∷ 2 ∷ 2 ∷ 1 ∷ 0 ∷ []
 bounds = refl
 

@@ -1,5 +1,5 @@
--- Where the premises of what stands at each place are kept: each place has cells of its own, as many as its conclusions need
--- at most.
+-- Where the premises of what stands at each place are kept: each place has cells of its own, as many as its conclusions
+-- need at most.
 use Rattle.std.specs.Prelude.{ℕ, ◌+◌, ◌==◌, if◌then◌else◌, List, [], ◌∷◌, ◌++◌, length, map}
 use Rattle.std.specs.List.{flat_map}
 use Rattle.vc_plan.specs.declared.plans.Plan.{Plan}
@@ -11,7 +11,8 @@ abbrev pub places_of_var : Plan → ℕ → List Place
 places_of_var plan v = is_at v ∷ map (out_at v) (numbers_below (count_of plan v))
 
 abbrev pub places_before : Plan → ℕ → List Place
-places_before plan v = map here_at (numbers_below (length plan.slots)) ++ flat_map (places_of_var plan) (numbers_below v)
+places_before plan v =
+    map here_at (numbers_below (length plan.slots)) ++ flat_map (places_of_var plan) (numbers_below v)
 
 abbrev pub all_places : Plan → List Place
 all_places plan = places_before plan (length plan.vars)

@@ -59,7 +59,8 @@ CellsSuffice = (plan : Plan) → total (bounds_of plan) + max 1 (greatest (clash
 -- cells that follow one another don't overlap: each begin where those before them end, the last at the total
 abbrev pub CellsAreApart : Type 0
 CellsAreApart = (bounds : List ℕ) (n : ℕ) → n < length bounds
-    → slice_index_or (begins_from 0 bounds) n 0 + slice_index_or bounds n 0 ≡ slice_index_or (begins_from 0 bounds) (n + 1) 0
+    → slice_index_or (begins_from 0 bounds) n 0 + slice_index_or bounds n 0
+    ≡ slice_index_or (begins_from 0 bounds) (n + 1) 0
 
 abbrev pub CellsEndAtTotal : Type 0
 CellsEndAtTotal = (bounds : List ℕ) → slice_index_or (begins_from 0 bounds) (length bounds) 0 ≡ total bounds

@@ -1,6 +1,6 @@
--- The place of each atom that may stand in a net: the plan's slots first, then variable by variable one place for its value
--- and one for each of its grains.
-use Rattle.std.specs.Prelude.{ℕ, ◌+◌, Bool, true, ◌&&◌, nat_lt, List, ◌++◌, length, map, replicate, slice_index_or, zero, suc, ◌-◌, slice_get, Option, None, Some}
+-- The place of each atom that may stand in a net: the plan's slots first, then variable by variable one place for its
+-- value and one for each of its grains.
+use Rattle.std.specs.Prelude.{ℕ, ◌+◌, Bool, ◌&&◌, nat_lt, List, ◌++◌, length, map, replicate, slice_index_or, zero, suc, ◌-◌, slice_get, Option, None, Some}
 use Rattle.std.specs.List.{flat_map, sum_by}
 use Rattle.vc_plan.specs.declared.atoms.Atom.{Atom}
 use Rattle.vc_plan.specs.declared.atoms.Atom.TheVariants.{Here, Out, Is}
@@ -88,9 +88,3 @@ abbrev pub told_place : Spot → Place
 told_place (spots.Here i) = here_at i
 told_place (spots.Out v g) = out_at v g
 told_place (spots.Is v) = is_at v
-
--- whether the atom's variable, if it is of one, is kept
-abbrev pub var_kept : Index → Atom → Bool
-var_kept index (Here i) = true
-var_kept index (Out v g) = nat_lt v (length index.firsts)
-var_kept index (Is v a) = nat_lt v (length index.firsts)

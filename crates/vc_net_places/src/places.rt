@@ -44,9 +44,9 @@ impl Model for Places {
 }
 
 impl Places {
-    ghost use Rattle.std.specs.Prelude.{◌≡◌, ◌^◌, ◌<◌, true, length, slice_get, IfOk, Some};
+    ghost use Rattle.std.specs.Prelude.{◌≡◌, ◌^◌, ◌<◌, length, slice_get, IfOk, Some};
     ghost use Rattle.vc_plan.specs.Domains.{atom_count};
-    ghost use Rattle.vc_net_places.specs.Places.{first_in, index_of, place_in, place_numbered, told_place, var_kept};
+    ghost use Rattle.vc_net_places.specs.Places.{first_in, index_of, place_in, place_numbered, told_place};
 
     /// The places of the plan's atoms.
     pub fn new(alloc: Global, plan: &Plan) -> Result<Places, AllocError>
@@ -69,18 +69,19 @@ impl Places {
         self.things.len()
     }
 
-    /// The place of a variable's value; those of its grains follow it.
+    /// The place of a variable's value; those of its grains follow it. 0 where there is no such variable.
     pub fn first(&self, var: u32) -> usize
-        requires { var < length self.now.firsts }
         ensures place { result ≡ first_in self.now var }
         ensures small { result < 2 ^ 32 }
     {
-        self.firsts.as_slice()[var as usize] as usize
+        match self.firsts.as_slice().get(var as usize) {
+            Some(first) => *first as usize,
+            None => 0,
+        }
     }
 
-    /// The place of the atom.
+    /// The place of the atom; where the plan has no such place, another or none.
     pub fn place_of(&self, atom: Atom) -> usize
-        requires { var_kept self.now atom ≡ true }
         ensures { result ≡ place_in self.now atom }
     {
         match atom {
@@ -108,18 +109,8 @@ impl Places {
             Thing::Slot(slot) => Spot::Here(slot),
             Thing::Var(var) => spot_after(
                 var,
-                place.saturating_sub(self.first_or_zero(var)) as u32,
+                place.saturating_sub(self.first(var)) as u32,
             ),
-        }
-    }
-
-    // The place of a variable's value; 0 where there is no such variable.
-    fn first_or_zero(&self, var: u32) -> usize
-        ensures { result ≡ first_in self.now var }
-    {
-        match self.firsts.as_slice().get(var as usize) {
-            Some(first) => *first as usize,
-            None => 0,
         }
     }
 }

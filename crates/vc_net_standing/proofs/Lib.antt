@@ -1,0 +1,3 @@
+pub mod FreeLaws
+pub mod StandingLaws
+pub mod StandingRows
