@@ -1,4 +1,5 @@
 pub mod AfterLaws
 pub mod AssignLemmas
+pub mod PassingLaws
 pub mod SaidLaws
 pub mod SidesLaws
