@@ -114,55 +114,60 @@ const AT_ROOT: Place = Place {
     at: At::Characteristic,
 };
 
-// The fault of `A` and `'X'`, related so.
-fn fault_of(alloc: Global, relator: Relator) -> Result<Option<TypeFault>, AllocError> {
-    let model = model(alloc)?;
-    let names = Names::new(alloc, &model)?;
-    let dependency = precondition(alloc, relator)?;
-    let fault = match type_dependency(alloc, &names, &dependency, &AT_ROOT) {
+// The fault of a dependency at the root.
+fn judged(alloc: Global, names: &Names, dependency: &Dependency) -> Option<TypeFault> {
+    match type_dependency(alloc, names, dependency, &AT_ROOT) {
         Ok(_) => None,
         Err(fault) => Some(fault),
-    };
-    Ok(fault)
+    }
 }
 
 // The size that the quantity of a line has at most.
-fn bound_of(alloc: Global, quantity: &Term) -> Result<Option<u128>, AllocError> {
-    let model = model(alloc)?;
-    let names = Names::new(alloc, &model)?;
-    let bound = match type_term(alloc, &names, quantity, &AT_LINE) {
+fn bounded(alloc: Global, names: &Names, quantity: &Term) -> Option<u128> {
+    match type_term(alloc, names, quantity, &AT_LINE) {
         Ok(typed) => typed.bound(quantity),
         Err(_) => None,
-    };
-    Ok(bound)
+    }
+}
+
+// The fault of `A` and `'X'`, related so.
+fn fault_of(
+    alloc: Global,
+    names: &Names,
+    relator: Relator,
+) -> Result<Option<TypeFault>, AllocError> {
+    let dependency = precondition(alloc, relator)?;
+    Ok(judged(alloc, names, &dependency))
+}
+
+fn number(millionths: i64) -> Term {
+    Term::Number(NumberLeaf {
+        number: Dec { millionths },
+        start: 0,
+        end: 1,
+    })
+}
+
+fn is_refused(alloc: Global, names: &Names) -> Result<bool, AllocError> {
+    let fault = fault_of(alloc, names, Relator::Less)?;
+    Ok(
+        fault
+            == Some(TypeFault::Bad {
+                kind: TypeFaultKind::WrongKind,
+            }),
+    )
+}
+
+fn is_typed(alloc: Global, names: &Names) -> Result<bool, AllocError> {
+    let fault = fault_of(alloc, names, Relator::Equal)?;
+    Ok(fault.is_none() && bounded(alloc, names, &number(2_000_000)) == Some(2_000_000))
 }
 
 #[test]
 fn a_text_is_not_ordered(rt: HostRuntime) -> Result<(), Fail> {
-    let equal = fault_of(rt.alloc(), Relator::Equal)?;
-    assert!(rt; equal.is_none());
-    let less = fault_of(rt.alloc(), Relator::Less)?;
-    assert!(rt;
-        less == Some(TypeFault::Bad {
-            kind: TypeFaultKind::WrongKind
-        })
-    );
-    Ok(())
-}
-
-#[test]
-fn a_quantity_is_typed(rt: HostRuntime) -> Result<(), Fail> {
-    let two = Term::Number(NumberLeaf {
-        number: Dec {
-            millionths: 2_000_000,
-        },
-        start: 0,
-        end: 1,
-    });
-    let bound = bound_of(rt.alloc(), &two)?;
-    assert!(rt; bound == Some(2_000_000));
-    let text = text(rt.alloc())?;
-    let bound = bound_of(rt.alloc(), &text)?;
-    assert!(rt; bound.is_none());
+    let model = model(rt.alloc())?;
+    let names = Names::new(rt.alloc(), &model)?;
+    assert!(rt; is_refused(rt.alloc(), &names)?);
+    assert!(rt; is_typed(rt.alloc(), &names)?);
     Ok(())
 }
