@@ -107,10 +107,7 @@ impl Places {
     {
         match self.thing(place) {
             Thing::Slot(slot) => Spot::Here(slot),
-            Thing::Var(var) => spot_after(
-                var,
-                place.saturating_sub(self.first(var)) as u32,
-            ),
+            Thing::Var(var) => spot_after(var, place.saturating_sub(self.first(var)) as u32),
         }
     }
 }
