@@ -30,7 +30,8 @@ fn put_columns<'a>(
     out: &mut Listed<&'a NameLeaf>,
     bindings: &'a [Binding],
 ) -> Result<(), AllocError>
-    ensures { OnOk result (names_seen out.new ≡ names_seen out.old ++ map (λ b. b.column.name) (map binding_of bindings.now)) }
+    ensures { OnOk result (names_seen out.new ≡ names_seen out.old ++ map (λ b. b.column.name)
+        (map binding_of bindings.now)) }
 {
     for binding in bindings {
         out.push(&binding.column)?;

@@ -101,21 +101,24 @@ fn uses_set(found: &Found) -> bool
 
 fn call_unknown(found: &Found) -> bool
     requires { IsFound found.now }
-    ensures { result ≡ list_any (names.is_unknown_call (setting_in found.now)) (occurrences.calls_in (tree_in found.now)) }
+    ensures { result ≡ list_any (names.is_unknown_call (setting_in found.now))
+        (occurrences.calls_in (tree_in found.now)) }
 {
     some_unknown_call(found.setting, found.parts.calls.as_slice())
 }
 
 fn call_wrong(found: &Found) -> bool
     requires { IsFound found.now }
-    ensures { result ≡ list_any (sorts.calls_wrongly (setting_in found.now)) (occurrences.calls_in (tree_in found.now)) }
+    ensures { result ≡ list_any (sorts.calls_wrongly (setting_in found.now))
+        (occurrences.calls_in (tree_in found.now)) }
 {
     some_calls_wrongly(found.setting, found.parts.calls.as_slice())
 }
 
 fn call_computes(found: &Found) -> bool
     requires { IsFound found.now }
-    ensures { result ≡ list_any (λ call. list_any places.is_computed call.bindings) (occurrences.calls_in (tree_in found.now)) }
+    ensures { result ≡ list_any (λ call. list_any places.is_computed call.bindings)
+        (occurrences.calls_in (tree_in found.now)) }
 {
     some_has_computed(found.parts.calls.as_slice())
 }
@@ -130,7 +133,8 @@ fn call_looks_up_wrongly(found: &Found) -> bool
 
 fn object_unknown(found: &Found) -> bool
     requires { IsFound found.now }
-    ensures { result ≡ list_any (names.is_unknown_object (setting_in found.now)) (names.objects_in (tree_in found.now)) }
+    ensures { result ≡ list_any (names.is_unknown_object (setting_in found.now))
+        (names.objects_in (tree_in found.now)) }
 {
     some_unknown_object(found.setting, objects_in(found.tree))
 }
@@ -144,14 +148,16 @@ fn object_declares_set(found: &Found) -> bool
 
 fn part_undeclared(found: &Found) -> bool
     requires { IsFound found.now }
-    ensures { result ≡ list_any (names.is_undeclared (setting_in found.now)) (occurrences.parted_names (tree_in found.now)) }
+    ensures { result ≡ list_any (names.is_undeclared (setting_in found.now))
+        (occurrences.parted_names (tree_in found.now)) }
 {
     some_undeclared(found.setting, found.leaves.parted.as_slice())
 }
 
 fn part_is_value(found: &Found) -> bool
     requires { IsFound found.now }
-    ensures { result ≡ list_any (sorts.parts_a_value (setting_in found.now)) (occurrences.parted_names (tree_in found.now)) }
+    ensures { result ≡ list_any (sorts.parts_a_value (setting_in found.now))
+        (occurrences.parted_names (tree_in found.now)) }
 {
     some_parts_a_value(found.setting, found.leaves.parted.as_slice())
 }
@@ -165,14 +171,16 @@ fn asks_parted(found: &Found) -> bool
 
 fn sum_of_no_part(found: &Found) -> bool
     requires { IsFound found.now }
-    ensures { result ≡ list_any (names.is_of_no_part (setting_in found.now)) (occurrences.summed_names (tree_in found.now)) }
+    ensures { result ≡ list_any (names.is_of_no_part (setting_in found.now))
+        (occurrences.summed_names (tree_in found.now)) }
 {
     some_of_no_part(found.setting, found.leaves.summed.as_slice())
 }
 
 fn sum_of_texts(found: &Found) -> bool
     requires { IsFound found.now }
-    ensures { result ≡ list_any (sorts.sums_texts (setting_in found.now)) (occurrences.summed_names (tree_in found.now)) }
+    ensures { result ≡ list_any (sorts.sums_texts (setting_in found.now))
+        (occurrences.summed_names (tree_in found.now)) }
 {
     some_sums_texts(found.setting, found.leaves.summed.as_slice())
 }
@@ -186,14 +194,16 @@ fn asks_sum(found: &Found) -> bool
 
 fn computes_with_text(found: &Found) -> bool
     requires { IsFound found.now }
-    ensures { result ≡ list_any (sorts.computes_with_text (setting_in found.now)) (occurrences.terms_in (tree_in found.now)) }
+    ensures { result ≡ list_any (sorts.computes_with_text (setting_in found.now))
+        (occurrences.terms_in (tree_in found.now)) }
 {
     some_computes_with_text(found.setting, found.terms.all.as_slice())
 }
 
 fn relates_wrongly(found: &Found) -> bool
     requires { IsFound found.now }
-    ensures { result ≡ list_any (sorts.relates_wrongly (setting_in found.now)) (occurrences.relations_in (tree_in found.now)) }
+    ensures { result ≡ list_any (sorts.relates_wrongly (setting_in found.now))
+        (occurrences.relations_in (tree_in found.now)) }
 {
     some_relates_wrongly(found.setting, found.parts.relations.as_slice())
 }

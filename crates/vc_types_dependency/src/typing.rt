@@ -55,7 +55,8 @@ fn type_tree<'n, 'm, 't>(
 ) -> Result<Typed<'n, 'm, 't>, TypeFault>
     ensures typed { IfOk result (λ typed. (fault_of names.now.model.now place.now (tree_of tree.entry) ≡ None)
         × IsTyped names.now.model.now place.now (tree_of tree.entry) typed) }
-    ensures bad { IfErr result (λ fault. IsTypeFault (fault_of names.now.model.now place.now (tree_of tree.entry)) fault) }
+    ensures bad { IfErr result (λ fault. IsTypeFault
+        (fault_of names.now.model.now place.now (tree_of tree.entry)) fault) }
 {
     match set(alloc, names, tree, place) {
         Ok(typed) => match type_fault(alloc, &typed.setting, tree) {
@@ -77,7 +78,8 @@ pub fn type_dependency<'n, 'm, 't>(
 ) -> Result<Typed<'n, 'm, 't>, TypeFault>
     ensures typed { IfOk result (λ typed. (fault_of names.now.model.now place.now (dependency_of dependency.now) ≡ None)
         × IsTyped names.now.model.now place.now (dependency_of dependency.now) typed) }
-    ensures bad { IfErr result (λ fault. IsTypeFault (fault_of names.now.model.now place.now (dependency_of dependency.now)) fault) }
+    ensures bad { IfErr result (λ fault. IsTypeFault
+        (fault_of names.now.model.now place.now (dependency_of dependency.now)) fault) }
 {
     type_tree(alloc, names, borrowed(dependency), place)
 }
@@ -91,7 +93,8 @@ pub fn type_term<'n, 'm, 't>(
 ) -> Result<Typed<'n, 'm, 't>, TypeFault>
     ensures typed { IfOk result (λ typed. (fault_of names.now.model.now place.now (Counts (term_of term.now)) ≡ None)
         × IsTyped names.now.model.now place.now (Counts (term_of term.now)) typed) }
-    ensures bad { IfErr result (λ fault. IsTypeFault (fault_of names.now.model.now place.now (Counts (term_of term.now))) fault) }
+    ensures bad { IfErr result (λ fault. IsTypeFault
+        (fault_of names.now.model.now place.now (Counts (term_of term.now))) fault) }
 {
     type_tree(alloc, names, Tree::Term(term), place)
 }
@@ -128,7 +131,8 @@ impl<'n, 'm, 't> Typed<'n, 'm, 't> {
     /// The size that a term's number has at most, in millionths; none where a number on the way gets
     /// too large, as in no term of the dependency.
     pub fn bound(&self, term: &Term) -> Option<u128>
-        ensures { result ≡ bounded (gets_too_large (seen self.now.setting) (term_of term.now)) (size_of (seen self.now.setting) (term_of term.now)) }
+        ensures { result ≡ bounded (gets_too_large (seen self.now.setting) (term_of term.now))
+            (size_of (seen self.now.setting) (term_of term.now)) }
     {
         sizes::bound(&self.setting, term)
     }

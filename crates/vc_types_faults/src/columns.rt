@@ -107,13 +107,15 @@ fn lacks_some_key(setting: &Setting, call: &TableCall, columns: &[TableColumn]) 
 }
 
 fn binds_other(setting: &Setting, call: &TableCall, binding: &Binding) -> bool
-    ensures { result ≡ faults.is_other (faults.bound_column (seen setting.now) (table_call_of call.now) (binding_of binding.now)) }
+    ensures { result ≡ faults.is_other (faults.bound_column (seen setting.now) (table_call_of call.now)
+        (binding_of binding.now)) }
 {
     is_other(bound_column(setting, call, binding))
 }
 
 fn binds_some_other(setting: &Setting, call: &TableCall) -> bool
-    ensures { result ≡ list_any (λ binding. faults.is_other (faults.bound_column (seen setting.now) (table_call_of call.now) binding))
+    ensures { result ≡ list_any (λ binding. faults.is_other
+        (faults.bound_column (seen setting.now) (table_call_of call.now) binding))
         (table_call_of call.now).bindings }
 {
     let bindings = call.bindings.as_slice();
@@ -126,7 +128,8 @@ fn binds_some_other(setting: &Setting, call: &TableCall) -> bool
 }
 
 fn gives_some_other(setting: &Setting, call: &TableCall) -> bool
-    ensures { result ≡ list_any (faults.gives_other (seen setting.now) (table_call_of call.now)) (table_call_of call.now).bindings }
+    ensures { result ≡ list_any (faults.gives_other (seen setting.now) (table_call_of call.now))
+        (table_call_of call.now).bindings }
 {
     let bindings = call.bindings.as_slice();
     for binding in bindings {
@@ -157,9 +160,11 @@ fn lacks_keys(setting: &Setting, call: &TableCall, columns: &[TableColumn]) -> b
 }
 
 fn gives_wrongly(setting: &Setting, call: &TableCall) -> bool
-    ensures { result ≡ (not (list_any (λ binding. faults.is_other (faults.bound_column (seen setting.now) (table_call_of call.now) binding))
+    ensures { result ≡ (not (list_any (λ binding. faults.is_other
+        (faults.bound_column (seen setting.now) (table_call_of call.now) binding))
         (table_call_of call.now).bindings)
-        || list_any (faults.gives_other (seen setting.now) (table_call_of call.now)) (table_call_of call.now).bindings) }
+        || list_any (faults.gives_other (seen setting.now) (table_call_of call.now))
+        (table_call_of call.now).bindings) }
 {
     !binds_some_other(setting, call) || gives_some_other(setting, call)
 }

@@ -98,7 +98,8 @@ fn is_unknown_column(setting: &Setting, call: &TableCall, binding: &Binding) -> 
 }
 
 fn some_unknown_column(setting: &Setting, call: &TableCall) -> bool
-    ensures { result ≡ list_any (faults.is_unknown_column (seen setting.now) (table_call_of call.now)) (table_call_of call.now).bindings }
+    ensures { result ≡ list_any (faults.is_unknown_column (seen setting.now) (table_call_of call.now))
+        (table_call_of call.now).bindings }
 {
     let bindings = call.bindings.as_slice();
     for binding in bindings {
@@ -162,7 +163,8 @@ pub fn component_class(names: &Names, item: &BillItem) -> Option<u32>
 }
 
 fn item_has(names: &Names, name: &[u8], item: &BillItem) -> bool
-    ensures { result ≡ if_part (λ class. is_some (member_of names.now.model.now name.now (Some class))) (component_class names.now.model.now item.now) }
+    ensures { result ≡ if_part (λ class. is_some (member_of names.now.model.now name.now (Some class)))
+        (component_class names.now.model.now item.now) }
 {
     match component_class(names, item) {
         Some(class) => names.member_of(name, Some(class)).is_some(),

@@ -4,7 +4,8 @@ ghost use Rattle.std.specs.Prelude.{◌≡◌, ◌∷◌, [], map, option_map, f
 ghost use Rattle.std.specs.List.{list_any};
 ghost use Rattle.vc_syntax_terms.specs.Trees.{binding_of, condition_of, restriction_of, table_call_of, term_of};
 ghost use Rattle.vc_types.specs.NameFaults.{has_some};
-ghost use Rattle.vc_types.specs.Occurrences.{condition_of_restriction, conditions_in, has_sum, if_there, parted_in, specified_in};
+ghost use Rattle.vc_types.specs.Occurrences.{condition_of_restriction, conditions_in, has_sum, if_there};
+ghost use Rattle.vc_types.specs.Occurrences.{parted_in, specified_in};
 ghost use Rattle.vc_types.specs.PlaceFaults as faults;
 ghost use Rattle.vc_types.specs.Settings as settings;
 ghost use Rattle.vc_types_meanings.specs.Borrowed.{tree_of};
@@ -162,7 +163,8 @@ fn some_asks_part(conditions: &[&Condition]) -> bool
 
 fn hides_part_if(condition: &Option<Box<Condition>>) -> bool
     ensures { result ≡ list_any faults.hides_part
-        (flat_map faults.joined_parts (if_there (λ c. c ∷ []) (option_map (λ boxed. condition_of boxed.value) condition.now))) }
+        (flat_map faults.joined_parts (if_there (λ c. c ∷ [])
+        (option_map (λ boxed. condition_of boxed.value) condition.now))) }
 {
     match condition {
         Some(condition) => hides_part(condition),
@@ -181,7 +183,8 @@ fn asks_part_if(condition: &Option<Box<Condition>>) -> bool
 }
 
 fn some_restriction_asks_part(restrictions: &[Restriction]) -> bool
-    ensures { result ≡ list_any faults.asks_part (flat_map condition_of_restriction (map restriction_of restrictions.now)) }
+    ensures { result ≡ list_any faults.asks_part
+        (flat_map condition_of_restriction (map restriction_of restrictions.now)) }
 {
     for restriction in restrictions {
         if asks_part_if(&restriction.condition) {

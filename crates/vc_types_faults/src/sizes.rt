@@ -31,7 +31,8 @@ fn within(size: u128) -> Option<u128>
 fn product(first: u128, second: u128) -> Option<u128>
     requires first { first ≤ faults.size_limit }
     requires second { second ≤ faults.size_limit }
-    ensures bounded { result ≡ bounded (faults.is_too_large (first * second) || faults.is_too_large (first * second / faults.one + 1))
+    ensures bounded { result ≡ bounded (faults.is_too_large (first * second) || faults.is_too_large
+        (first * second / faults.one + 1))
         (first * second / faults.one + 1) }
     ensures within { IfSome result (λ n. n ≤ faults.size_limit) }
 {
@@ -42,7 +43,8 @@ fn product(first: u128, second: u128) -> Option<u128>
 }
 
 fn quotient(size: u128) -> Option<u128>
-    ensures bounded { result ≡ bounded (faults.is_too_large (faults.one * size) || faults.is_too_large (faults.one * size)) (faults.one * size) }
+    ensures bounded { result ≡ bounded (faults.is_too_large (faults.one * size) || faults.is_too_large
+        (faults.one * size)) (faults.one * size) }
     ensures within { IfSome result (λ n. n ≤ faults.size_limit) }
 {
     match ONE.checked_mul(size) {
@@ -54,7 +56,8 @@ fn quotient(size: u128) -> Option<u128>
 fn sum(first: u128, second: u128) -> Option<u128>
     requires first { first ≤ faults.size_limit }
     requires second { second ≤ faults.size_limit }
-    ensures bounded { result ≡ bounded (faults.is_too_large (first + second) || faults.is_too_large (first + second)) (first + second) }
+    ensures bounded { result ≡ bounded (faults.is_too_large (first + second) || faults.is_too_large (first + second))
+        (first + second) }
     ensures within { IfSome result (λ n. n ≤ faults.size_limit) }
 {
     within(first + second)
@@ -64,7 +67,8 @@ fn combine(operator: Operator, first: u128, second: u128) -> Option<u128>
     requires first { first ≤ faults.size_limit }
     requires second { second ≤ faults.size_limit }
     ensures bounded { result ≡ bounded (faults.is_too_large (faults.combined_load operator first second)
-        || faults.is_too_large (faults.combined_size operator first second)) (faults.combined_size operator first second) }
+        || faults.is_too_large (faults.combined_size operator first second))
+        (faults.combined_size operator first second) }
     ensures within { IfSome result (λ n. n ≤ faults.size_limit) }
 {
     match operator {
@@ -89,7 +93,8 @@ fn combined(operator: Operator, left: Option<u128>, right: Option<u128>) -> Opti
 
 fn apply(function: Function, size: u128) -> Option<u128>
     requires { size ≤ faults.size_limit }
-    ensures bounded { result ≡ bounded (faults.is_too_large (faults.applied_size function size)) (faults.applied_size function size) }
+    ensures bounded { result ≡ bounded (faults.is_too_large (faults.applied_size function size))
+        (faults.applied_size function size) }
     ensures within { IfSome result (λ n. n ≤ faults.size_limit) }
 {
     match function {
@@ -124,7 +129,8 @@ fn size_meant(names: &Names, meaning: Meaning) -> u128
 }
 
 fn operand_bound(setting: &Setting, operand: &Operand) -> Option<u128>
-    ensures bounded { result ≡ Some (faults.size_meant (seen setting.now).model (meaning (seen setting.now) operand.now)) }
+    ensures bounded { result ≡ Some (faults.size_meant (seen setting.now).model
+        (meaning (seen setting.now) operand.now)) }
     ensures within { IfSome result (λ n. n ≤ faults.size_limit) }
 {
     Some(size_meant(setting.names(), setting.meaning(operand)))

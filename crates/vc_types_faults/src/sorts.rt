@@ -2,7 +2,8 @@
 
 ghost use Rattle.std.specs.Prelude.{◌≡◌, ◌&&◌, ◌||◌, not, Some, filter_map, map};
 ghost use Rattle.std.specs.List.{list_any};
-ghost use Rattle.vc_syntax_terms.specs.Trees.{Compared, action_of, binding_of, relation_of, statement_of, table_call_of, term_of};
+ghost use Rattle.vc_syntax_terms.specs.Trees.{Compared, action_of, binding_of, relation_of};
+ghost use Rattle.vc_syntax_terms.specs.Trees.{statement_of, table_call_of, term_of};
 ghost use Rattle.vc_types.specs.Looking.{member_of};
 ghost use Rattle.vc_types.specs.Meanings.{known};
 ghost use Rattle.vc_types.specs.Occurrences.{is_equality};
@@ -113,7 +114,8 @@ fn orders_text(relator: Relator, left: Option<Sort>, right: Option<Sort>) -> boo
 }
 
 fn compares_wrongly(setting: &Setting, left: &Term, relator: Relator, right: &Term) -> bool
-    ensures { result ≡ faults.relates_wrongly (seen setting.now) (Compared (term_of left.now) relator (term_of right.now)) }
+    ensures { result ≡ faults.relates_wrongly (seen setting.now)
+        (Compared (term_of left.now) relator (term_of right.now)) }
 {
     let first = sort_of(setting, left);
     let second = sort_of(setting, right);
@@ -362,7 +364,8 @@ pub fn some_declares_set(setting: &Setting, objects: &[Object]) -> bool
 }
 
 fn is_text_member(names: &Names, name: &[u8], class: u32) -> bool
-    ensures { result ≡ faults.is_text (sort_meant names.now.model.now (known (member_of names.now.model.now name.now (Some class)))) }
+    ensures { result ≡ faults.is_text (sort_meant names.now.model.now
+        (known (member_of names.now.model.now name.now (Some class)))) }
 {
     is_text(sort_meant(names, known(names.member_of(name, Some(class)))))
 }
@@ -380,7 +383,8 @@ fn item_has_text(names: &Names, name: &[u8], item: &BillItem) -> bool
 #[tactic(auto, using(crate::proofs::AnyLemmas::any_option))]
 fn some_item_has_text(names: &Names, name: &[u8], items: &[BillItem]) -> bool
     ensures { result ≡ list_any (λ class. faults.is_text (sort_meant names.now.model.now
-        (known (member_of names.now.model.now name.now (Some class))))) (filter_map (component_class names.now.model.now) items.now) }
+        (known (member_of names.now.model.now name.now (Some class)))))
+        (filter_map (component_class names.now.model.now) items.now) }
 {
     for item in items {
         if item_has_text(names, name, item) {
@@ -392,7 +396,8 @@ fn some_item_has_text(names: &Names, name: &[u8], items: &[BillItem]) -> bool
 
 fn some_part_has_text(setting: &Setting, leaf: &NameLeaf) -> bool
     ensures { result ≡ list_any (λ class. faults.is_text (sort_meant (seen setting.now).model
-        (known (member_of (seen setting.now).model (leaf.now).name (Some class))))) (component_classes (seen setting.now)) }
+        (known (member_of (seen setting.now).model (leaf.now).name (Some class)))))
+        (component_classes (seen setting.now)) }
 {
     let names = setting.names();
     match names

@@ -20,7 +20,8 @@ fn add_aliases(
     aliases: &[Alias],
 ) -> Result<(), AllocError>
     ensures { OnOk result ((name : List ℕ) → value_of variables.new name
-        ≡ option_or (value_of variables.old name) (referent_among (map (alias_of names.now.model.now class) aliases.now) name)) }
+        ≡ option_or (value_of variables.old name)
+        (referent_among (map (alias_of names.now.model.now class) aliases.now) name)) }
 {
     for alias in aliases {
         let characteristic = names.member_of(alias.characteristic.name.bytes(), class);
@@ -37,7 +38,8 @@ fn add_object(
     object: &Object,
 ) -> Result<(), AllocError>
     ensures { OnOk result ((name : List ℕ) → value_of variables.new name
-        ≡ option_or (value_of variables.old name) (referent_among (variables_of_object names.now.model.now object.now) name)) }
+        ≡ option_or (value_of variables.old name)
+        (referent_among (variables_of_object names.now.model.now object.now) name)) }
 {
     let class = class_meant(names, &object.kind);
     variables.add(alloc, object.variable.name.bytes(), Referent::Object(class))?;

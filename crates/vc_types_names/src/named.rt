@@ -50,7 +50,8 @@ impl Named for Table {
 
 /// The first place of each name in a list.
 pub fn places<T: Named>(alloc: Global, list: &[T]) -> Result<FirstNamed<u32>, AllocError>
-    ensures { IfOk result (λ index. (name : List ℕ) → value_of index name ≡ position (λ x. bytes_eq (T.name_of x) name) list.now) }
+    ensures { IfOk result (λ index. (name : List ℕ) → value_of index name ≡ position
+        (λ x. bytes_eq (T.name_of x) name) list.now) }
 {
     if list.len() > u32::MAX as usize {
         return Err(AllocError);

@@ -27,11 +27,16 @@ pub struct Names<'a> {
     tables: FirstNamed<u32>,
     // the largest size of a number of each characteristic, in millionths
     sizes: Listed<u64>,
-    ghost characteristics_are: { (name : List ℕ) → value_of characteristics name ≡ looking.characteristic_named model.now name } by { Prim.hlevel props },
-    ghost classes_are: { (name : List ℕ) → value_of classes name ≡ looking.class_named model.now name } by { Prim.hlevel props },
-    ghost objects_are: { (name : List ℕ) → value_of objects name ≡ looking.object_named model.now name } by { Prim.hlevel props },
-    ghost tables_are: { (name : List ℕ) → value_of tables name ≡ position (λ t. bytes_eq t.name name) (model.now).tables } by { Prim.hlevel props },
-    ghost sizes_are: { sizes ≡ map (λ c. size_of_values c.values) (model.now).characteristics } by { Prim.hlevel props },
+    ghost characteristics_are: { (name : List ℕ) → value_of characteristics name
+        ≡ looking.characteristic_named model.now name } by { Prim.hlevel props },
+    ghost classes_are: { (name : List ℕ) → value_of classes name
+        ≡ looking.class_named model.now name } by { Prim.hlevel props },
+    ghost objects_are: { (name : List ℕ) → value_of objects name
+        ≡ looking.object_named model.now name } by { Prim.hlevel props },
+    ghost tables_are: { (name : List ℕ) → value_of tables name
+        ≡ position (λ t. bytes_eq t.name name) (model.now).tables } by { Prim.hlevel props },
+    ghost sizes_are: { sizes
+        ≡ map (λ c. size_of_values c.values) (model.now).characteristics } by { Prim.hlevel props },
 }
 
 impl<'a> Names<'a> {

@@ -14,7 +14,8 @@ pub fn put_relations<'a>(
     out: &mut Listed<&'a Relation>,
     condition: &'a Condition,
 ) -> Result<(), AllocError>
-    ensures { OnOk result (relations_seen out.new ≡ relations_seen out.old ++ relations_of (condition_of condition.now)) }
+    ensures { OnOk result (relations_seen out.new ≡ relations_seen out.old ++ relations_of
+        (condition_of condition.now)) }
 {
     match condition {
         Condition::Or(left, right) => {

@@ -70,7 +70,8 @@ pub fn put_demanded_relations<'a>(
     restrictions: &'a [Restriction],
 ) -> Result<(), AllocError>
     ensures { OnOk result (relations_seen out.new ≡ relations_seen out.old
-        ++ flat_map (λ restriction. occurrences.relation_of_demand restriction.demand) (map restriction_of restrictions.now)) }
+        ++ flat_map (λ restriction. occurrences.relation_of_demand restriction.demand)
+        (map restriction_of restrictions.now)) }
 {
     for restriction in restrictions {
         put_demanded(out, &restriction.demand)?;
@@ -82,7 +83,8 @@ fn put_action_call<'a>(
     out: &mut Listed<&'a TableCall>,
     action: &'a Action,
 ) -> Result<(), AllocError>
-    ensures { OnOk result (calls_seen out.new ≡ calls_seen out.old ++ occurrences.call_of_action (action_of action.now)) }
+    ensures { OnOk result (calls_seen out.new ≡ calls_seen out.old ++ occurrences.call_of_action
+        (action_of action.now)) }
 {
     match action {
         Action::Assign(_, _) => Ok(()),
@@ -110,7 +112,8 @@ fn put_demanded_call<'a>(
     out: &mut Listed<&'a TableCall>,
     demand: &'a Demand,
 ) -> Result<(), AllocError>
-    ensures { OnOk result (calls_seen out.new ≡ calls_seen out.old ++ occurrences.call_of_demand (demand_of demand.now)) }
+    ensures { OnOk result (calls_seen out.new ≡ calls_seen out.old ++ occurrences.call_of_demand
+        (demand_of demand.now)) }
 {
     match demand {
         Demand::Relation(_) => Ok(()),
@@ -125,7 +128,8 @@ pub fn put_demanded_calls<'a>(
     restrictions: &'a [Restriction],
 ) -> Result<(), AllocError>
     ensures { OnOk result (calls_seen out.new ≡ calls_seen out.old
-        ++ flat_map (λ restriction. occurrences.call_of_demand restriction.demand) (map restriction_of restrictions.now)) }
+        ++ flat_map (λ restriction. occurrences.call_of_demand restriction.demand)
+        (map restriction_of restrictions.now)) }
 {
     for restriction in restrictions {
         put_demanded_call(out, &restriction.demand)?;
@@ -134,7 +138,8 @@ pub fn put_demanded_calls<'a>(
 }
 
 fn put_action_term<'a>(out: &mut Listed<&'a Term>, action: &'a Action) -> Result<(), AllocError>
-    ensures { OnOk result (terms_seen out.new ≡ terms_seen out.old ++ occurrences.term_of_action (action_of action.now)) }
+    ensures { OnOk result (terms_seen out.new ≡ terms_seen out.old ++ occurrences.term_of_action
+        (action_of action.now)) }
 {
     match action {
         Action::Assign(_, term) => out.push(term),

@@ -46,7 +46,8 @@ fn put_set(out: &mut Listed<Use>, setting: &Setting, operand: &Operand) -> Resul
 // Puts the operands of a term, each for a single value.
 #[tactic(auto, using(crate::proofs::UseLemmas::joins))]
 fn put_term_uses(out: &mut Listed<Use>, setting: &Setting, term: &Term) -> Result<(), AllocError>
-    ensures { OnOk result (out.new ≡ out.old ++ all_met (seen setting.now) (occurrences.uses_of_term (term_of term.now))) }
+    ensures { OnOk result (out.new ≡ out.old ++ all_met (seen setting.now)
+        (occurrences.uses_of_term (term_of term.now))) }
 {
     match term {
         Term::Number(_) => Ok(()),
@@ -64,7 +65,8 @@ fn put_term_uses(out: &mut Listed<Use>, setting: &Setting, term: &Term) -> Resul
 }
 
 fn put_set_or_term(out: &mut Listed<Use>, setting: &Setting, term: &Term) -> Result<(), AllocError>
-    ensures { OnOk result (out.new ≡ out.old ++ all_met (seen setting.now) (occurrences.uses_of_left true (term_of term.now))) }
+    ensures { OnOk result (out.new ≡ out.old ++ all_met (seen setting.now)
+        (occurrences.uses_of_left true (term_of term.now))) }
 {
     match term {
         Term::Operand(operand) => put_set(out, setting, operand),
@@ -79,7 +81,8 @@ fn put_left_uses(
     for_set: bool,
     term: &Term,
 ) -> Result<(), AllocError>
-    ensures { OnOk result (out.new ≡ out.old ++ all_met (seen setting.now) (occurrences.uses_of_left for_set (term_of term.now))) }
+    ensures { OnOk result (out.new ≡ out.old ++ all_met (seen setting.now)
+        (occurrences.uses_of_left for_set (term_of term.now))) }
 {
     if for_set {
         put_set_or_term(out, setting, term)
@@ -94,7 +97,8 @@ fn put_relation_uses(
     setting: &Setting,
     relation: &Relation,
 ) -> Result<(), AllocError>
-    ensures { OnOk result (out.new ≡ out.old ++ all_met (seen setting.now) (occurrences.uses_of_relation (relation_of relation.now))) }
+    ensures { OnOk result (out.new ≡ out.old ++ all_met (seen setting.now)
+        (occurrences.uses_of_relation (relation_of relation.now))) }
 {
     match relation {
         Relation::Compared(left, relator, right) => {
@@ -129,7 +133,8 @@ fn put_specified(
     condition: &Condition,
 ) -> Result<(), AllocError>
     ensures { OnOk result (out.new ≡ out.old
-        ++ all_met (seen setting.now) (map occurrences.as_set (occurrences.specified_in (condition_of condition.now)))) }
+        ++ all_met (seen setting.now) (map occurrences.as_set
+        (occurrences.specified_in (condition_of condition.now)))) }
 {
     match condition {
         Condition::Or(left, right) => {
@@ -155,7 +160,8 @@ pub fn put_all_specified(
     conditions: &[&Condition],
 ) -> Result<(), AllocError>
     ensures { OnOk result (out.new ≡ out.old
-        ++ all_met (seen setting.now) (map occurrences.as_set (flat_map occurrences.specified_in (conditions_seen conditions.now)))) }
+        ++ all_met (seen setting.now) (map occurrences.as_set
+        (flat_map occurrences.specified_in (conditions_seen conditions.now)))) }
 {
     for condition in conditions {
         put_specified(out, setting, *condition)?;
@@ -180,7 +186,8 @@ pub fn put_terms_uses(
 }
 
 fn put_own(out: &mut Listed<Use>, setting: &Setting, name: &NameLeaf) -> Result<(), AllocError>
-    ensures { OnOk result (out.new ≡ out.old ++ met (seen setting.now) (occurrences.as_value (Owned Itself name.now)) ∷ []) }
+    ensures { OnOk result (out.new ≡ out.old ++ met (seen setting.now)
+        (occurrences.as_value (Owned Itself name.now)) ∷ []) }
 {
     let meaning = setting.own_meaning(name);
     out.push(Use {
@@ -209,7 +216,8 @@ pub fn put_targets(
     statements: &[Statement],
 ) -> Result<(), AllocError>
     ensures { OnOk result (out.new ≡ out.old ++ all_met (seen setting.now)
-        (map occurrences.as_value (flat_map (λ statement. occurrences.target_of statement.action) (map statement_of statements.now)))) }
+        (map occurrences.as_value (flat_map (λ statement. occurrences.target_of statement.action)
+        (map statement_of statements.now)))) }
 {
     for statement in statements {
         put_target(out, setting, &statement.action)?;
