@@ -3,7 +3,8 @@
 ghost use Rattle.std.specs.Prelude.{◌≡◌, IfOk};
 ghost use Rattle.std.specs.List.{list_any};
 ghost use Rattle.vc_compile_plan.specs.Slots as slots;
-ghost use Rattle.vc_compile_slots.specs.Levels.{brings_marked, brings_object, is_marked, is_marked_if, with_components, with_marked};
+ghost use Rattle.vc_compile_slots.specs.Levels.{brings_marked, brings_object, is_marked, is_marked_if};
+ghost use Rattle.vc_compile_slots.specs.Levels.{with_components, with_marked};
 
 use crate::bills::object_in;
 use std::alloc::{AllocError, Global};

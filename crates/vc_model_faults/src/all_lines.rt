@@ -59,7 +59,8 @@ fn check_outside(
 ) -> Result<Step, AllocError>
     requires { raw.now ≡ first_of (lines (drop place.start text.now)) }
     ensures { IfOk result (λ step. Steps false place.number raw.now after.now scope.old (seen_readings readings.old)
-        (seen_places text.now places.old) scope.new (seen_readings readings.new) (seen_places text.now places.new) step) }
+        (seen_places text.now places.old) scope.new (seen_readings readings.new) (seen_places text.now places.new)
+        step) }
 {
     let line = line_of(alloc, false, raw)?;
     match check_line(alloc, scope, readings, &line, after)? {
@@ -85,7 +86,8 @@ fn check_next(
 ) -> Result<Step, AllocError>
     requires { raw.now ≡ first_of (lines (drop place.start text.now)) }
     ensures { IfOk result (λ step. Steps inside place.number raw.now after.now scope.old (seen_readings readings.old)
-        (seen_places text.now places.old) scope.new (seen_readings readings.new) (seen_places text.now places.new) step) }
+        (seen_places text.now places.old) scope.new (seen_readings readings.new) (seen_places text.now places.new)
+        step) }
 {
     match passes_over(inside, raw) {
         Some(next) => Ok(Step::Goes(next)),
@@ -144,7 +146,8 @@ pub fn check_lines(alloc: Global, text: &[u8]) -> Result<Sound, ModelFault>
     ensures scope { IfOk result (λ sound. sound.scope ≡ scope_of (backwards [] (lines_of text.now))) }
     ensures readings { IfOk result (λ sound. seen_readings sound.readings
         ≡ readings_of (backwards [] (lines_of text.now)) []) }
-    ensures places { IfOk result (λ sound. Kept (backwards [] (lines_of text.now)) (seen_places text.now sound.places)) }
+    ensures places { IfOk result (λ sound. Kept (backwards [] (lines_of text.now))
+        (seen_places text.now sound.places)) }
     ensures bad { (kind : Kinds) (line : ℕ) → result ≡ Err (ModelFault.Bad kind line)
         → IsFirstFault (lines_of text.now) kind line }
 {

@@ -3,7 +3,8 @@
 ghost use Rattle.vc_net_laws.specs.Forced.{BaseIsForced, LogsAreForced, GivenIsForced, SoundSetsGrow};
 ghost use Rattle.vc_net_laws.specs.Forced.{UnclearBreaks, ClashBreaks, QuietSettles};
 ghost use Rattle.vc_net_laws.specs.Triggers.{TriggersAreNeeded};
-ghost use Rattle.vc_net_laws.specs.Waking.{UntouchedGivesTheSame, UnchangedGivesTheSame, WokenIsEnough, GiversWakeThemselves};
+ghost use Rattle.vc_net_laws.specs.Waking.{UntouchedGivesTheSame, UnchangedGivesTheSame, WokenIsEnough};
+ghost use Rattle.vc_net_laws.specs.Waking.{GiversWakeThemselves};
 ghost use Rattle.vc_net_laws.specs.Wakings.{AtomsPayForTurns, WokenAreFew, WorkIsEnough};
 ghost use Rattle.vc_net_laws.specs.Working.{AgendasMayGrow, AtomsCome, QuietMayLeave, WorkBegins, WorkEnds, WorkIsKept};
 
@@ -20,8 +21,8 @@ pub fn sound_sets_grow()
     ensures breaks { UnclearBreaks }
 {}
 
-/// Settling ends with the atoms of a sound set at which nobody has anything to say, and is broken where somebody clashes
-/// at one.
+/// Settling ends with the atoms of a sound set at which nobody has anything to say, and is broken where somebody
+/// clashes at one.
 pub fn sound_sets_end()
     ensures settles { QuietSettles }
     ensures breaks { ClashBreaks }
@@ -52,8 +53,8 @@ pub fn work_goes_on()
     ensures kept { WorkIsKept }
 {}
 
-/// Who is quiet may leave the agenda, anybody may come on it, and where nobody is left on it settling ends with just the
-/// atoms that stand.
+/// Who is quiet may leave the agenda, anybody may come on it, and where nobody is left on it settling ends with just
+/// the atoms that stand.
 pub fn work_ends()
     ensures leave { QuietMayLeave }
     ensures grow { AgendasMayGrow }

@@ -146,8 +146,8 @@ pub fn fits<V: View>(plan: &Plan, view: &V, operand: Operand, value: Value) -> b
 // Cites that the grain is out, if it holds the value.
 fn cite_if_holds(domain: &Domain, var: u32, value: Value, grain: usize, out: &mut Yield)
     requires { grain < 2 ^ 32 }
-    ensures { out.new ≡ cited_all out.old (map (Out var) (filter (grain_holds (grains_in (Some domain.now)) value) (grain
-        ∷ []))) }
+    ensures { out.new ≡ cited_all out.old (map (Out var) (filter (grain_holds (grains_in (Some domain.now)) value)
+        (grain ∷ []))) }
 {
     if grain_holds(domain, grain, value) {
         out.cite(Atom::Out(var, grain as u32));
