@@ -4,3 +4,4 @@ pub mod FollowingLaws
 pub mod PassingLaws
 pub mod SaidLaws
 pub mod SidesLaws
+pub mod SidesSaidRows
