@@ -17,7 +17,7 @@ use Rattle.vc_rule_yield.specs.Yielding.{Conclusion}
 use Rattle.vc_rule_premises.specs.Saying.{Said, together, clash_when, conclusion_from, said_from, given_of}
 use Rattle.vc_rule_sides.specs.Comparing.{values_in, related_said}
 use Rattle.vc_rule_sides.specs.Laws.{CompareIsSaid, EquateIsSaid}
-use Rattle.vc_rule_sides.proofs.SidesLaws.{from_some}
+use Rattle.vc_rule_sides.proofs.SidesLaws.{related_premises, from_premises}
 
 atoms_kept : (premises xs : List Atom) → map (λ (c : Conclusion). c.atom) (map (conclusion_from premises) xs) ≡ xs
 atoms_kept premises [] = refl
@@ -43,15 +43,16 @@ compare_is_said plan seen rule r a b =
     let second = value_at plan (net_reading seen) b in
     let v = lone_inferred plan rule a in
     let w = lone_inferred plan rule b in
-    let p = from_some plan seen r v (values_in plan seen b) second in
-    let q = from_some plan seen (turned r) w (values_in plan seen a) first in
+    let p = related_premises plan seen r v (values_in plan seen b) second in
+    let q = related_premises plan seen (turned r) w (values_in plan seen a) first in
     elim (is_false (compared r first second)) as (λ c.
     given_of (clash_when c (values_in plan seen a ++ values_in plan seen b)
     (together (related_said plan seen r v (values_in plan seen b) second) (related_said plan seen (turned r) w (values_in plan seen a) first)))
     ≡ fresh seen (clash_if c (beside (related plan seen r v second) (related plan seen (turned r) w first)))) [
       | true ↦ refl
-      | false ↦ given_together seen p.0 q.0 (related plan seen r v second) (related plan seen (turned r) w first)
-          (related_said plan seen r v (values_in plan seen b) second) (related_said plan seen (turned r) w (values_in plan seen a) first) p.1 q.1
+      | false ↦ given_together seen p q (related plan seen r v second) (related plan seen (turned r) w first)
+          (related_said plan seen r v (values_in plan seen b) second) (related_said plan seen (turned r) w (values_in plan seen a) first)
+          (from_premises plan seen r v (values_in plan seen b) second) (from_premises plan seen (turned r) w (values_in plan seen a) first)
     ]
 
 pub equate_is_said : EquateIsSaid

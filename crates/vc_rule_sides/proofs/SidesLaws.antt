@@ -21,11 +21,16 @@ use Rattle.vc_rule_grains.specs.declared.remaining.Remaining.TheVariants.{One, S
 use Rattle.vc_rule_sides.specs.Comparing.{may_relate, related_said}
 
 -- what is said of a side is said from one list of premises
-pub from_some : (plan : Plan) (seen : Seen) (r : Relation) (v : Option ℕ) (others : List Atom) (a : Option Value)
-    → (premises : List Atom) × (related_said plan seen r v others a ≡ said_from seen premises (related plan seen r v a))
-from_some plan seen r None others a = ([], refl)
-from_some plan seen r (Some v) others None = ([], refl)
-from_some plan seen r (Some v) others (Some a) = (others ++ why_confined plan seen v (may_relate r a), refl)
+abbrev pub related_premises : Plan → Seen → Relation → Option ℕ → List Atom → Option Value → List Atom
+related_premises plan seen r None others a = []
+related_premises plan seen r (Some v) others None = []
+related_premises plan seen r (Some v) others (Some a) = others ++ why_confined plan seen v (may_relate r a)
+
+pub from_premises : (plan : Plan) (seen : Seen) (r : Relation) (v : Option ℕ) (others : List Atom) (a : Option Value)
+    → related_said plan seen r v others a ≡ said_from seen (related_premises plan seen r v others a) (related plan seen r v a)
+from_premises plan seen r None others a = refl
+from_premises plan seen r (Some v) others None = refl
+from_premises plan seen r (Some v) others (Some a) = refl
 
 -- the first clashes
 pub first_clashes : (seen : Seen) (premises : List Atom) (given : Given Atom) (s t : Said) → s ≡ said_from seen premises given
