@@ -1,3 +1,5 @@
+pub mod ComingLaws
+pub mod ComingRows
 pub mod FreeLaws
 pub mod StandingLaws
 pub mod StandingRows

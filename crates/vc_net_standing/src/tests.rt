@@ -7,7 +7,7 @@ ghost use Rattle.vc_net_places.specs.Places.{index_of};
 ghost use Rattle.vc_net_places.specs.declared.places.Thing.TheVariants.{Slot, Var};
 ghost use Rattle.vc_net_standing.specs.Standing.{nothing_at};
 
-use crate::laws::new_atoms_are_free;
+use crate::laws::{new_atoms_are_free, who_may_come_stays_clear};
 use crate::{Fact, Standing};
 use std::alloc::{AllocError, Global};
 use std::test::Fail;
@@ -100,6 +100,7 @@ fn finds_what_came(rt: HostRuntime) -> Result<(), Fail> {
     standing.put(out);
     standing.put(value);
     new_atoms_are_free();
+    who_may_come_stays_clear();
     assert!(rt; standing.here(0));
     assert!(rt; !standing.here(1));
     assert!(rt; standing.out(0, 0));
