@@ -45,7 +45,8 @@ none_at p (x ∷ xs) n h e =
     halves false c e = (refl, e)
 
 none_below : (p : ℕ → Bool) (count n : ℕ) → n < count → list_any p (numbers_below count) ≡ false → p n ≡ false
-none_below p count n low e = none_at p (numbers_below count) n (range_has 0 count n (omega arith) (omega (arith, low))) e
+none_below p count n low e = none_at p (numbers_below count) n
+    (range_has 0 count n (omega arith) (omega (arith, low))) e
 
 -- both parts of a test can't hold
 half : (b c : Bool) → (b && c) ≡ false → b ≡ true → c ≡ false
@@ -68,7 +69,8 @@ module _ (plan : Plan) (stand : List Atom) (atom : Atom) (clear : is_clear plan 
   known = facts plan old clear
 
   itself : has same_atom new atom ≡ true
-  itself = has_back same_atom atom_exact atom_itself old (atom ∷ []) atom (has_first same_atom atom_exact atom_itself atom [])
+  itself = has_back same_atom atom_exact atom_itself old (atom ∷ []) atom
+      (has_first same_atom atom_exact atom_itself atom [])
 
   stays : (a : Atom) → has same_atom old a ≡ true → has same_atom new a ≡ true
   stays a h = has_front same_atom atom_exact atom_itself old (atom ∷ []) a h
@@ -77,13 +79,16 @@ module _ (plan : Plan) (stand : List Atom) (atom : Atom) (clear : is_clear plan 
   came a h =
       elim (has_either same_atom atom_exact atom_itself old (atom ∷ []) a h) [
         | inl p ↦ inr p
-        | inr p ↦ elim (has_cases same_atom atom_exact atom_itself atom [] a p) [ inl e ↦ inl e | inr none ↦ absurd (cc) ]
+        | inr p ↦ elim (has_cases same_atom atom_exact atom_itself atom [] a p) [
+          | inl e ↦ inl e
+          | inr none ↦ absurd (cc)
+        ]
       ]
 
 -- what is clear with the atom says that it may come
 module _ (plan : Plan) (stand : List Atom) where
-  held : (v g : ℕ) → Facts plan (set_with (stand ++ Out v g ∷ [])) → (o : Option Value) → value_in (set_with stand) v ≡ o
-      → is_held_by plan v g o ≡ false
+  held : (v g : ℕ) → Facts plan (set_with (stand ++ Out v g ∷ [])) → (o : Option Value)
+      → value_in (set_with stand) v ≡ o → is_held_by plan v g o ≡ false
   held v g f None e = refl
   held v g f (Some a) e =
       let old : has same_atom (set_with stand) (Is v a) ≡ true = value_has (set_with stand) v a e in
@@ -122,7 +127,8 @@ module _ (plan : Plan) (stand : List Atom) where
       → is_here plan (seen_of (set_with (stand ++ atom ∷ []))) v ≡ true
   here_stays atom v e =
       slot_stays (seen_of (set_with stand)) (seen_of (set_with (stand ++ atom ∷ [])))
-      (λ i h. has_front same_atom atom_exact atom_itself (set_with stand) (atom ∷ []) (Here i) h) (slot_in (slice_get plan.vars v)) e
+      (λ i h. has_front same_atom atom_exact atom_itself (set_with stand) (atom ∷ []) (Here i) h)
+      (slot_in (slice_get plan.vars v)) e
 
   out_stays : (atom : Atom) (v h : ℕ) → has same_atom (set_with stand) (Out v h) ≡ true
       → has same_atom (set_with (stand ++ atom ∷ [])) (Out v h) ≡ true
@@ -133,43 +139,57 @@ module _ (plan : Plan) (stand : List Atom) where
   slot_brought None i e = absurd (cc)
   slot_brought (Some j) i e =
       elim (or_cases (j == i) false e) [
-        | inl same ↦ subst (λ k. has same_atom (set_with (stand ++ Here i ∷ [])) (Here k) ≡ true) (sym (number_exact j i same))
+        | inl same ↦ subst (λ k. has same_atom (set_with (stand ++ Here i ∷ [])) (Here k) ≡ true)
+            (sym (number_exact j i same))
             (has_back same_atom atom_exact atom_itself (set_with stand) (Here i ∷ []) (Here i)
             (has_first same_atom atom_exact atom_itself (Here i) []))
         | inr none ↦ absurd (cc)
       ]
 
-  agreed : (atom : Atom) → Facts plan (set_with (stand ++ atom ∷ [])) → agrees plan (seen_of (set_with stand)) atom ≡ true
+  agreed : (atom : Atom) → Facts plan (set_with (stand ++ atom ∷ []))
+      → agrees plan (seen_of (set_with stand)) atom ≡ true
   agreed (Here i) f = refl
-  agreed (Out v g) f = not_from_false (is_held_by plan v g (value_in (set_with stand) v)) (held v g f (value_in (set_with stand) v) refl)
+  agreed (Out v g) f = not_from_false (is_held_by plan v g (value_in (set_with stand) v))
+      (held v g f (value_in (set_with stand) v) refl)
   agreed (Is v a) f =
-      let out = list_any (λ g. is_grain_with plan v (lies_in a) g && has same_atom (set_with stand) (Out v g)) (numbers_below (count_of plan v)) in
+      let out = list_any (λ g. is_grain_with plan v (lies_in a) g && has same_atom (set_with stand) (Out v g))
+      (numbers_below (count_of plan v)) in
       and_from (may_be a (value_in (set_with stand) v)) (not out) (valued v a f (value_in (set_with stand) v) refl)
-      (not_from_false out (none_any (λ g. is_grain_with plan v (lies_in a) g && has same_atom (set_with stand) (Out v g)) (numbers_below (count_of plan v))
+      (not_from_false out (none_any (λ g. is_grain_with plan v (lies_in a) g && has same_atom (set_with stand)
+      (Out v g)) (numbers_below (count_of plan v))
       (λ g. not_out v a f g (has same_atom (set_with stand) (Out v g)) refl)))
 
-  left_over : (atom : Atom) → Facts plan (set_with (stand ++ atom ∷ [])) → leaves_grains plan (seen_of (set_with stand)) atom ≡ true
+  left_over : (atom : Atom) → Facts plan (set_with (stand ++ atom ∷ [])) → leaves_grains plan
+      (seen_of (set_with stand)) atom ≡ true
   left_over (Here i) f =
       let seen = seen_of (set_with stand) in
-      not_from_false (list_any (λ v. uses_up plan v (Here i) && are_all_out plan seen v) (numbers_below (length plan.vars)))
+      not_from_false (list_any (λ v. uses_up plan v (Here i) && are_all_out plan seen v)
+      (numbers_below (length plan.vars)))
       (none_any (λ v. uses_up plan v (Here i) && are_all_out plan seen v) (numbers_below (length plan.vars))
       (λ v. false_from_ne_true (uses_up plan v (Here i) && are_all_out plan seen v) (λ e.
       let p = and_parts (uses_up plan v (Here i)) (are_all_out plan seen v) e in
-      both (and_from (is_here plan (seen_of (set_with (stand ++ Here i ∷ []))) v) (are_all_out plan (seen_of (set_with (stand ++ Here i ∷ []))) v)
+      both (and_from (is_here plan (seen_of (set_with (stand ++ Here i ∷ []))) v)
+      (are_all_out plan (seen_of (set_with (stand ++ Here i ∷ []))) v)
       (slot_brought (slot_in (slice_get plan.vars v)) i p.0)
-      (all_grows (λ h. has same_atom (set_with stand) (Out v h)) (λ h. has same_atom (set_with (stand ++ Here i ∷ [])) (Out v h))
+      (all_grows (λ h. has same_atom (set_with stand) (Out v h))
+      (λ h. has same_atom (set_with (stand ++ Here i ∷ [])) (Out v h))
       (λ h k. out_stays (Here i) v h k) (numbers_below (count_of plan v)) p.1)) (f.room v))))
   left_over (Out v g) f =
       let seen = seen_of (set_with stand) in
-      let others = list_all (λ h. (h == g) || has same_atom (set_with stand) (Out v h)) (numbers_below (count_of plan v)) in
+      let others = list_all (λ h. (h == g) || has same_atom (set_with stand) (Out v h))
+      (numbers_below (count_of plan v)) in
       not_from_false (is_here plan seen v && others) (false_from_ne_true (is_here plan seen v && others) (λ e.
       let p = and_parts (is_here plan seen v) others e in
-      both (and_from (is_here plan (seen_of (set_with (stand ++ Out v g ∷ []))) v) (are_all_out plan (seen_of (set_with (stand ++ Out v g ∷ []))) v)
+      both (and_from (is_here plan (seen_of (set_with (stand ++ Out v g ∷ []))) v)
+      (are_all_out plan (seen_of (set_with (stand ++ Out v g ∷ []))) v)
       (here_stays (Out v g) v p.0)
-      (all_grows (λ h. (h == g) || has same_atom (set_with stand) (Out v h)) (λ h. has same_atom (set_with (stand ++ Out v g ∷ [])) (Out v h))
+      (all_grows (λ h. (h == g) || has same_atom (set_with stand) (Out v h))
+      (λ h. has same_atom (set_with (stand ++ Out v g ∷ [])) (Out v h))
       (λ h k. elim (or_cases (h == g) (has same_atom (set_with stand) (Out v h)) k) [
-        | inl same ↦ subst (λ x. has same_atom (set_with (stand ++ Out v g ∷ [])) (Out v x) ≡ true) (sym (number_exact h g same))
-            (has_back same_atom atom_exact atom_itself (set_with stand) (Out v g ∷ []) (Out v g) (has_first same_atom atom_exact atom_itself (Out v g) []))
+        | inl same ↦ subst (λ x. has same_atom (set_with (stand ++ Out v g ∷ [])) (Out v x) ≡ true)
+            (sym (number_exact h g same))
+            (has_back same_atom atom_exact atom_itself (set_with stand) (Out v g ∷ []) (Out v g)
+            (has_first same_atom atom_exact atom_itself (Out v g) []))
         | inr before ↦ out_stays (Out v g) v h before
       ]) (numbers_below (count_of plan v)) p.1)) (f.room v)))
   left_over (Is v a) f = refl
@@ -202,7 +222,8 @@ old_beside plan set f (Is v a) (Out w g) m h =
     elim (told (v == w)) [
       | inl e ↦
           let free : is_grain_with plan w (lies_in a) g ≡ false
-          = sym (ap (is_held_by plan w g) (value_of plan set f v w a h e)) ∙ not_true (is_held_by plan w g (value_in set w)) m in
+          = sym (ap (is_held_by plan w g) (value_of plan set f v w a h e)) ∙ not_true
+          (is_held_by plan w g (value_in set w)) m in
           and_false (v == w) (is_grain_with plan v (lies_in a) g)
           (ap (λ x. is_grain_with plan x (lies_in a) g) (number_exact v w e) ∙ free)
       | inr e ↦ ap (λ b. b && is_grain_with plan v (lies_in a) g) e
@@ -210,8 +231,11 @@ old_beside plan set f (Is v a) (Out w g) m h =
 old_beside plan set f (Is v a) (Is w b) m h =
     elim (told (v == w)) [
       | inl e ↦
-          let fits = (and_parts (may_be b (value_in set w)) (not (list_any (λ g. is_grain_with plan w (lies_in b) g && has same_atom set (Out w g)) (numbers_below (count_of plan w)))) m).0 in
-          and_false (v == w) (not (same_value a b)) (same_back a b (sym (ap (may_be b) (value_of plan set f v w a h e)) ∙ fits))
+          let fits = (and_parts (may_be b (value_in set w)) (not
+          (list_any (λ g. is_grain_with plan w (lies_in b) g && has same_atom set (Out w g))
+          (numbers_below (count_of plan w)))) m).0 in
+          and_false (v == w) (not (same_value a b)) (same_back a b
+          (sym (ap (may_be b) (value_of plan set f v w a h e)) ∙ fits))
       | inr e ↦ ap (λ t. t && not (same_value a b)) e
     ]
 
@@ -226,19 +250,24 @@ beside_old plan set f (Is v a) (Out w g) m h =
           let is : w ≡ v = sym (number_exact v w e) in
           let out : has same_atom set (Out v g) ≡ true = subst (λ x. has same_atom set (Out x g) ≡ true) is h in
           let low : g < count_of plan v = ltb-true g (count_of plan v) (f.named (Out v g) out) in
-          let none = list_any (λ k. is_grain_with plan v (lies_in a) k && has same_atom set (Out v k)) (numbers_below (count_of plan v)) in
+          let none = list_any (λ k. is_grain_with plan v (lies_in a) k && has same_atom set (Out v k))
+          (numbers_below (count_of plan v)) in
           let free = not_true none (and_parts (may_be a (value_in set v)) (not none) m).1 in
           and_false (v == w) (is_grain_with plan v (lies_in a) g)
           (other_half (is_grain_with plan v (lies_in a) g) (has same_atom set (Out v g))
-          (none_below (λ k. is_grain_with plan v (lies_in a) k && has same_atom set (Out v k)) (count_of plan v) g low free) out)
+          (none_below (λ k. is_grain_with plan v (lies_in a) k && has same_atom set (Out v k))
+          (count_of plan v) g low free) out)
       | inr e ↦ ap (λ b. b && is_grain_with plan v (lies_in a) g) e
     ]
 beside_old plan set f (Is v a) (Is w b) m h =
     elim (told (v == w)) [
       | inl e ↦
-          let fits = (and_parts (may_be a (value_in set v)) (not (list_any (λ g. is_grain_with plan v (lies_in a) g && has same_atom set (Out v g)) (numbers_below (count_of plan v)))) m).0 in
+          let fits = (and_parts (may_be a (value_in set v)) (not
+          (list_any (λ g. is_grain_with plan v (lies_in a) g && has same_atom set (Out v g))
+          (numbers_below (count_of plan v)))) m).0 in
           let turned : (w == v) ≡ true = ap (λ x. x == v) (sym (number_exact v w e)) ∙ number_itself v in
-          and_false (v == w) (not (same_value a b)) (ap not (sym (ap (may_be a) (value_of plan set f w v b h turned)) ∙ fits))
+          and_false (v == w) (not (same_value a b)) (ap not (sym (ap (may_be a) (value_of plan set f w v b h turned))
+          ∙ fits))
       | inr e ↦ ap (λ t. t && not (same_value a b)) e
     ]
 
@@ -253,7 +282,8 @@ grain_of (Here i) = 0
 grain_of (Out v g) = g
 grain_of (Is v a) = 0
 
-out_before : (set : List Atom) (i v h : ℕ) → has same_atom (set ++ Here i ∷ []) (Out v h) ≡ true → has same_atom set (Out v h) ≡ true
+out_before : (set : List Atom) (i v h : ℕ) → has same_atom (set ++ Here i ∷ []) (Out v h) ≡ true → has same_atom set
+    (Out v h) ≡ true
 out_before set i v h k =
     elim (has_either same_atom atom_exact atom_itself set (Here i ∷ []) (Out v h) k) [
       | inl p ↦ p
@@ -267,12 +297,14 @@ out_or_it set w g v h k =
     elim (has_either same_atom atom_exact atom_itself set (Out w g ∷ []) (Out v h) k) [
       | inl p ↦ or_right (h == g) (has same_atom set (Out v h)) p
       | inr p ↦ elim (has_cases same_atom atom_exact atom_itself (Out w g) [] (Out v h) p) [
-        | inl e ↦ or_left (h == g) (has same_atom set (Out v h)) (subst (λ x. (h == x) ≡ true) (ap grain_of e) (number_itself h))
+        | inl e ↦ or_left (h == g) (has same_atom set (Out v h))
+            (subst (λ x. (h == x) ≡ true) (ap grain_of e) (number_itself h))
         | inr none ↦ absurd (cc)
       ]
     ]
 
-here_before : (set : List Atom) (w g i : ℕ) → has same_atom (set ++ Out w g ∷ []) (Here i) ≡ true → has same_atom set (Here i) ≡ true
+here_before : (set : List Atom) (w g i : ℕ) → has same_atom (set ++ Out w g ∷ []) (Here i) ≡ true → has same_atom set
+    (Here i) ≡ true
 here_before set w g i k =
     elim (has_either same_atom atom_exact atom_itself set (Out w g ∷ []) (Here i) k) [
       | inl p ↦ p
@@ -280,23 +312,30 @@ here_before set w g i k =
     ]
 
 none_exhausted : (plan : Plan) (set : List Atom) (atom : Atom) → leaves_grains plan (seen_of set) atom ≡ true
-    → (v : ℕ) → v < length plan.vars → is_exhausted plan (seen_of (set ++ atom ∷ [])) v ≡ true → uses_up plan v atom ≡ true → ⊥
+    → (v : ℕ) → v < length plan.vars → is_exhausted plan (seen_of (set ++ atom ∷ [])) v ≡ true
+    → uses_up plan v atom ≡ true → ⊥
 none_exhausted plan set (Here i) may v low e u =
-    let p = and_parts (is_here plan (seen_of (set ++ Here i ∷ [])) v) (are_all_out plan (seen_of (set ++ Here i ∷ [])) v) e in
+    let p = and_parts (is_here plan (seen_of (set ++ Here i ∷ [])) v)
+    (are_all_out plan (seen_of (set ++ Here i ∷ [])) v) e in
     let all = all_grows (λ h. has same_atom (set ++ Here i ∷ []) (Out v h)) (λ h. has same_atom set (Out v h))
     (λ h k. out_before set i v h k) (numbers_below (count_of plan v)) p.1 in
     let exhausting = λ (x : ℕ). uses_up plan x (Here i) && are_all_out plan (seen_of set) x in
     both (and_from (uses_up plan v (Here i)) (are_all_out plan (seen_of set) v) u all)
-    (none_below exhausting (length plan.vars) v low (not_true (list_any exhausting (numbers_below (length plan.vars))) may))
+    (none_below exhausting (length plan.vars) v low (not_true
+    (list_any exhausting (numbers_below (length plan.vars))) may))
 none_exhausted plan set (Out w g) may v low e u =
-    let p = and_parts (is_here plan (seen_of (set ++ Out w g ∷ [])) v) (are_all_out plan (seen_of (set ++ Out w g ∷ [])) v) e in
-    let all = all_grows (λ h. has same_atom (set ++ Out w g ∷ []) (Out v h)) (λ h. (h == g) || has same_atom set (Out v h))
+    let p = and_parts (is_here plan (seen_of (set ++ Out w g ∷ [])) v)
+    (are_all_out plan (seen_of (set ++ Out w g ∷ [])) v) e in
+    let all = all_grows (λ h. has same_atom (set ++ Out w g ∷ []) (Out v h))
+    (λ h. (h == g) || has same_atom set (Out v h))
     (λ h k. out_or_it set w g v h k) (numbers_below (count_of plan v)) p.1 in
-    let here = slot_stays (seen_of (set ++ Out w g ∷ [])) (seen_of set) (λ i h. here_before set w g i h) (slot_in (slice_get plan.vars v)) p.0 in
+    let here = slot_stays (seen_of (set ++ Out w g ∷ [])) (seen_of set) (λ i h. here_before set w g i h)
+    (slot_in (slice_get plan.vars v)) p.0 in
     let others = list_all (λ h. (h == g) || has same_atom set (Out v h)) (numbers_below (count_of plan v)) in
     let moved : leaves_grains plan (seen_of set) (Out v g) ≡ true
     = subst (λ x. leaves_grains plan (seen_of set) (Out x g) ≡ true) (sym (number_exact v w u)) may in
-    both (and_from (is_here plan (seen_of set) v) others here all) (not_true (is_here plan (seen_of set) v && others) moved)
+    both (and_from (is_here plan (seen_of set) v) others here all)
+    (not_true (is_here plan (seen_of set) v && others) moved)
 none_exhausted plan set (Is w a) may v low e u = absurd (cc)
 
 pub who_may_come_stays_clear : WhoMayComeStaysClear
@@ -305,13 +344,15 @@ who_may_come_stays_clear plan stand atom clear =
     let new = set_with (stand ++ atom ∷ []) in
     let known : Facts plan old = facts plan old clear in
     let itself : has same_atom new atom ≡ true
-    = has_back same_atom atom_exact atom_itself old (atom ∷ []) atom (has_first same_atom atom_exact atom_itself atom []) in
+    = has_back same_atom atom_exact atom_itself old (atom ∷ []) atom
+    (has_first same_atom atom_exact atom_itself atom []) in
     let rest = agrees plan (seen_of old) atom && leaves_grains plan (seen_of old) atom in
     same_test (is_clear plan new) (may_come plan (seen_of old) atom)
     (λ e.
     let f : Facts plan new = facts plan new e in
     and_from (is_named plan atom) rest (f.named atom itself)
-    (and_from (agrees plan (seen_of old) atom) (leaves_grains plan (seen_of old) atom) (agreed plan stand atom f) (left_over plan stand atom f)))
+    (and_from (agrees plan (seen_of old) atom) (leaves_grains plan (seen_of old) atom) (agreed plan stand atom f)
+    (left_over plan stand atom f)))
     (λ e.
     let p = and_parts (is_named plan atom) rest e in
     let q = and_parts (agrees plan (seen_of old) atom) (leaves_grains plan (seen_of old) atom) p.1 in

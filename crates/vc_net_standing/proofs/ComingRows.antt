@@ -8,7 +8,7 @@ use Rattle.vc_plan.specs.Seen.{seen_of}
 use Rattle.vc_plan.proofs.PlanRows.Models.{pump, whole}
 use Rattle.vc_plan.proofs.PlanRows.SmallModels.{box}
 use Rattle.vc_plan_reasons.specs.Checking.{set_with}
-use Rattle.vc_net_standing.specs.Coming.{may_come}
+use Rattle.vc_net_standing.specs.Coming.{may_come, outs_of}
 
 abbrev beside : List Atom → Atom → Bool
 beside stand atom = may_come pump (seen_of (set_with stand)) atom
@@ -63,3 +63,10 @@ here e = cc
 
 no_slot : may_come box (seen_of (set_with [])) (Here 3) ≢ true
 no_slot e = cc
+
+-- atoms that say of one variable that a grain is out
+outs : outs_of 0 (Here 1 ∷ Out 0 2 ∷ Out 1 0 ∷ Is 0 (Text 0) ∷ Out 0 1 ∷ []) ≡ 2
+outs = refl
+
+not_all_atoms : outs_of 1 (Out 0 2 ∷ Out 1 0 ∷ Is 1 (Text 3) ∷ []) ≢ 3
+not_all_atoms e = cc

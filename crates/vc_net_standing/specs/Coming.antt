@@ -1,6 +1,6 @@
 -- Which atoms may come beside what stands in a clear set.
-use Rattle.std.specs.Prelude.{ℕ, Bool, true, false, not, ◌&&◌, ◌||◌, ◌==◌, Option, None, Some, length}
-use Rattle.std.specs.List.{list_any, list_all}
+use Rattle.std.specs.Prelude.{ℕ, Bool, true, false, not, ◌&&◌, ◌||◌, ◌==◌, List, length, Option, None, Some}
+use Rattle.std.specs.List.{filter, list_any, list_all}
 use Rattle.vc_value.specs.declared.value.Value.{Value}
 use Rattle.vc_plan.specs.declared.atoms.Atom.{Atom}
 use Rattle.vc_plan.specs.declared.atoms.Atom.TheVariants.{Here, Out, Is}
@@ -41,3 +41,12 @@ leaves_grains plan seen (Is v a) = true
 -- whether the atom may come
 abbrev pub may_come : Plan → Seen → Atom → Bool
 may_come plan seen atom = is_named plan atom && (agrees plan seen atom && leaves_grains plan seen atom)
+
+-- how many atoms say that a grain of the variable is out
+abbrev pub is_out_of : ℕ → Atom → Bool
+is_out_of v (Here i) = false
+is_out_of v (Out w g) = w == v
+is_out_of v (Is w a) = false
+
+abbrev pub outs_of : ℕ → List Atom → ℕ
+outs_of v atoms = length (filter (is_out_of v) atoms)

@@ -1,6 +1,6 @@
 //! Laws of what stands, each the contract of a function that does nothing.
 
-ghost use Rattle.vc_net_standing.specs.Laws.{NewAtomsAreFree, WhoMayComeStaysClear};
+ghost use Rattle.vc_net_standing.specs.Laws.{NewAtomsAreFree, OutsAreCounted, WhoMayComeStaysClear};
 
 /// What leaves a set clear and doesn't stand yet may come: its place is free.
 pub fn new_atoms_are_free()
@@ -11,4 +11,9 @@ pub fn new_atoms_are_free()
 /// with, and it leaves each variable a grain.
 pub fn who_may_come_stays_clear()
     ensures { WhoMayComeStaysClear }
+{}
+
+/// All grains of a variable are out just where as many atoms of a clear set say so as it has grains.
+pub fn outs_are_counted()
+    ensures { OutsAreCounted }
 {}
