@@ -49,7 +49,8 @@ same_there plan (Here i) (Here j) e c = equal i j (ap slot_at e)
 same_there plan (Here i) (Out w h) e c = absurd (cc)
 same_there plan (Here i) (Is w b) e c = absurd (cc)
 same_there plan (Out v g) (Here j) e c = absurd (cc)
-same_there plan (Out v g) (Out w h) e c = and_from (nat_eq v w) (nat_eq g h) (equal v w (ap var_at e)) (equal g h (ap grain_at e))
+same_there plan (Out v g) (Out w h) e c = and_from (nat_eq v w) (nat_eq g h) (equal v w (ap var_at e))
+    (equal g h (ap grain_at e))
 same_there plan (Out v g) (Is w b) e c = absurd (cc)
 same_there plan (Is v a) (Here j) e c = absurd (cc)
 same_there plan (Is v a) (Out w h) e c = absurd (cc)
@@ -77,7 +78,12 @@ place_read index (first ∷ all) p h =
       }
       | inr later ↦
           let r = place_read index all p later in
-          record { fact = r.fact; among = has_more same_atom atom_exact atom_itself first.atom (atoms_of all) r.fact.atom r.among; place = r.place }
+          record {
+            fact = r.fact;
+            among = has_more same_atom atom_exact atom_itself first.atom
+                (atoms_of all) r.fact.atom r.among;
+            place = r.place;
+          }
     ]
 
 pub new_atoms_are_free : NewAtomsAreFree
@@ -85,9 +91,11 @@ new_atoms_are_free plan stood atom is clear new =
     let before = atoms_of stood.facts in
     let set = set_with (before ++ atom ∷ []) in
     let f : Facts plan set = facts plan set clear in
-    let grows : Within same_atom (set_of stood) set = λ a h. has_front same_atom atom_exact atom_itself (set_of stood) (atom ∷ []) a h in
+    let grows : Within same_atom (set_of stood) set = λ a h. has_front same_atom atom_exact atom_itself (set_of stood)
+    (atom ∷ []) a h in
     let itself : has same_atom set atom ≡ true
-    = has_back same_atom atom_exact atom_itself (set_of stood) (atom ∷ []) atom (has_first same_atom atom_exact atom_itself atom []) in
+    = has_back same_atom atom_exact atom_itself (set_of stood) (atom ∷ []) atom
+    (has_first same_atom atom_exact atom_itself atom []) in
     let there : is_place plan (place_for atom) ≡ true = named_have_places plan atom (f.named atom itself) in
     let number : place_in stood.index atom ≡ place_of plan atom
     = ap (λ index. place_in index atom) is ∙ index_tells_places plan atom there in
@@ -102,7 +110,8 @@ new_atoms_are_free plan stood atom is clear new =
           let old = r.fact.atom in
           let stands : has same_atom (set_of stood) old ≡ true
           = has_more same_atom atom_exact atom_itself (Here 0) before old r.among in
-          let place : is_place plan (place_for old) ≡ true = named_have_places plan old (f.named old (grows old stands)) in
+          let place : is_place plan (place_for old) ≡ true = named_have_places plan old
+          (f.named old (grows old stands)) in
           let same_number : number_of plan (place_for old) ≡ number_of plan (place_for atom)
           = sym (ap (λ index. place_in index old) is ∙ index_tells_places plan old place) ∙ (r.place ∙ number) in
           let one : old ≡ atom
@@ -110,7 +119,8 @@ new_atoms_are_free plan stood atom is clear new =
           (same_there plan old atom (places_are_apart plan (place_for old) (place_for atom) place there same_number)
           (f.apart old atom (grows old stands) itself)) in
           let small = part_clear plan (set_of stood) set clear grows in
-          absurd (both (has_says plan (set_of stood) small atom (subst (λ a. has same_atom (set_of stood) a ≡ true) one stands)) new)
+          absurd (both (has_says plan (set_of stood) small atom
+          (subst (λ a. has same_atom (set_of stood) a ≡ true) one stands)) new)
       | inr h ↦ h
     ] in
     and_from (nat_lt (place_in stood.index atom) (length stood.index.things))

@@ -1,9 +1,9 @@
 -- Facts are found by their places.
-use Rattle.std.proofs.Common.{◌≡◌, ℕ, zero, suc, ◌+◌, ◌^◌, ◌<◌, ◌≤◌, Bool, true, false, not, ◌||◌, List, [], ◌∷◌, ◌++◌, length, map, refl, sym, ◌∙◌, ap, subst, inl, inr, arith, length-append}
+use Rattle.std.proofs.Common.{◌≡◌, ℕ, zero, suc, ◌+◌, ◌^◌, ◌<◌, ◌≤◌, Bool, true, false, not, ◌||◌, List, [], ◌∷◌, ◌++◌, length, map, take, refl, sym, ◌∙◌, ap, subst, inl, inr, arith, length-append}
 use Rattle.std.specs.Prelude.{None, Some, Option, ◌-◌, option_map, get_or, ◌==◌, nat_eq, nat_lt, position, replicate, slice_get, slice_index_or, slice_set, if◌then◌else◌}
 use Rattle.std.specs.List.{AllByRecursion, IsDistinct, position_or_len}
 use Rattle.std.specs.Option.{is_some}
-use Rattle.std.proofs.lemmas.Bool.{and_parts, cases_lt, le-leb, ltb-true, or_left, or_parts, or_right}
+use Rattle.std.proofs.lemmas.Bool.{and_parts, cases_lt, le-leb, ltb-true, or_cases, or_left, or_parts, or_right}
 use Rattle.std.proofs.lemmas.List.{get_or-set_other, get_or-set_same, length-map, length-replicate, length-set}
 use Rattle.std.proofs.lemmas.List.Quantifiers.{position-Some}
 use Rattle.std.proofs.lemmas.List.Sums.{fails_before_first}
@@ -26,7 +26,8 @@ use Rattle.vc_net_standing.specs.Keeping.{IsNumbered}
 use Rattle.vc_net_standing.specs.Standing.{atoms_of, is_free, number_if_of, places_of, value_by, value_if_of}
 
 -- one element more that wasn't there
-module _ {A : Type 0} (same : A → A → Bool) (exact : (a b : A) → same a b ≡ true → a ≡ b) (itself : (a : A) → same a a ≡ true) where
+module _ {A : Type 0} (same : A → A → Bool) (exact : (a b : A) → same a b ≡ true → a ≡ b)
+    (itself : (a : A) → same a a ≡ true) where
   more_apart : (a : A) (xs : List A) (b : A) → AllByRecursion (λ x. same a x ≡ false) xs → same a b ≡ false
       → AllByRecursion (λ x. same a x ≡ false) (xs ++ b ∷ [])
   more_apart a [] b h e = (e, tt)
@@ -75,7 +76,8 @@ found_nowhere facts atom e n fact h =
     let is : slice_get (atoms_of facts) n ≡ Some fact.atom
     = slice_get-map (λ (f : Fact). f.atom) facts n ∙ ap (option_map (λ (f : Fact). f.atom)) h in
     let inside : n < length (atoms_of facts) = slice_get_within (atoms_of facts) n fact.atom is in
-    let past : length (atoms_of facts) ≤ position_or_len (same_atom atom) (atoms_of facts) = grind (arith, common_steps) in
+    let past : length (atoms_of facts) ≤ position_or_len (same_atom atom) (atoms_of facts) = grind
+    (arith, common_steps) in
     ap (same_atom atom) (sym (get_or_from_slice_get (atoms_of facts) n fact.atom atom is))
     ∙ fails_before_first (same_atom atom) (atoms_of facts) n atom (omega (arith, inside, past))
 
@@ -94,7 +96,8 @@ none_has : (facts : List Fact) (atom : Atom)
     → has same_atom (atoms_of facts) atom ≡ false
 none_has [] atom f = refl
 none_has (first ∷ facts) atom f =
-    ap (λ b. b || has same_atom (atoms_of facts) atom) (f 0 first refl) ∙ none_has facts atom (λ n fact h. f (suc n) fact h)
+    ap (λ b. b || has same_atom (atoms_of facts) atom) (f 0 first refl) ∙ none_has facts atom
+    (λ n fact h. f (suc n) fact h)
 
 pub some_has : (facts : List Fact) (atom : Atom)
     → is_some (position (same_atom atom) (atoms_of facts)) ≡ has same_atom (atoms_of facts) atom
@@ -111,7 +114,8 @@ some_has facts atom =
 abbrev FoundValue : List Fact → ℕ → Value → Type 0
 FoundValue facts v a = (m : ℕ) × (fact : Fact) × (slice_get facts m ≡ Some fact) × (fact.atom ≡ Is v a)
 
-later_value : (fact : Fact) (facts : List Fact) (v : ℕ) (a : Value) → FoundValue facts v a → FoundValue (fact ∷ facts) v a
+later_value : (fact : Fact) (facts : List Fact) (v : ℕ) (a : Value) → FoundValue facts v a → FoundValue
+    (fact ∷ facts) v a
 later_value fact facts v a f = (suc f.0, f.1, f.2, f.3)
 
 value_step : (fact : Fact) (facts : List Fact) (v : ℕ) (a : Value) (atom : Atom) → fact.atom ≡ atom
@@ -160,15 +164,57 @@ has_place : (index : Index) (facts : List Fact) (n : ℕ) (fact : Fact) → slic
     → has nat_eq (places_of index facts) (place_in index fact.atom) ≡ true
 has_place index [] n fact h = absurd (cc)
 has_place index (first ∷ facts) zero fact h =
-    or_left (nat_eq (place_in index fact.atom) (place_in index first.atom)) (has nat_eq (places_of index facts) (place_in index fact.atom))
+    or_left (nat_eq (place_in index fact.atom) (place_in index first.atom))
+    (has nat_eq (places_of index facts) (place_in index fact.atom))
     (ap (λ (f : Fact). nat_eq (place_in index fact.atom) (place_in index f.atom)) (some_injective h)
     ∙ number_itself (place_in index fact.atom))
 has_place index (first ∷ facts) (suc n) fact h =
-    or_right (nat_eq (place_in index fact.atom) (place_in index first.atom)) (has nat_eq (places_of index facts) (place_in index fact.atom))
+    or_right (nat_eq (place_in index fact.atom) (place_in index first.atom))
+    (has nat_eq (places_of index facts) (place_in index fact.atom))
     (has_place index facts n fact h)
 
+-- the first facts, so many
+get_front : (facts : List Fact) (count n : ℕ) (fact : Fact) → slice_get (take count facts) n ≡ Some fact
+    → slice_get facts n ≡ Some fact
+get_front [] zero n fact h = absurd (cc)
+get_front [] (suc count) n fact h = absurd (cc)
+get_front (first ∷ facts) zero n fact h = absurd (cc)
+get_front (first ∷ facts) (suc count) zero fact h = h
+get_front (first ∷ facts) (suc count) (suc n) fact h = get_front facts count n fact h
+
+front_apart : (index : Index) (p : ℕ) (facts : List Fact) (count : ℕ)
+    → AllByRecursion (λ q. nat_eq p q ≡ false) (places_of index facts)
+    → AllByRecursion (λ q. nat_eq p q ≡ false) (places_of index (take count facts))
+front_apart index p [] zero h = tt
+front_apart index p [] (suc count) h = tt
+front_apart index p (first ∷ facts) zero h = tt
+front_apart index p (first ∷ facts) (suc count) h = (h.0, front_apart index p facts count h.1)
+
+front_once : (index : Index) (facts : List Fact) (count : ℕ) → IsDistinct nat_eq (places_of index facts)
+    → IsDistinct nat_eq (places_of index (take count facts))
+unfolding IsDistinct
+front_once index [] zero d = tt
+front_once index [] (suc count) d = tt
+front_once index (first ∷ facts) zero d = tt
+front_once index (first ∷ facts) (suc count) d =
+    (front_apart index (place_in index first.atom) facts count d.0, front_once index facts count d.1)
+
+front_has : (index : Index) (facts : List Fact) (count p : ℕ) → has nat_eq (places_of index (take count facts)) p ≡ true
+    → has nat_eq (places_of index facts) p ≡ true
+front_has index [] zero p h = h
+front_has index [] (suc count) p h = h
+front_has index (first ∷ facts) zero p h = absurd (cc)
+front_has index (first ∷ facts) (suc count) p h =
+    elim (or_cases (nat_eq p (place_in index first.atom)) (has nat_eq (places_of index (take count facts)) p) h) [
+      | inl e ↦ or_left (nat_eq p (place_in index first.atom)) (has nat_eq (places_of index facts) p) e
+      | inr e ↦
+          or_right (nat_eq p (place_in index first.atom)) (has nat_eq (places_of index facts) p)
+          (front_has index facts count p e)
+    ]
+
 -- nothing stands at first
-pub nothing_numbered : (index : Index) (numbers : List ℕ) (facts : Filled Fact) (count : ℕ) → length index.things < 2 ^ 32
+pub nothing_numbered : (index : Index) (numbers : List ℕ) (facts : Filled Fact) (count : ℕ)
+    → length index.things < 2 ^ 32
     → count ≡ length index.things → numbers ≡ replicate count 0 → facts ≡ record { items = []; room = count }
     → IsNumbered index numbers facts
 unfolding IsDistinct
@@ -209,7 +255,8 @@ module _ (index : Index) (numbers : List ℕ) (facts : Filled Fact) (kept : IsNu
   pub number_is : (atom : Atom) → number_if_of atom (number atom) (slice_get facts.items (number atom))
       ≡ position (same_atom atom) (atoms_of facts.items)
   number_is atom =
-      elim (position (same_atom atom) (atoms_of facts.items)) as (λ o. position (same_atom atom) (atoms_of facts.items) ≡ o
+      elim (position (same_atom atom) (atoms_of facts.items)) as
+      (λ o. position (same_atom atom) (atoms_of facts.items) ≡ o
       → number_if_of atom (number atom) (slice_get facts.items (number atom)) ≡ o) [
         | None ↦ λ e. none_there atom e (slice_get facts.items (number atom)) refl
         | Some n ↦ λ e. one_there atom n e
@@ -237,7 +284,8 @@ module _ (index : Index) (numbers : List ℕ) (facts : Filled Fact) (kept : IsNu
       ap (value_if_of v) (ap (slice_get facts.items) is ∙ f.2)
       ∙ (ap (value_by v) f.3 ∙ ap (λ b. if b then Some a else None) (number_itself v))
 
-  pub value_is : (v : ℕ) → value_if_of v (slice_get facts.items (at (first_in index v))) ≡ value_in (atoms_of facts.items) v
+  pub value_is : (v : ℕ) → value_if_of v (slice_get facts.items (at (first_in index v))) ≡ value_in
+      (atoms_of facts.items) v
   value_is v =
       elim (value_in (atoms_of facts.items) v) as (λ o. value_in (atoms_of facts.items) v ≡ o
       → value_if_of v (slice_get facts.items (at (first_in index v))) ≡ o) [
@@ -266,6 +314,19 @@ module _ (index : Index) (numbers : List ℕ) (facts : Filled Fact) (kept : IsNu
         below = λ p h. absurd (cc);
       })
 
+  -- the first facts may stay alone
+  pub front_stays : (count : ℕ) (next : Filled Fact) → next ≡ record { items = take count facts.items; room = facts.room }
+      → IsNumbered index numbers next
+  front_stays count next e =
+      subst (IsNumbered index numbers) (sym e) (record {
+        long = kept.long;
+        counted = kept.counted;
+        small = kept.small;
+        numbered = λ n fact h. kept.numbered n fact (get_front facts.items count n fact h);
+        once = front_once index facts.items count kept.once;
+        below = λ p h. kept.below p (front_has index facts.items count p h);
+      })
+
   -- a fact may come at a free place
   module _ (fact : Fact) (free : is_free (record { index = index; facts = facts.items }) fact.atom ≡ true) where
     abbrev place : ℕ
@@ -273,7 +334,8 @@ module _ (index : Index) (numbers : List ℕ) (facts : Filled Fact) (kept : IsNu
 
     pub inside : place < length numbers
     inside =
-        let p = and_parts (nat_lt place (length index.things)) (not (has nat_eq (places_of index facts.items) place)) free in
+        let p = and_parts (nat_lt place (length index.things))
+        (not (has nat_eq (places_of index facts.items) place)) free in
         let low : place < length index.things = ltb-true place (length index.things) p.0 in
         omega (arith, low, kept.long, kept.counted)
 
@@ -289,7 +351,8 @@ module _ (index : Index) (numbers : List ℕ) (facts : Filled Fact) (kept : IsNu
     more_places = map_more (λ (f : Fact). place_in index f.atom) facts.items (fact ∷ [])
 
     more_once : IsDistinct nat_eq (places_of index facts.items ++ place ∷ [])
-    more_once = distinct_more nat_eq number_exact number_itself (places_of index facts.items) place kept.once nothing_there
+    more_once = distinct_more nat_eq number_exact number_itself
+        (places_of index facts.items) place kept.once nothing_there
 
     more_below : (p : ℕ) → has nat_eq (places_of index facts.items ++ place ∷ []) p ≡ true → p < facts.room
     more_below p h =
@@ -317,13 +380,16 @@ module _ (index : Index) (numbers : List ℕ) (facts : Filled Fact) (kept : IsNu
         = some_injective (sym (get_first facts.items (fact ∷ []) n (get_or facts.items n fact) was) ∙ h) in
         let there : slice_get facts.items n ≡ Some other = was ∙ ap (λ f. Some f) is in
         let apart : place_in index other.atom ≡ place → ⊥
-        = λ same. both (subst (λ p. has nat_eq (places_of index facts.items) p ≡ true) same (has_place index facts.items n other there)) nothing_there in
-        get_or-set_other numbers place (place_in index other.atom) (length facts.items) 0 apart ∙ kept.numbered n other there
+        = λ same. both (subst (λ p. has nat_eq (places_of index facts.items) p ≡ true) same
+        (has_place index facts.items n other there)) nothing_there in
+        get_or-set_other numbers place (place_in index other.atom) (length facts.items) 0 apart
+        ∙ kept.numbered n other there
 
     new_number : (k n : ℕ) (other : Fact) → n ≡ length facts.items + k → slice_get (fact ∷ []) k ≡ Some other
         → slice_index_or (slice_set numbers place (length facts.items)) (place_in index other.atom) 0 ≡ n
     new_number zero n other is h =
-        ap (λ (f : Fact). slice_index_or (slice_set numbers place (length facts.items)) (place_in index f.atom) 0) (sym (some_injective h))
+        ap (λ (f : Fact). slice_index_or (slice_set numbers place (length facts.items)) (place_in index f.atom) 0)
+        (sym (some_injective h))
         ∙ (get_or-set_same numbers place (length facts.items) 0 inside ∙ omega (arith, is))
     new_number (suc k) n other is h = absurd (cc)
 
@@ -331,20 +397,22 @@ module _ (index : Index) (numbers : List ℕ) (facts : Filled Fact) (kept : IsNu
         → next ≡ with_items facts (fact ∷ []) → IsNumbered index later next × (next.items ≡ more)
     comes later next e f =
         let is : next ≡ record { items = more; room = facts.room }
-        = f ∙ ap (λ b. if b then record { items = more; room = facts.room } else facts) (le-leb (length facts.items + 1) facts.room room_left) in (
-          subst (λ ns. IsNumbered index ns next) (sym e) (subst (IsNumbered index (slice_set numbers place (length facts.items))) (sym is) (record {
-            long = length-set numbers place (length facts.items) ∙ kept.long;
-            counted = kept.counted;
-            small = kept.small;
-            numbered = λ n other h. elim (cases_lt n (length facts.items)) [
-              | inl low ↦ old_number n other low h
-              | inr past ↦
-                  let k = n - length facts.items in
-                  let at_end : n ≡ length facts.items + k = omega (arith, past) in
-                  new_number k n other at_end (sym (get_second facts.items (fact ∷ []) n k at_end) ∙ h)
-            ];
-            once = subst (IsDistinct nat_eq) (sym more_places) more_once;
-            below = λ p h. more_below p (ap (λ ps. has nat_eq ps p) (sym more_places) ∙ h);
-          })),
+        = f ∙ ap (λ b. if b then record { items = more; room = facts.room } else facts)
+        (le-leb (length facts.items + 1) facts.room room_left) in (
+          subst (λ ns. IsNumbered index ns next) (sym e) (subst
+              (IsNumbered index (slice_set numbers place (length facts.items))) (sym is) (record {
+                long = length-set numbers place (length facts.items) ∙ kept.long;
+                counted = kept.counted;
+                small = kept.small;
+                numbered = λ n other h. elim (cases_lt n (length facts.items)) [
+                  | inl low ↦ old_number n other low h
+                  | inr past ↦
+                      let k = n - length facts.items in
+                      let at_end : n ≡ length facts.items + k = omega (arith, past) in
+                      new_number k n other at_end (sym (get_second facts.items (fact ∷ []) n k at_end) ∙ h)
+                ];
+                once = subst (IsDistinct nat_eq) (sym more_places) more_once;
+                below = λ p h. more_below p (ap (λ ps. has nat_eq ps p) (sym more_places) ∙ h);
+              })),
           ap (λ (list : Filled Fact). list.items) is,
         )

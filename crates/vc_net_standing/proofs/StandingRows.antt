@@ -7,7 +7,7 @@ use Rattle.vc_plan.specs.Seen.{says}
 use Rattle.vc_net_places.specs.Places.{Index}
 use Rattle.vc_net_places.specs.declared.places.Thing.TheVariants.{Slot, Var}
 use Rattle.vc_net_standing.specs.declared.standing.Fact.{Fact}
-use Rattle.vc_net_standing.specs.Standing.{Stood, atoms_of, is_free, nothing_at, places_of, seen_by, set_of, with_fact}
+use Rattle.vc_net_standing.specs.Standing.{Stood, atoms_of, first_facts, is_free, nothing_at, places_of, seen_by, set_of, with_fact}
 
 -- the slot, the variable's value and its two grains
 abbrev lamp : Index
@@ -28,6 +28,9 @@ in_order = refl
 
 at_their_places : places_of lamp both_stand.facts ≡ 2 ∷ 1 ∷ []
 at_their_places = refl
+
+first_alone : first_facts both_stand 1 ≡ with_fact (nothing_at lamp) first_out
+first_alone = refl
 
 root_says : says (seen_by (nothing_at lamp)) (Here 0) ≡ true
 root_says = refl

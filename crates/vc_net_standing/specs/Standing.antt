@@ -1,5 +1,5 @@
 -- What stands in a net: facts, in the order in which they came.
-use Rattle.std.specs.Prelude.{ℕ, Bool, not, ◌&&◌, ◌==◌, nat_eq, nat_lt, if◌then◌else◌, List, [], ◌∷◌, ◌++◌, length, map, Option, None, Some}
+use Rattle.std.specs.Prelude.{ℕ, Bool, not, ◌&&◌, ◌==◌, nat_eq, nat_lt, if◌then◌else◌, List, [], ◌∷◌, ◌++◌, length, map, take, Option, None, Some}
 use Rattle.vc_base.specs.Sets.{has}
 use Rattle.vc_value.specs.declared.value.Value.{Value}
 use Rattle.vc_plan.specs.declared.atoms.Atom.{Atom}
@@ -31,6 +31,10 @@ nothing_at index = record { index = index; facts = [] }
 -- the same with one fact more, as the last
 abbrev pub with_fact : Stood → Fact → Stood
 with_fact stood fact = record { index = stood.index; facts = stood.facts ++ fact ∷ [] }
+
+-- the first facts alone, so many
+abbrev pub first_facts : Stood → ℕ → Stood
+first_facts stood count = record { index = stood.index; facts = take count stood.facts }
 
 -- the places of facts
 abbrev pub places_of : Index → List Fact → List ℕ

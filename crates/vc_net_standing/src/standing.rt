@@ -51,7 +51,7 @@ impl Standing {
     ghost use Rattle.vc_plan.specs.Domains.{atom_count};
     ghost use Rattle.vc_plan.specs.Seen.{is_value, same_atom, says};
     ghost use Rattle.vc_net_places.specs.Places.{index_of};
-    ghost use Rattle.vc_net_standing.specs.Standing.{atoms_of, is_free, nothing_at, seen_by, with_fact};
+    ghost use Rattle.vc_net_standing.specs.Standing.{atoms_of, first_facts, is_free, nothing_at, seen_by, with_fact};
 
     /// Nothing stands but that the root is here.
     pub fn new(alloc: Global, plan: &Plan) -> Result<Standing, AllocError>
@@ -117,6 +117,13 @@ impl Standing {
         let place = self.places.place_of(fact.atom);
         self.numbers.set(place, self.facts.len() as u32);
         self.facts.push(fact);
+    }
+
+    /// Keeps the first facts, so many.
+    pub fn truncate(&mut self, count: usize)
+        ensures { self.new ≡ first_facts self.old count }
+    {
+        self.facts.truncate(count);
     }
 
     /// Lets nothing stand but that the root is here.

@@ -7,7 +7,7 @@ ghost use Rattle.vc_net_places.specs.Places.{index_of};
 ghost use Rattle.vc_net_places.specs.declared.places.Thing.TheVariants.{Slot, Var};
 ghost use Rattle.vc_net_standing.specs.Standing.{nothing_at};
 
-use crate::laws::new_atoms_are_free;
+use crate::laws::{new_atoms_are_free, outs_are_counted, who_may_come_stays_clear};
 use crate::{Fact, Standing};
 use std::alloc::{AllocError, Global};
 use std::test::Fail;
@@ -26,7 +26,8 @@ fn domains(alloc: Global) -> Result<Listed<Domain>, AllocError>
 }
 
 fn variables(alloc: Global) -> Result<Listed<plans::Var>, AllocError>
-    ensures { IfOk result (λ vars. vars ≡ record { slot = 0; characteristic = 0; domain = 0; restrictable = false } ∷ []) }
+    ensures { IfOk result (λ vars. vars ≡ record { slot = 0; characteristic = 0; domain = 0; restrictable = false }
+        ∷ []) }
 {
     let mut vars = Listed::new(alloc);
     vars.push(plans::Var {
@@ -100,6 +101,8 @@ fn finds_what_came(rt: HostRuntime) -> Result<(), Fail> {
     standing.put(out);
     standing.put(value);
     new_atoms_are_free();
+    who_may_come_stays_clear();
+    outs_are_counted();
     assert!(rt; standing.here(0));
     assert!(rt; !standing.here(1));
     assert!(rt; standing.out(0, 0));
@@ -112,6 +115,9 @@ fn finds_what_came(rt: HostRuntime) -> Result<(), Fail> {
     assert_eq!(rt; standing.number_of(Atom::Is(0, Value::Text(0))), None);
     assert_eq!(rt; standing.places().count(), 4);
     assert_eq!(rt; standing.facts().len(), 2);
+    standing.truncate(1);
+    assert!(rt; standing.out(0, 0));
+    assert_eq!(rt; standing.value(0), None);
     standing.clear();
     assert_eq!(rt; standing.facts().len(), 0);
     assert!(rt; !standing.out(0, 0));
