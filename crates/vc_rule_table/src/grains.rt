@@ -4,7 +4,8 @@ ghost use Rattle.std.specs.Prelude.{◌≡◌, ◌^◌, ◌<◌, ◌&&◌, [], �
 ghost use Rattle.std.specs.List.{filter, list_any};
 ghost use Rattle.vc_plan.specs.Domains.{numbers_below, count_of, is_grain_with};
 ghost use Rattle.vc_plan.specs.Pieces.{lies_in};
-ghost use Rattle.vc_plan.specs.TableRows.{cell_passes, columns_of, other_columns, is_possible_in, has_grain, missing_grains};
+ghost use Rattle.vc_plan.specs.TableRows.{cell_passes, columns_of, other_columns, is_possible_in};
+ghost use Rattle.vc_plan.specs.TableRows.{has_grain, missing_grains};
 ghost use Rattle.vc_rule_premises.specs.Citing.{cited_all};
 ghost use Rattle.vc_rule_premises.specs.Saying.{take_conclusions};
 ghost use Rattle.vc_rule_table.specs.Cells.{FewGrains, is_missing};

@@ -1,0 +1,3 @@
+pub mod AfterLaws
+pub mod SaidLaws
+pub mod SidesLaws
