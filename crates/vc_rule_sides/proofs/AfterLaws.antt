@@ -1,6 +1,6 @@
 -- What is said after something is cited has that among its premises.
-use Rattle.std.proofs.Common.{◌≡◌, ℕ, ◌+◌, ◌≤◌, Bool, true, false, cond, not, ◌||◌, List, [], ◌∷◌, ◌++◌, length, take, map, refl, sym, ◌∙◌, ap, arith}
-use Rattle.std.specs.Prelude.{nat_le, Option, None, Some}
+use Rattle.std.proofs.Common.{◌≡◌, ◌+◌, true, false, cond, not, ◌||◌, List, [], ◌∷◌, ◌++◌, length, take, map, refl, sym, ◌∙◌, ap, arith}
+use Rattle.std.specs.Prelude.{nat_le}
 use Rattle.std.specs.List.{filter}
 use Rattle.std.proofs.lemmas.List.{take-append-le, take_all}
 use Rattle.vc_base.specs.Rounds.{Given, clash, atoms, is_clash}

@@ -1,3 +1,4 @@
 pub mod AfterLaws
+pub mod AssignLemmas
 pub mod SaidLaws
 pub mod SidesLaws

@@ -13,12 +13,11 @@ use Rattle.vc_plan.specs.declared.plans.Plan.{Plan}
 use Rattle.vc_plan.specs.Restrictions.{failing, left_with, of_remaining, confined, related}
 use Rattle.vc_plan.specs.Seen.{Seen, says}
 use Rattle.vc_rule_yield.specs.Yielding.{Yielded}
-use Rattle.vc_rule_premises.specs.Saying.{Said, clashing, concluding, together, conclusion_from, said_from, taken}
+use Rattle.vc_rule_premises.specs.Saying.{Said, together, conclusion_from, said_from, taken}
 use Rattle.vc_rule_premises.proofs.SayingLaws.{conclusions_append}
 use Rattle.vc_rule_grains.specs.Confining.{why_confined}
 use Rattle.vc_rule_grains.specs.Remaining.{remaining_of}
-use Rattle.vc_rule_grains.specs.declared.remaining.Remaining.{Remaining}
-use Rattle.vc_rule_grains.specs.declared.remaining.Remaining.TheVariants.{Nothing, One, Several}
+use Rattle.vc_rule_grains.specs.declared.remaining.Remaining.TheVariants.{One, Several}
 use Rattle.vc_rule_sides.specs.Comparing.{may_relate, related_said}
 
 -- what is said of a side is said from one list of premises

@@ -1,3 +1,5 @@
+pub mod Assigning
 pub mod Comparing
+pub mod Equating
 pub mod Laws
 pub mod Sides

@@ -1,5 +1,4 @@
 -- What is said of a side of a comparison, as it is told.
-use Rattle.std.specs.Prelude.{ℕ, Option}
 use Rattle.vc_base.specs.Rounds.{Given}
 use Rattle.vc_plan.specs.declared.atoms.Atom.{Atom}
 use Rattle.vc_plan.specs.declared.plans.Plan.{Plan}

@@ -102,8 +102,8 @@ fn say_sides<V: View>(plan: &Plan, view: &V, first: Side, second: Side, out: &mu
     }
 }
 
-// Tells a clash by the values of both sides.
-fn clash_by_values<V: View>(plan: &Plan, view: &V, left: u32, right: u32, out: &mut Yield)
+/// Tells a clash by the values of both sides.
+pub fn clash_by_values<V: View>(plan: &Plan, view: &V, left: u32, right: u32, out: &mut Yield)
     ensures { out.new ≡ taken out.old (clashing (values_in plan.now (V.seen view.now) left
         ++ values_in plan.now (V.seen view.now) right)) }
 {

@@ -1,8 +1,13 @@
-//! A law of what a comparison says, the contract of a function that does nothing.
+//! Laws of what a comparison and an equation say, each the contract of a function that does nothing.
 
-ghost use Rattle.vc_rule_sides.specs.Laws.{CompareIsSaid};
+ghost use Rattle.vc_rule_sides.specs.Laws.{CompareIsSaid, EquateIsSaid};
 
-/// What is said, without what it follows from, is what the comparison gives and doesn't stand yet.
+/// What a comparison says, without what it follows from, is what it gives and doesn't stand yet.
 pub fn compare_is_said()
     ensures { CompareIsSaid }
+{}
+
+/// What an equation says, without what it follows from, is what it gives and doesn't stand yet.
+pub fn equate_is_said()
+    ensures { EquateIsSaid }
 {}

@@ -27,7 +27,8 @@ pub fn cite_values<V: View>(plan: &Plan, view: &V, term: u32, out: &mut Yield)
     }
 }
 
-fn lone(plan: &Plan, term: u32) -> Option<u32>
+/// The variable that the term is, if it is one alone.
+pub fn lone(plan: &Plan, term: u32) -> Option<u32>
     ensures { result ≡ lone plan.now term }
 {
     match element(plan.terms.as_slice(), term) {
