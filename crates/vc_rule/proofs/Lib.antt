@@ -1,0 +1,4 @@
+pub mod FoundLaws
+pub mod FoundLemmas
+pub mod PassingLemmas
+pub mod StandingLaws
