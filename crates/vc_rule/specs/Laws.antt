@@ -7,6 +7,7 @@ use Rattle.vc_plan.specs.declared.plans.Plan.{Plan}
 use Rattle.vc_plan.specs.Gives.{by_rule, gives}
 use Rattle.vc_plan.specs.Seen.{Seen, same_atom, says}
 use Rattle.vc_plan.specs.Sources.{Sources}
+use Rattle.vc_plan_reasons.specs.Things.{has_thing, thing_of, giver_reads}
 use Rattle.vc_rule_premises.specs.Saying.{Said, clashing, concluding, given_of}
 use Rattle.vc_rule_premises.specs.Sufficing.{each_premise}
 use Rattle.vc_rule.specs.Evaluating.{found_at}
@@ -30,3 +31,8 @@ FoundOnce = (plan : Plan) (seen : Seen) (r : ℕ) → EachList (IsDistinct same_
 
 abbrev pub FoundBesideRoot : Type 0
 FoundBesideRoot = (plan : Plan) (seen : Seen) (r : ℕ) → each_premise (λ a. not (same_atom (Here 0) a)) (found_at plan seen r) ≡ true
+
+-- each premise is of a slot or a variable that the rule reads
+abbrev pub FoundIsRead : Type 0
+FoundIsRead = (plan : Plan) (seen : Seen) (r : ℕ)
+    → each_premise (λ a. has_thing (giver_reads plan (by_rule r)) (thing_of a)) (found_at plan seen r) ≡ true

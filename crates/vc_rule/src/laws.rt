@@ -1,7 +1,7 @@
 //! Laws of what rules say, each the contract of a function that does nothing.
 
 ghost use Rattle.vc_rule.specs.Evaluating.{ValidRulesFit};
-ghost use Rattle.vc_rule.specs.Laws.{FoundIsGiven, FoundStands, FoundOnce, FoundBesideRoot};
+ghost use Rattle.vc_rule.specs.Laws.{FoundIsGiven, FoundStands, FoundOnce, FoundBesideRoot, FoundIsRead};
 
 /// The rules of a valid plan can be evaluated.
 pub fn valid_rules_fit()
@@ -22,4 +22,9 @@ pub fn found_stands()
 pub fn found_once()
     ensures once { FoundOnce }
     ensures root { FoundBesideRoot }
+{}
+
+/// Each premise is of a slot or a variable that the rule reads.
+pub fn found_is_read()
+    ensures { FoundIsRead }
 {}
