@@ -11,14 +11,13 @@ use Rattle.vc_syntax_terms.specs.declared.tree.Operand.TheVariants as operands
 use Rattle.vc_syntax_terms.specs.declared.tree.Owner.{Owner}
 use Rattle.vc_syntax_terms.specs.declared.tree.Owner.TheVariants as owners
 use Rattle.vc_types.specs.Looking.{member_of, class_of, class_named, object_named}
+use Rattle.vc_types.specs.declared.meaning.Meaning.{Meaning}
+use Rattle.vc_types.specs.declared.meaning.Meaning.TheVariants as meanings
+use Rattle.vc_types.specs.declared.meaning.Referent.{Referent}
+use Rattle.vc_types.specs.declared.meaning.Referent.TheVariants as referents
 use Rattle.vc_types.specs.declared.place.At.{At}
 use Rattle.vc_types.specs.declared.place.At.TheVariants as at
 use Rattle.vc_types.specs.declared.place.Place.{Place}
-
--- what a `?` variable stands for: an object of a class, or a characteristic of one; none where the model has none
-pub data Referent : Type 0 where
-  an_object : (class : Option ℕ) → Referent
-  a_value : (characteristic : Option ℕ) → Referent
 
 -- a `?` variable
 pub record Variable : Type 0 where
@@ -32,11 +31,11 @@ class_meant model (objects.Material leaf) = class_of model (object_named model l
 
 -- the variables that an object declares, and those of a constraint in the order of the text
 abbrev pub alias_of : Model → Option ℕ → Alias → Variable
-alias_of model class alias = record { name = alias.variable.name; referent = a_value (member_of model alias.characteristic.name class) }
+alias_of model class alias = record { name = alias.variable.name; referent = referents.Value (member_of model alias.characteristic.name class) }
 
 abbrev pub variables_of_object : Model → Object → List Variable
 variables_of_object model object =
-    record { name = object.variable.name; referent = an_object (class_meant model object.kind) }
+    record { name = object.variable.name; referent = referents.Object (class_meant model object.kind) }
     ∷ map (alias_of model (class_meant model object.kind)) object.aliases
 
 abbrev pub variables_of : Model → List Object → List Variable
@@ -45,20 +44,10 @@ variables_of model declared = flat_map (variables_of_object model) declared
 abbrev pub variable_named : List Variable → List ℕ → Option Variable
 variable_named variables name = find (λ variable. bytes_eq variable.name name) variables
 
--- what an operand means: a characteristic of the model, or what is wrong with it, and then nothing else is
-pub data Meaning : Type 0 where
-  characteristic : (c : ℕ) → Meaning
-  unknown : Meaning
-  object_for_value : Meaning
-  value_for_object : Meaning
-  self_in_constraint : Meaning
-  no_parent : Meaning
-  self_in_line : Meaning
-  variable_outside : Meaning
-
+-- what an operand means; where something is wrong with it, nothing else is
 abbrev pub known : Option ℕ → Meaning
-known None = unknown
-known (Some c) = characteristic c
+known None = meanings.Unknown
+known (Some c) = meanings.Characteristic c
 
 -- a characteristic of an object
 abbrev pub of_object : Model → List ℕ → Option ℕ → Meaning
@@ -66,34 +55,34 @@ of_object model name object = known (member_of model name (class_of model object
 
 -- of the object of the direct superior instance
 abbrev pub of_parent : Model → List ℕ → Option ℕ → Meaning
-of_parent model name None = no_parent
+of_parent model name None = meanings.NoParent
 of_parent model name (Some object) = of_object model name (Some object)
 
 -- a name alone means the instance itself; in a line that is the owner of the bill
 abbrev pub plain_meaning : Model → Place → List ℕ → At → Meaning
-plain_meaning model place name at.Constraint = self_in_constraint
+plain_meaning model place name at.Constraint = meanings.SelfInConstraint
 plain_meaning model place name at.Characteristic = of_object model name (Some place.object)
 plain_meaning model place name at.Procedure = of_object model name (Some place.object)
 plain_meaning model place name (at.Line configurable) = of_object model name (Some place.object)
 plain_meaning model place name at.Operation = of_object model name (Some place.object)
 
 abbrev pub self_meaning : Model → Place → List ℕ → At → Meaning
-self_meaning model place name at.Constraint = self_in_constraint
+self_meaning model place name at.Constraint = meanings.SelfInConstraint
 self_meaning model place name at.Characteristic = of_object model name (Some place.object)
 self_meaning model place name at.Procedure = of_object model name (Some place.object)
-self_meaning model place name (at.Line configurable) = self_in_line
+self_meaning model place name (at.Line configurable) = meanings.SelfInLine
 self_meaning model place name at.Operation = of_object model name (Some place.object)
 
 -- `$PARENT` in a line is the owner of the bill, as the instance is the component
 abbrev pub parent_meaning : Model → Place → List ℕ → At → Meaning
-parent_meaning model place name at.Constraint = self_in_constraint
+parent_meaning model place name at.Constraint = meanings.SelfInConstraint
 parent_meaning model place name at.Characteristic = of_parent model name place.parent
 parent_meaning model place name at.Procedure = of_parent model name place.parent
 parent_meaning model place name (at.Line configurable) = of_object model name (Some place.object)
 parent_meaning model place name at.Operation = of_parent model name place.parent
 
 abbrev pub root_meaning : Model → List ℕ → At → Meaning
-root_meaning model name at.Constraint = self_in_constraint
+root_meaning model name at.Constraint = meanings.SelfInConstraint
 root_meaning model name at.Characteristic = of_object model name (Some model.root)
 root_meaning model name at.Procedure = of_object model name (Some model.root)
 root_meaning model name (at.Line configurable) = of_object model name (Some model.root)
@@ -106,15 +95,15 @@ owned_meaning model place owners.Root name = root_meaning model name place.at
 
 -- a characteristic of a variable's object
 abbrev pub member_meaning : Model → List ℕ → Option Referent → Meaning
-member_meaning model name None = unknown
-member_meaning model name (Some (an_object class)) = known (member_of model name class)
-member_meaning model name (Some (a_value c)) = value_for_object
+member_meaning model name None = meanings.Unknown
+member_meaning model name (Some (referents.Object class)) = known (member_of model name class)
+member_meaning model name (Some (referents.Value c)) = meanings.ValueForObject
 
 -- a variable that stands for a value
 abbrev pub value_meaning : Option Referent → Meaning
-value_meaning None = unknown
-value_meaning (Some (an_object class)) = object_for_value
-value_meaning (Some (a_value c)) = known c
+value_meaning None = meanings.Unknown
+value_meaning (Some (referents.Object class)) = meanings.ObjectForValue
+value_meaning (Some (referents.Value c)) = known c
 
 abbrev pub referent_of : Option Variable → Option Referent
 referent_of None = None
@@ -123,10 +112,10 @@ referent_of (Some variable) = Some variable.referent
 -- `?` variables are for constraints alone
 abbrev pub if_constraint : At → Meaning → Meaning
 if_constraint at.Constraint meaning = meaning
-if_constraint at.Characteristic meaning = variable_outside
-if_constraint at.Procedure meaning = variable_outside
-if_constraint (at.Line configurable) meaning = variable_outside
-if_constraint at.Operation meaning = variable_outside
+if_constraint at.Characteristic meaning = meanings.VariableOutside
+if_constraint at.Procedure meaning = meanings.VariableOutside
+if_constraint (at.Line configurable) meaning = meanings.VariableOutside
+if_constraint at.Operation meaning = meanings.VariableOutside
 
 abbrev pub meaning_of : Model → Place → List Variable → Operand → Meaning
 meaning_of model place variables (operands.Plain leaf) = plain_meaning model place leaf.name place.at

@@ -7,9 +7,11 @@ use Rattle.vc_syntax_terms.specs.declared.tree.NameLeaf.{NameLeaf}
 use Rattle.vc_syntax_terms.specs.declared.tree.Object.{Object}
 use Rattle.vc_syntax_terms.specs.Trees.{Binding, TableCall, Dependency, Constrains}
 use Rattle.vc_types.specs.Looking.{member_of, table_named, column_in}
-use Rattle.vc_types.specs.Meanings.{Meaning, unknown, self_in_constraint, no_parent, self_in_line, variable_outside, class_meant, variable_named}
+use Rattle.vc_types.specs.Meanings.{class_meant, variable_named}
 use Rattle.vc_types.specs.Occurrences.{uses_in, calls_in, parted_names, summed_names, asks_sum}
 use Rattle.vc_types.specs.Settings.{Setting, meaning, is_constraint, is_line, has_instance, component_classes}
+use Rattle.vc_types.specs.declared.meaning.Meaning.{Meaning}
+use Rattle.vc_types.specs.declared.meaning.Meaning.TheVariants as meanings
 
 -- an operand of the dependency has a meaning that passes the test
 abbrev pub some_operand : (Meaning → Bool) → Setting → Dependency → Bool
@@ -22,7 +24,7 @@ objects_in dependency = []
 -- unknown: an operand, a class or object, the characteristic of a WHERE, a table or column, a variable of PART_OF, what
 -- no component has of which a part sum is asked
 abbrev pub is_unknown : Meaning → Bool
-is_unknown unknown = true
+is_unknown meanings.Unknown = true
 is_unknown meaning = false
 
 abbrev pub is_unknown_alias : Setting → Option ℕ → Alias → Bool
@@ -70,21 +72,21 @@ double_name setting dependency =
 -- a constraint that speaks of an instance otherwise than by a variable; `$PARENT` at the root; `$SELF` in a line. A part sum
 -- speaks of `$SELF`
 abbrev pub is_self_in_constraint : Meaning → Bool
-is_self_in_constraint self_in_constraint = true
+is_self_in_constraint meanings.SelfInConstraint = true
 is_self_in_constraint meaning = false
 
 abbrev pub self_named : Setting → Dependency → Bool
 self_named setting dependency = some_operand is_self_in_constraint setting dependency || (is_constraint setting.place.at && asks_sum dependency)
 
 abbrev pub lacks_parent : Meaning → Bool
-lacks_parent no_parent = true
+lacks_parent meanings.NoParent = true
 lacks_parent meaning = false
 
 abbrev pub parent_missing : Setting → Dependency → Bool
 parent_missing setting dependency = some_operand lacks_parent setting dependency
 
 abbrev pub is_self_in_line : Meaning → Bool
-is_self_in_line self_in_line = true
+is_self_in_line meanings.SelfInLine = true
 is_self_in_line meaning = false
 
 abbrev pub self_of_line : Setting → Dependency → Bool
@@ -92,7 +94,7 @@ self_of_line setting dependency = some_operand is_self_in_line setting dependenc
 
 -- a `?` variable outside a constraint, of PART_OF too
 abbrev pub is_variable_outside : Meaning → Bool
-is_variable_outside variable_outside = true
+is_variable_outside meanings.VariableOutside = true
 is_variable_outside meaning = false
 
 abbrev pub has_some : {X : Type 0} → List X → Bool

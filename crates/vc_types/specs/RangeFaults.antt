@@ -11,9 +11,10 @@ use Rattle.vc_syntax_terms.specs.declared.tree.Function.TheVariants.{Abs, Sign, 
 use Rattle.vc_syntax_terms.specs.declared.tree.Operator.{Operator}
 use Rattle.vc_syntax_terms.specs.declared.tree.Operator.TheVariants.{Plus, Minus, Times, Over}
 use Rattle.vc_syntax_terms.specs.Trees.{Term, Number, Text, Operand, Negated, Combined, Applied, SumOfParts, CountOfParts, Dependency}
-use Rattle.vc_types.specs.Meanings.{Meaning, characteristic}
 use Rattle.vc_types.specs.Occurrences.{terms_in}
 use Rattle.vc_types.specs.Settings.{Setting, meaning}
+use Rattle.vc_types.specs.declared.meaning.Meaning.{Meaning}
+use Rattle.vc_types.specs.declared.meaning.Meaning.TheVariants as meanings
 
 -- the largest size of a number of a list, in millionths
 abbrev pub value_size : NumberValue → ℕ
@@ -32,7 +33,7 @@ size_in None = 0
 size_in (Some c) = size_of_values c.values
 
 abbrev pub size_meant : Model → Meaning → ℕ
-size_meant model (characteristic c) = size_in (slice_get model.characteristics c)
+size_meant model (meanings.Characteristic c) = size_in (slice_get model.characteristics c)
 size_meant model meaning = 0
 
 -- one, in millionths

@@ -11,7 +11,11 @@ use Rattle.vc_model_parts.specs.declared.parts.Values.TheVariants as values
 use Rattle.vc_syntax_terms.specs.declared.tree.Operand.{Operand as Name}
 use Rattle.vc_syntax_terms.specs.Trees.{Dependency, Constrains}
 use Rattle.vc_types.specs.Looking.{class_of}
-use Rattle.vc_types.specs.Meanings.{Variable, variables_of, Meaning, characteristic, meaning_of}
+use Rattle.vc_types.specs.Meanings.{Variable, variables_of, meaning_of}
+use Rattle.vc_types.specs.declared.meaning.Meaning.{Meaning}
+use Rattle.vc_types.specs.declared.meaning.Meaning.TheVariants as meanings
+use Rattle.vc_types.specs.declared.meaning.Sort.{Sort}
+use Rattle.vc_types.specs.declared.meaning.Sort.TheVariants.{Texts as of_texts, Numbers as of_numbers}
 use Rattle.vc_types.specs.declared.place.At.{At}
 use Rattle.vc_types.specs.declared.place.At.TheVariants as at
 use Rattle.vc_types.specs.declared.place.Place.{Place}
@@ -50,10 +54,6 @@ abbrev pub has_instance : At → Bool
 has_instance at = not (is_constraint at) && not (is_line at)
 
 -- texts or numbers
-pub data Sort : Type 0 where
-  of_texts : Sort
-  of_numbers : Sort
-
 abbrev pub sort_of_values : Values → Sort
 sort_of_values (values.Texts length multiple listed) = of_texts
 sort_of_values (values.Numbers decimals unit listed) = of_numbers
@@ -79,11 +79,11 @@ is_multiple model c = multiple_in (slice_get model.characteristics c)
 
 -- what a meaning is: only a characteristic has a sort, and may have sets
 abbrev pub sort_meant : Model → Meaning → Option Sort
-sort_meant model (characteristic c) = sort_of_characteristic model c
+sort_meant model (meanings.Characteristic c) = sort_of_characteristic model c
 sort_meant model meaning = None
 
 abbrev pub is_set : Model → Meaning → Bool
-is_set model (characteristic c) = is_multiple model c
+is_set model (meanings.Characteristic c) = is_multiple model c
 is_set model meaning = false
 
 -- the classes of the components of an object that are objects

@@ -13,10 +13,16 @@ use Rattle.vc_syntax_terms.specs.Trees.{Term, Number, Text, Operand, Negated, Co
 use Rattle.vc_syntax_terms.specs.Trees.{Relation, Compared, Within, Binding, TableCall, Action, Assign, SetDefault, DelDefault, Calls}
 use Rattle.vc_syntax_terms.specs.Trees.{Dependency, Procedure, Counts}
 use Rattle.vc_types.specs.Looking.{member_of, table_named, column_in}
-use Rattle.vc_types.specs.Meanings.{Referent, an_object, a_value, Meaning, object_for_value, value_for_object, class_meant, known, referent_of, variable_named}
+use Rattle.vc_types.specs.Meanings.{class_meant, known, referent_of, variable_named}
 use Rattle.vc_types.specs.NameFaults.{some_operand, objects_in}
 use Rattle.vc_types.specs.Occurrences.{is_equality, Use, uses_in, calls_in, relations_in, terms_in, parted_names, summed_names}
-use Rattle.vc_types.specs.Settings.{Setting, meaning, is_constraint, has_instance, Sort, of_texts, of_numbers, sort_of_characteristic, sort_meant, is_set, component_classes}
+use Rattle.vc_types.specs.Settings.{Setting, meaning, is_constraint, has_instance, sort_of_characteristic, sort_meant, is_set, component_classes}
+use Rattle.vc_types.specs.declared.meaning.Meaning.{Meaning}
+use Rattle.vc_types.specs.declared.meaning.Meaning.TheVariants as meanings
+use Rattle.vc_types.specs.declared.meaning.Referent.{Referent}
+use Rattle.vc_types.specs.declared.meaning.Referent.TheVariants as referents
+use Rattle.vc_types.specs.declared.meaning.Sort.{Sort}
+use Rattle.vc_types.specs.declared.meaning.Sort.TheVariants.{Texts as of_texts, Numbers as of_numbers}
 
 -- the sort of a term; none of an operand that means no characteristic
 abbrev pub sort_of : Setting → Term → Option Sort
@@ -100,14 +106,14 @@ calls_wrongly setting call = list_any (binds_wrongly setting call) call.bindings
 
 -- a variable of an object for a value, or one of a value for an object
 abbrev pub is_other_variable : Meaning → Bool
-is_other_variable object_for_value = true
-is_other_variable value_for_object = true
+is_other_variable meanings.ObjectForValue = true
+is_other_variable meanings.ValueForObject = true
 is_other_variable meaning = false
 
 abbrev pub is_value_variable : Option Referent → Bool
 is_value_variable None = false
-is_value_variable (Some (an_object class)) = false
-is_value_variable (Some (a_value c)) = true
+is_value_variable (Some (referents.Object class)) = false
+is_value_variable (Some (referents.Value c)) = true
 
 abbrev pub parts_a_value : Setting → NameLeaf → Bool
 parts_a_value setting leaf = is_constraint setting.place.at && is_value_variable (referent_of (variable_named setting.variables leaf.name))

@@ -2,9 +2,11 @@
 #![tactic(auto)]
 
 pub mod fault;
+pub mod meaning;
 pub mod place;
 
 pub use fault::TypeFaultKind;
+pub use meaning::{Meaning, Referent, Sort};
 pub use place::{At, Place};
 
 #[cfg(test)]

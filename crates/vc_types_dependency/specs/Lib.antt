@@ -1,0 +1,4 @@
+pub mod DeclaredNames
+pub mod Found
+pub mod Kinds
+pub mod Typing

@@ -1,0 +1,13 @@
+//! The typing of a dependency where it stands: its least fault, or what its operands mean.
+#![tactic(auto)]
+
+pub mod doubles;
+pub mod faults;
+pub mod found;
+pub mod kinds;
+pub mod typing;
+
+pub use typing::{TypeFault, Typed, type_dependency, type_term};
+
+#[cfg(test)]
+mod tests;

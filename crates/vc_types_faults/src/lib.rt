@@ -1,0 +1,10 @@
+//! Which faults the parts of a dependency have where it stands.
+#![tactic(auto)]
+
+pub mod columns;
+pub mod names;
+pub mod places;
+pub mod sizes;
+pub mod sorts;
+#[cfg(test)]
+mod tests;
