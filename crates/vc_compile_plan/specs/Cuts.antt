@@ -19,7 +19,9 @@ use Rattle.vc_syntax_terms.specs.declared.tree.Relator.TheVariants as relators
 use Rattle.vc_syntax_terms.specs.Trees.{Term, Relation, Compared, Within, TableCall, Binding, Dependency, Constrains}
 use Rattle.vc_table.specs.declared.table.VariantTable.{VariantTable}
 use Rattle.vc_types.specs.Looking.{characteristic_named}
-use Rattle.vc_types.specs.Meanings.{Referent, an_object, a_value, Variable, referent_of, variable_named}
+use Rattle.vc_types.specs.Meanings.{Variable, referent_of, variable_named}
+use Rattle.vc_types.specs.declared.meaning.Referent.{Referent}
+use Rattle.vc_types.specs.declared.meaning.Referent.TheVariants as referents
 use Rattle.vc_types.specs.Occurrences.{conditions_in, relations_of, demanded_relations, calls_in}
 use Rattle.vc_types.specs.Settings.{variables_in}
 use Rattle.vc_plan.specs.Domains.{decimals_in}
@@ -38,8 +40,8 @@ pub record Mark : Type 0 where
 -- the characteristic that an operand names, whatever object it is of
 abbrev pub of_referent : Option Referent → Option ℕ
 of_referent None = None
-of_referent (Some (an_object class)) = None
-of_referent (Some (a_value c)) = c
+of_referent (Some (referents.Object class)) = None
+of_referent (Some (referents.Value c)) = c
 
 abbrev pub characteristic_of : Model → List Variable → OperandLeaf → Option ℕ
 characteristic_of model variables (operands.Plain leaf) = characteristic_named model leaf.name

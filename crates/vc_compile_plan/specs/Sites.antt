@@ -7,7 +7,8 @@ use Rattle.vc_syntax_terms.specs.declared.tree.Operand.{Operand}
 use Rattle.vc_syntax_terms.specs.declared.tree.Operand.TheVariants as operands
 use Rattle.vc_syntax_terms.specs.declared.tree.Owner.{Owner}
 use Rattle.vc_syntax_terms.specs.declared.tree.Owner.TheVariants as owners
-use Rattle.vc_types.specs.Meanings.{Meaning, characteristic}
+use Rattle.vc_types.specs.declared.meaning.Meaning.{Meaning}
+use Rattle.vc_types.specs.declared.meaning.Meaning.TheVariants as meanings
 use Rattle.vc_types.specs.Settings.{Setting, meaning, is_multiple}
 use Rattle.vc_plan.specs.declared.plans.Named.{Named}
 use Rattle.vc_plan.specs.declared.plans.Named.TheVariants as named
@@ -51,7 +52,7 @@ slot_meant site (operands.Member variable leaf) = slot_of_object site (is_called
 slot_meant site (operands.Variable leaf) = slot_of_object site (has_alias leaf.name)
 
 abbrev pub characteristic_in : Meaning → ℕ
-characteristic_in (characteristic c) = c
+characteristic_in (meanings.Characteristic c) = c
 characteristic_in meaning = 0
 
 abbrev pub characteristic_meant : Site → Operand → ℕ
