@@ -7,8 +7,8 @@ ghost use Rattle.vc_compile_plan.specs.declared.fault.CompileFault.TheVariants a
 use std::alloc::AllocError;
 use vc_types::TypeFaultKind;
 
-/// Why a model has no plan. Sizes are asked in the order of the variants, but for the typing, which comes behind the
-/// slots.
+/// Why a model has no plan. Sizes are asked in the order of the variants; the typing is asked
+/// behind the slots.
 #[derive(Clone, Copy, Debug, PartialEq, Eq)]
 pub enum CompileFault {
     /// More than 4 levels of slots.

@@ -1,5 +1,5 @@
-//! What stands at the slots: the root and, below each slot, an object for each line of its bill that has one, in
-//! preorder.
+//! What stands at the slots: the root and, below each slot, an object for each line of its bill that
+//! has one, in preorder.
 
 ghost use Rattle.std.specs.Prelude.{◌≡◌, ◌+◌, ◌<◌, ◌≤◌, length, map, sum_by, take, IfOk, IfSome, IfNone};
 ghost use Rattle.vc_compile_plan.specs.Slots as slots;
@@ -41,8 +41,8 @@ fn first(standings: &[Standing], count: u32) -> &[Standing]
 
 // How many lines the bills of these have together.
 fn line_count(model: &Model, standings: &[Standing]) -> Result<usize, AllocError>
-    ensures { IfOk result (λ count. count
-        ≡ sum_by (λ standing. length (slots.bill_of model.now standing.object)) standings.now) }
+    ensures { IfOk result (λ count. count ≡ sum_by
+        (λ standing. length (slots.bill_of model.now standing.object)) standings.now) }
 {
     let mut count: usize = 0;
     for standing in standings {
@@ -98,8 +98,8 @@ fn add(
     requires few { length standings.old ≤ 40 }
     requires shallow { standing.depth + levels < 256 }
     ensures { IfOk result (λ fits. Adds fits standings.old standings.new
-        (slots.standings_from model.now levels standing.parent standing.depth standing.item (length standings.old)
-        standing.object)) }
+        (slots.standings_from model.now levels standing.parent standing.depth standing.item
+        (length standings.old) standing.object)) }
 {
     if levels == 0 {
         return Ok(true);
