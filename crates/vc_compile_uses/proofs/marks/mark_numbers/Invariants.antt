@@ -1,0 +1,7 @@
+use Rattle.std.proofs.Common.{◌≡◌, drop}
+use Rattle.vc_compile_uses.specs.Marks.{mark_all}
+use Rattle.vc_compile_uses.proofs.marks.mark_numbers.Given as goal
+
+abbrev pub invariant-loop-number : goal.invariant-loop-number
+invariant-loop-number l =
+    mark_all l.marks (drop l.number-index l.numbers) ≡ mark_all l.fn.marks l.numbers
