@@ -1,2 +1,3 @@
+pub mod InstanceRows
 pub mod TwiceLemmas
 pub mod StandingLemmas

@@ -1,5 +1,5 @@
 -- What stands twice in a dependency, from its lists.
-use Rattle.std.proofs.Common.{◌≡◌, ℕ, Bool, true, false, ◌||◌, List, map, flat_map, refl, sym, ap, ◌∙◌}
+use Rattle.std.proofs.Common.{◌≡◌, Bool, true, false, ◌||◌, List, map, flat_map, refl, sym, ap, ◌∙◌}
 use Rattle.std.specs.List.{list_any}
 use Rattle.vc_model_parts.specs.declared.parts.Model.{Model}
 use Rattle.vc_syntax_terms.specs.declared.tree.Object.{Object}

@@ -1,4 +1,5 @@
 pub mod DeclaredNames
 pub mod Found
+pub mod Instances
 pub mod Kinds
 pub mod Typing

@@ -4,9 +4,11 @@
 pub mod doubles;
 pub mod faults;
 pub mod found;
+pub mod instances;
 pub mod kinds;
 pub mod typing;
 
+pub use instances::Instance;
 pub use typing::{TypeFault, Typed, type_dependency, type_term};
 
 #[cfg(test)]

@@ -1,6 +1,6 @@
 //! A condition and a quantity at the root of a model with one characteristic of texts.
 
-use crate::{TypeFault, type_dependency, type_term};
+use crate::{Instance, TypeFault, type_dependency, type_term};
 use std::alloc::{AllocError, Global};
 use std::test::Fail;
 use vc_model_parts::{
@@ -122,6 +122,14 @@ fn judged(alloc: Global, names: &Names, dependency: &Dependency) -> Option<TypeF
     }
 }
 
+// The instance of which an operand of the quantity of a line names a characteristic.
+fn instance(alloc: Global, names: &Names, quantity: &Term, operand: &Operand) -> Option<Instance> {
+    match type_term(alloc, names, quantity, &AT_LINE) {
+        Ok(typed) => Some(typed.instance(operand)),
+        Err(_) => None,
+    }
+}
+
 // The size that the quantity of a line has at most.
 fn bounded(alloc: Global, names: &Names, quantity: &Term) -> Option<u128> {
     match type_term(alloc, names, quantity, &AT_LINE) {
@@ -163,11 +171,17 @@ fn is_typed(alloc: Global, names: &Names) -> Result<bool, AllocError> {
     Ok(fault.is_none() && bounded(alloc, names, &number(2_000_000)) == Some(2_000_000))
 }
 
+fn is_own(alloc: Global, names: &Names) -> Result<bool, AllocError> {
+    let operand = operand(alloc)?;
+    Ok(instance(alloc, names, &number(2_000_000), &operand) == Some(Instance::Own))
+}
+
 #[test]
 fn a_text_is_not_ordered(rt: HostRuntime) -> Result<(), Fail> {
     let model = model(rt.alloc())?;
     let names = Names::new(rt.alloc(), &model)?;
     assert!(rt; is_refused(rt.alloc(), &names)?);
     assert!(rt; is_typed(rt.alloc(), &names)?);
+    assert!(rt; is_own(rt.alloc(), &names)?);
     Ok(())
 }

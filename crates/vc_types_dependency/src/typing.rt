@@ -6,14 +6,16 @@ ghost use Rattle.vc_types.specs.Faults.{fault_of};
 ghost use Rattle.vc_types.specs.RangeFaults.{gets_too_large, size_of};
 ghost use Rattle.vc_types.specs.Settings.{is_set, meaning};
 ghost use Rattle.vc_types.specs.SortFaults.{sort_of};
+ghost use Rattle.vc_types_dependency.specs.Instances.{instance_of, objects_of};
 ghost use Rattle.vc_types_dependency.specs.Typing.{IsTyped, IsTypeFault};
 ghost use Rattle.vc_types_faults.specs.Terms.{bounded};
 ghost use Rattle.vc_types_meanings.specs.Borrowed.{tree_of};
 ghost use Rattle.vc_types_meanings.specs.Seen.{seen};
 
 use crate::faults::type_fault;
+use crate::instances::{Instance, instance_of};
 use std::alloc::{AllocError, Global};
-use vc_syntax_terms::tree::{Dependency, Operand, Term};
+use vc_syntax_terms::tree::{Dependency, Object, Operand, Term};
 use vc_types::{Meaning, Place, Sort, TypeFaultKind};
 use vc_types_faults::{sizes, sorts};
 use vc_types_meanings::{Setting, Tree, borrowed};
@@ -32,6 +34,15 @@ pub enum TypeFault {
 pub struct Typed<'n, 'm, 't> {
     setting: Setting<'n, 'm, 't>,
     tree: Tree<'t>,
+}
+
+fn objects<'t>(tree: Tree<'t>) -> &'t [Object]
+    ensures { result.now ≡ objects_of (tree_of tree.entry) }
+{
+    match tree {
+        Tree::Constraint(constraint) => constraint.objects.as_slice(),
+        _ => &[],
+    }
 }
 
 // The tree in its setting.
@@ -112,6 +123,13 @@ impl<'n, 'm, 't> Typed<'n, 'm, 't> {
         ensures { result ≡ meaning (seen self.now.setting) operand.now }
     {
         self.setting.meaning(operand)
+    }
+
+    /// Of which instance an operand of the dependency names a characteristic.
+    pub fn instance(&self, operand: &Operand) -> Instance
+        ensures { result ≡ instance_of (seen self.now.setting).place.at (objects_of (tree_of self.now.tree)) operand.now }
+    {
+        instance_of(self.setting.place().at, objects(self.tree), operand)
     }
 
     /// Whether an operand of the dependency has sets of texts.

@@ -1,5 +1,5 @@
-use Rattle.std.proofs.Common.{◌≡◌, ◌++◌, drop, map, flat_map}
-use Rattle.vc_types_dependency.specs.DeclaredNames.{names_seen, declared_names}
+use Rattle.std.proofs.Common.{◌≡◌, ◌++◌, drop, map}
+use Rattle.vc_types_dependency.specs.DeclaredNames.{names_seen}
 use Rattle.vc_types_dependency.proofs.doubles.put_aliases.Given as goal
 
 abbrev pub invariant-loop-alias : goal.invariant-loop-alias

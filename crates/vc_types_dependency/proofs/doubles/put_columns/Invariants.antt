@@ -1,6 +1,6 @@
-use Rattle.std.proofs.Common.{◌≡◌, ◌++◌, drop, map, flat_map}
+use Rattle.std.proofs.Common.{◌≡◌, ◌++◌, drop, map}
 use Rattle.vc_syntax_terms.specs.Trees.{binding_of}
-use Rattle.vc_types_dependency.specs.DeclaredNames.{names_seen, declared_names}
+use Rattle.vc_types_dependency.specs.DeclaredNames.{names_seen}
 use Rattle.vc_types_dependency.proofs.doubles.put_columns.Given as goal
 
 abbrev pub invariant-loop-binding : goal.invariant-loop-binding

@@ -1,4 +1,4 @@
-use Rattle.std.proofs.Common.{◌≡◌, ◌++◌, drop, map, flat_map}
+use Rattle.std.proofs.Common.{◌≡◌, ◌++◌, drop, flat_map}
 use Rattle.vc_types_dependency.specs.DeclaredNames.{names_seen, declared_names}
 use Rattle.vc_types_dependency.proofs.doubles.put_objects.Given as goal
 

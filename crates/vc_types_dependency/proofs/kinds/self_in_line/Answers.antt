@@ -1,4 +1,4 @@
-use Rattle.std.proofs.Common.{◌∙◌, ap, not, ◌&&◌}
+use Rattle.std.proofs.Common.{◌∙◌, ap}
 use Rattle.std.specs.List.{list_any}
 use Rattle.vc_types.specs.NameFaults.{is_self_in_line}
 use Rattle.vc_types.specs.Occurrences.{uses_in}
