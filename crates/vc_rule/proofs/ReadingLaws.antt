@@ -1,6 +1,6 @@
 -- Each premise of what is found is of what the rule reads.
 use Rattle.std.proofs.Common.{◌≡◌, ℕ, Bool, true, false, cond, ◌||◌, List, [], ◌∷◌, ◌++◌, map, refl, sym, subst, inl, inr}
-use Rattle.std.specs.Prelude.{Option, None, Some, slice_get, nat_eq, ◌==◌}
+use Rattle.std.specs.Prelude.{Option, None, Some, slice_get, nat_eq}
 use Rattle.std.specs.List.{list_all}
 use Rattle.std.proofs.lemmas.Bool.{and_parts, and_from}
 use Rattle.std.proofs.lemmas.List.{map-append}
@@ -15,7 +15,6 @@ use Rattle.vc_plan.specs.declared.rules.Kind.{Kind}
 use Rattle.vc_plan.specs.declared.rules.Kind.TheVariants.{Among, Compare, Equate, ByTable, Never, Last, Line}
 use Rattle.vc_plan.specs.declared.rules.Rule.{Rule}
 use Rattle.vc_plan.specs.Gives.{acts}
-use Rattle.vc_plan.specs.Readings.{net_reading}
 use Rattle.vc_plan.specs.Reads.{vars_of_condition}
 use Rattle.vc_plan.specs.Seen.{Seen}
 use Rattle.vc_plan_reasons.specs.Things.{Thing, slot_at, var_at, same_thing, has_thing, thing_of, parents_of, vars_of_sides, vars_of_kind, slots_of_kind, rule_reads, reads_in}

@@ -3,5 +3,7 @@
 
 pub mod evaluating;
 pub mod laws;
+pub mod rooms;
 
 pub use evaluating::evaluate;
+pub use rooms::new_yield;
