@@ -42,7 +42,7 @@ use Rattle.vc_rule_table.proofs.CellLemmas.{element_after}
 use Rattle.vc_rule_table.proofs.FollowingLaws.{all_kept, all_joined}
 
 -- as many numbers pass as elements do, where others come before
-numbers_counted : (test : Piece → Bool) (before after : List Piece)
+pub numbers_counted : (test : Piece → Bool) (before after : List Piece)
     → length (filter (λ g. passes test (slice_get (before ++ after) g)) (range_with_len (length before) (length after))) ≡ length (filter test after)
 numbers_counted test before [] = refl
 numbers_counted test before (x ∷ after) =
@@ -127,7 +127,7 @@ held_once (Nums decimals grains) (Num n) h =
     and_parts (is_ascending grains) (list_all (λ grain. has_decimals decimals grain.low && has_decimals decimals grain.high) grains) h in
     number_once n grains p.0
 
-variable_holds_once : (plan : Plan) → list_all is_proper plan.domains ≡ true → (o : Option Var) (a : Value)
+pub variable_holds_once : (plan : Plan) → list_all is_proper plan.domains ≡ true → (o : Option Var) (a : Value)
     → length (filter (lies_in a) (grains_in (domain_of plan o))) ≤ 1
 variable_holds_once plan proper None a = omega arith
 variable_holds_once plan proper (Some x) a = by (slice_get plan.domains x.domain) (all_get is_proper plan.domains x.domain proper)
