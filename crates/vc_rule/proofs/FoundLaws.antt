@@ -36,11 +36,13 @@ given_with : (why : List Atom) (s : Said) → given_of (said_with why s) ≡ giv
 given_with why (clashing premises) = refl
 given_with why (concluding cs) = ap atoms (same cs)
   where
-    same : (cs : List Conclusion) → map (λ (c : Conclusion). c.atom) (map (conclusion_with why) cs) ≡ map (λ (c : Conclusion). c.atom) cs
+    same : (cs : List Conclusion) → map (λ (c : Conclusion). c.atom) (map (conclusion_with why) cs)
+        ≡ map (λ (c : Conclusion). c.atom) cs
     same [] = refl
     same (c ∷ cs) = ap (λ xs. c.atom ∷ xs) (same cs)
 
-kind_is_given : (plan : Plan) (seen : Seen) (rule : Rule) (kind : Kind) → given_of (kind_said plan seen rule kind) ≡ fresh seen (kind_gives plan seen rule kind)
+kind_is_given : (plan : Plan) (seen : Seen) (rule : Rule) (kind : Kind)
+    → given_of (kind_said plan seen rule kind) ≡ fresh seen (kind_gives plan seen rule kind)
 kind_is_given plan seen rule (Among v restriction) =
     fresh_is_said seen (why_among plan seen rule v restriction) (among plan seen rule v restriction)
 kind_is_given plan seen rule (Compare r a b) = compare_is_said plan seen rule r a b
@@ -59,7 +61,8 @@ found_is_given plan sources seen r = by (slice_get plan.rules r)
         let why = why_it_acts plan seen rule in
         let said = kind_said plan seen rule rule.kind in
         elim (acts plan seen rule) as (λ b.
-        given_of (cond b (said_with why said) silent) ≡ fresh seen (cond b (kind_gives plan seen rule rule.kind) nothing)) [
+        given_of (cond b (said_with why said) silent)
+        ≡ fresh seen (cond b (kind_gives plan seen rule rule.kind) nothing)) [
           | true ↦ given_with why said ∙ kind_is_given plan seen rule rule.kind
           | false ↦ refl
         ]
@@ -69,7 +72,8 @@ once_with : (why : List Atom) (s : Said) → EachList (IsDistinct same_atom) (sa
 once_with why (clashing premises) = each_is_cited_once (why ++ premises)
 once_with why (concluding cs) = all_of cs
   where
-    all_of : (cs : List Conclusion) → AllByRecursion (λ (c : Conclusion). IsDistinct same_atom c.premises) (map (conclusion_with why) cs)
+    all_of : (cs : List Conclusion) → AllByRecursion (λ (c : Conclusion). IsDistinct same_atom c.premises)
+        (map (conclusion_with why) cs)
     all_of [] = tt
     all_of (c ∷ cs) = (each_is_cited_once (why ++ c.premises), all_of cs)
 
@@ -80,7 +84,8 @@ found_once plan seen r = by (slice_get plan.rules r)
     by None = tt
     by (Some rule) =
         elim (acts plan seen rule) as (λ b.
-        EachList (IsDistinct same_atom) (cond b (said_with (why_it_acts plan seen rule) (kind_said plan seen rule rule.kind)) silent)) [
+        EachList (IsDistinct same_atom) (cond b
+        (said_with (why_it_acts plan seen rule) (kind_said plan seen rule rule.kind)) silent)) [
           | true ↦ once_with (why_it_acts plan seen rule) (kind_said plan seen rule rule.kind)
           | false ↦ tt
         ]
@@ -88,17 +93,21 @@ found_once plan seen r = by (slice_get plan.rules r)
 no_root : (premises : List Atom) → list_all (λ a. not (same_atom (Here 0) a)) (cited_once premises) ≡ true
 no_root premises =
     all_from same_atom atom_exact atom_itself (λ a. not (same_atom (Here 0) a)) (cited_once premises)
-    (λ a h. let k : (has same_atom premises a ≡ true) × (same_atom (Here 0) a ≡ false) = nothing_else_is_cited premises a h in ap not k.1)
+    (λ a h. let k : (has same_atom premises a ≡ true) × (same_atom (Here 0) a ≡ false) =
+    nothing_else_is_cited premises a h in ap not k.1)
 
 root_with : (why : List Atom) (s : Said) → each_premise (λ a. not (same_atom (Here 0) a)) (said_with why s) ≡ true
 root_with why (clashing premises) = no_root (why ++ premises)
 root_with why (concluding cs) = all_of cs
   where
-    all_of : (cs : List Conclusion) → list_all (λ (c : Conclusion). list_all (λ a. not (same_atom (Here 0) a)) c.premises) (map (conclusion_with why) cs) ≡ true
+    all_of : (cs : List Conclusion) → list_all
+        (λ (c : Conclusion). list_all (λ a. not (same_atom (Here 0) a)) c.premises) (map (conclusion_with why) cs)
+        ≡ true
     all_of [] = refl
     all_of (c ∷ cs) =
         and_from (list_all (λ a. not (same_atom (Here 0) a)) (cited_once (why ++ c.premises)))
-        (list_all (λ (c : Conclusion). list_all (λ a. not (same_atom (Here 0) a)) c.premises) (map (conclusion_with why) cs))
+        (list_all (λ (c : Conclusion). list_all (λ a. not (same_atom (Here 0) a)) c.premises)
+        (map (conclusion_with why) cs))
         (no_root (why ++ c.premises)) (all_of cs)
 
 pub found_beside_root : FoundBesideRoot
@@ -108,7 +117,8 @@ found_beside_root plan seen r = by (slice_get plan.rules r)
     by None = refl
     by (Some rule) =
         elim (acts plan seen rule) as (λ b.
-        each_premise (λ a. not (same_atom (Here 0) a)) (cond b (said_with (why_it_acts plan seen rule) (kind_said plan seen rule rule.kind)) silent) ≡ true) [
+        each_premise (λ a. not (same_atom (Here 0) a))
+        (cond b (said_with (why_it_acts plan seen rule) (kind_said plan seen rule rule.kind)) silent) ≡ true) [
           | true ↦ root_with (why_it_acts plan seen rule) (kind_said plan seen rule rule.kind)
           | false ↦ refl
         ]

@@ -21,7 +21,8 @@ use Rattle.vc_plan.specs.Kleene.{is_false}
 use Rattle.vc_plan.specs.Pieces.{turned}
 use Rattle.vc_plan.specs.Readings.{net_reading}
 use Rattle.vc_plan.specs.Reads.{vars_of_term}
-use Rattle.vc_plan.specs.Restrictions.{confined, is_inferred, lone_in, lone, if_inferred, lone_inferred, equal_to, decimals_in_side, differ}
+use Rattle.vc_plan.specs.Restrictions.{confined, is_inferred, lone_in, lone, if_inferred, lone_inferred, equal_to}
+use Rattle.vc_plan.specs.Restrictions.{decimals_in_side, differ}
 use Rattle.vc_plan.specs.Seen.{Seen, same_atom}
 use Rattle.vc_plan.specs.Truth.{compared, value_at}
 use Rattle.vc_plan.proofs.PlanLaws.Atoms.{atom_exact, atom_itself}
@@ -29,7 +30,8 @@ use Rattle.vc_plan_reasons.specs.Things.{vars_of_sides}
 use Rattle.vc_rule_yield.specs.Yielding.{Conclusion}
 use Rattle.vc_rule_premises.specs.Cited.{cited_once}
 use Rattle.vc_rule_premises.specs.Citing.{value_of, values_of}
-use Rattle.vc_rule_premises.specs.Saying.{Said, clashing, concluding, together, clash_when, conclusion_with, said_from, said_with}
+use Rattle.vc_rule_premises.specs.Saying.{Said, clashing, concluding, together, clash_when, conclusion_with, said_from}
+use Rattle.vc_rule_premises.specs.Saying.{said_with}
 use Rattle.vc_rule_premises.specs.Sufficing.{each_premise}
 use Rattle.vc_rule_premises.proofs.CitedLaws.{nothing_else_is_cited}
 use Rattle.vc_rule_premises.proofs.SufficingLaws.{each_from}
@@ -38,7 +40,8 @@ use Rattle.vc_rule_sides.specs.Comparing.{values_in, may_relate, related_said, c
 use Rattle.vc_rule_sides.specs.Equating.{equate_said}
 
 -- what two lists pass, both together pass
-pub both_pass : (test : Atom → Bool) (xs ys : List Atom) → list_all test xs ≡ true → list_all test ys ≡ true → list_all test (xs ++ ys) ≡ true
+pub both_pass : (test : Atom → Bool) (xs ys : List Atom) → list_all test xs ≡ true → list_all test ys ≡ true
+    → list_all test (xs ++ ys) ≡ true
 both_pass test xs ys p q = list_all-append test xs ys ∙ and_from (list_all test xs) (list_all test ys) p q
 
 -- what a list passes, what is cited of it passes
@@ -49,7 +52,8 @@ cited_pass test xs e =
     all_at same_atom atom_exact atom_itself test xs a e k.0)
 
 -- so does what is said with more cited first
-pub each_with : (test : Atom → Bool) (why : List Atom) (s : Said) → list_all test why ≡ true → each_premise test s ≡ true
+pub each_with : (test : Atom → Bool) (why : List Atom) (s : Said) → list_all test why ≡ true
+    → each_premise test s ≡ true
     → each_premise test (said_with why s) ≡ true
 each_with test why (clashing premises) p q = cited_pass test (why ++ premises) (both_pass test why premises p q)
 each_with test why (concluding cs) p q = all_of cs q
@@ -58,41 +62,50 @@ each_with test why (concluding cs) p q = all_of cs q
         → list_all (λ (c : Conclusion). list_all test c.premises) (map (conclusion_with why) cs) ≡ true
     all_of [] h = refl
     all_of (c ∷ cs) h =
-        let k : (list_all test c.premises ≡ true) × (list_all (λ (c : Conclusion). list_all test c.premises) cs ≡ true) =
+        let k : (list_all test c.premises ≡ true)
+        × (list_all (λ (c : Conclusion). list_all test c.premises) cs ≡ true) =
         and_parts (list_all test c.premises) (list_all (λ (c : Conclusion). list_all test c.premises) cs) h in
-        and_from (list_all test (cited_once (why ++ c.premises))) (list_all (λ (c : Conclusion). list_all test c.premises) (map (conclusion_with why) cs))
+        and_from (list_all test (cited_once (why ++ c.premises)))
+        (list_all (λ (c : Conclusion). list_all test c.premises) (map (conclusion_with why) cs))
         (cited_pass test (why ++ c.premises) (both_pass test why c.premises p k.0)) (all_of cs k.1)
 
 -- and what is said together
-each_together : (test : Atom → Bool) (s t : Said) → each_premise test s ≡ true → each_premise test t ≡ true → each_premise test (together s t) ≡ true
+each_together : (test : Atom → Bool) (s t : Said) → each_premise test s ≡ true → each_premise test t ≡ true
+    → each_premise test (together s t) ≡ true
 each_together test (clashing premises) t p q = p
 each_together test (concluding cs) (clashing premises) p q = q
 each_together test (concluding cs) (concluding ds) p q =
     list_all-append (λ (c : Conclusion). list_all test c.premises) cs ds
-    ∙ and_from (list_all (λ (c : Conclusion). list_all test c.premises) cs) (list_all (λ (c : Conclusion). list_all test c.premises) ds) p q
+    ∙ and_from (list_all (λ (c : Conclusion). list_all test c.premises) cs)
+    (list_all (λ (c : Conclusion). list_all test c.premises) ds) p q
 
-each_when : (test : Atom → Bool) (b : Bool) (premises : List Atom) (s : Said) → list_all test premises ≡ true → each_premise test s ≡ true
+each_when : (test : Atom → Bool) (b : Bool) (premises : List Atom) (s : Said) → list_all test premises ≡ true
+    → each_premise test s ≡ true
     → each_premise test (clash_when b premises s) ≡ true
 each_when test true premises s p q = p
 each_when test false premises s p q = q
 
 -- whether all that stands of a variable passes
 abbrev pub VarPasses : (Atom → Bool) → Seen → ℕ → Type 0
-VarPasses test seen v = ((g : ℕ) → seen.out v g ≡ true → test (Out v g) ≡ true) × ((a : Value) → seen.value v ≡ Some a → test (Is v a) ≡ true)
+VarPasses test seen v = ((g : ℕ) → seen.out v g ≡ true → test (Out v g) ≡ true)
+    × ((a : Value) → seen.value v ≡ Some a → test (Is v a) ≡ true)
 
 abbrev pub VarsPass : (Atom → Bool) → Seen → List ℕ → Type 0
 VarsPass test seen vs = AllByRecursion (VarPasses test seen) vs
 
-value_passes : (test : Atom → Bool) (seen : Seen) (v : ℕ) → VarPasses test seen v → list_all test (value_of seen v) ≡ true
+value_passes : (test : Atom → Bool) (seen : Seen) (v : ℕ) → VarPasses test seen v
+    → list_all test (value_of seen v) ≡ true
 value_passes test seen v p = by (seen.value v) refl
   where
     by : (o : Option Value) → seen.value v ≡ o → list_all test (value_atoms v o) ≡ true
     by None e = refl
     by (Some a) e = and_from (test (Is v a)) true (p.1 a e) refl
 
-pub values_pass : (test : Atom → Bool) (seen : Seen) (vs : List ℕ) → VarsPass test seen vs → list_all test (values_of seen vs) ≡ true
+pub values_pass : (test : Atom → Bool) (seen : Seen) (vs : List ℕ) → VarsPass test seen vs
+    → list_all test (values_of seen vs) ≡ true
 values_pass test seen [] p = refl
-values_pass test seen (v ∷ vs) p = both_pass test (value_of seen v) (values_of seen vs) (value_passes test seen v p.0) (values_pass test seen vs p.1)
+values_pass test seen (v ∷ vs) p = both_pass test (value_of seen v) (values_of seen vs) (value_passes test seen v p.0)
+    (values_pass test seen vs p.1)
 
 vars_front : (test : Atom → Bool) (seen : Seen) (vs ws : List ℕ) → VarsPass test seen (vs ++ ws) → VarsPass test seen vs
 vars_front test seen [] ws p = tt
@@ -108,13 +121,17 @@ outs_pass : (test : Atom → Bool) (seen : Seen) (v : ℕ) (pass : ℕ → Bool)
 outs_pass test seen v pass p [] = refl
 outs_pass test seen v pass p (g ∷ gs) = step (seen.out v g) (pass g) refl (outs_pass test seen v pass p gs)
   where
-    step : (o q : Bool) → seen.out v g ≡ o → list_all test (map (Out v) (filter (λ n. seen.out v n && pass n) gs)) ≡ true
-        → list_all test (map (Out v) (cond (o && q) (g ∷ filter (λ n. seen.out v n && pass n) gs) (filter (λ n. seen.out v n && pass n) gs))) ≡ true
-    step true true e all = and_from (test (Out v g)) (list_all test (map (Out v) (filter (λ n. seen.out v n && pass n) gs))) (p.0 g e) all
+    step : (o q : Bool) → seen.out v g ≡ o → list_all test (map (Out v) (filter (λ n. seen.out v n && pass n) gs))
+        ≡ true
+        → list_all test (map (Out v) (cond (o && q) (g ∷ filter (λ n. seen.out v n && pass n) gs)
+        (filter (λ n. seen.out v n && pass n) gs))) ≡ true
+    step true true e all = and_from (test (Out v g))
+        (list_all test (map (Out v) (filter (λ n. seen.out v n && pass n) gs))) (p.0 g e) all
     step true false e all = all
     step false q e all = all
 
-confined_passes : (test : Atom → Bool) (plan : Plan) (seen : Seen) (v : ℕ) (piece : Piece → Bool) → VarPasses test seen v
+confined_passes : (test : Atom → Bool) (plan : Plan) (seen : Seen) (v : ℕ) (piece : Piece → Bool)
+    → VarPasses test seen v
     → list_all test (why_confined plan seen v piece) ≡ true
 confined_passes test plan seen v piece p = by (is_restrictable plan v)
   where
@@ -127,7 +144,8 @@ confined_passes test plan seen v piece p = by (is_restrictable plan v)
     by false = left_by (seen.value v) refl
 
 -- a side that is one variable alone reads that
-lone_passes : (test : Atom → Bool) (seen : Seen) (o : Option Term) (v : ℕ) → lone_in o ≡ Some v → VarsPass test seen (vars_of_term o) → VarPasses test seen v
+lone_passes : (test : Atom → Bool) (seen : Seen) (o : Option Term) (v : ℕ) → lone_in o ≡ Some v
+    → VarsPass test seen (vars_of_term o) → VarPasses test seen v
 lone_passes test seen None v e p = absurd (cc)
 lone_passes test seen (Some (Literal a)) v e p = absurd (cc)
 lone_passes test seen (Some (Read w)) v e p = subst (VarPasses test seen) (some_is w v e) p.0
@@ -147,15 +165,19 @@ inferred_is rule (Some w) v e = by (is_inferred rule w) e
     by true k = k
     by false k = absurd (cc)
 
-related_passes : (test : Atom → Bool) (plan : Plan) (seen : Seen) (r : Relation) (v : Option ℕ) (others : List Atom) (a : Option Value)
-    → ((w : ℕ) → v ≡ Some w → VarPasses test seen w) → list_all test others ≡ true → each_premise test (related_said plan seen r v others a) ≡ true
+related_passes : (test : Atom → Bool) (plan : Plan) (seen : Seen) (r : Relation) (v : Option ℕ) (others : List Atom)
+    (a : Option Value)
+    → ((w : ℕ) → v ≡ Some w → VarPasses test seen w) → list_all test others ≡ true
+    → each_premise test (related_said plan seen r v others a) ≡ true
 related_passes test plan seen r None others a f p = refl
 related_passes test plan seen r (Some v) others None f p = refl
 related_passes test plan seen r (Some v) others (Some a) f p =
     each_from test seen (others ++ why_confined plan seen v (may_relate r a)) (confined plan seen v (may_relate r a))
-    (both_pass test others (why_confined plan seen v (may_relate r a)) p (confined_passes test plan seen v (may_relate r a) (f v refl)))
+    (both_pass test others (why_confined plan seen v (may_relate r a)) p
+    (confined_passes test plan seen v (may_relate r a) (f v refl)))
 
-pub compare_passes : (test : Atom → Bool) (plan : Plan) (seen : Seen) (rule : Rule) (r : Relation) (a b : ℕ) → VarsPass test seen (vars_of_sides plan a b)
+pub compare_passes : (test : Atom → Bool) (plan : Plan) (seen : Seen) (rule : Rule) (r : Relation) (a b : ℕ)
+    → VarsPass test seen (vars_of_sides plan a b)
     → each_premise test (compare_said plan seen rule r a b) ≡ true
 compare_passes test plan seen rule r a b p =
     let first = value_at plan (net_reading seen) a in
@@ -167,15 +189,20 @@ compare_passes test plan seen rule r a b p =
     let v = lone_inferred plan rule a in
     let w = lone_inferred plan rule b in
     each_when test (is_false (compared r first second)) (values_in plan seen a ++ values_in plan seen b)
-    (together (related_said plan seen r v (values_in plan seen b) second) (related_said plan seen (turned r) w (values_in plan seen a) first))
+    (together (related_said plan seen r v (values_in plan seen b) second)
+    (related_said plan seen (turned r) w (values_in plan seen a) first))
     (both_pass test (values_in plan seen a) (values_in plan seen b) of_a of_b)
-    (each_together test (related_said plan seen r v (values_in plan seen b) second) (related_said plan seen (turned r) w (values_in plan seen a) first)
+    (each_together test (related_said plan seen r v (values_in plan seen b) second)
+    (related_said plan seen (turned r) w (values_in plan seen a) first)
     (related_passes test plan seen r v (values_in plan seen b) second
-    (λ x e. lone_passes test seen (slice_get plan.terms a) x (inferred_is rule (lone plan a) x e) (vars_front test seen s t p)) of_b)
+    (λ x e. lone_passes test seen (slice_get plan.terms a) x (inferred_is rule (lone plan a) x e)
+    (vars_front test seen s t p)) of_b)
     (related_passes test plan seen (turned r) w (values_in plan seen a) first
-    (λ x e. lone_passes test seen (slice_get plan.terms b) x (inferred_is rule (lone plan b) x e) (vars_back test seen s t p)) of_a))
+    (λ x e. lone_passes test seen (slice_get plan.terms b) x (inferred_is rule (lone plan b) x e)
+    (vars_back test seen s t p)) of_a))
 
-pub equate_passes : (test : Atom → Bool) (plan : Plan) (seen : Seen) (rule : Rule) (a b : ℕ) → VarsPass test seen (vars_of_sides plan a b)
+pub equate_passes : (test : Atom → Bool) (plan : Plan) (seen : Seen) (rule : Rule) (a b : ℕ)
+    → VarsPass test seen (vars_of_sides plan a b)
     → each_premise test (equate_said plan seen rule a b) ≡ true
 equate_passes test plan seen rule a b p =
     let first = value_at plan (net_reading seen) a in
@@ -187,8 +214,12 @@ equate_passes test plan seen rule a b p =
     let v = lone_inferred plan rule a in
     let w = lone_inferred plan rule b in
     let decimals = min (decimals_in_side plan (lone plan a)) (decimals_in_side plan (lone plan b)) in
-    each_when test ((is_none v && is_none w) && differ decimals first second) (values_in plan seen a ++ values_in plan seen b)
-    (together (said_from seen (values_in plan seen b) (equal_to plan v second)) (said_from seen (values_in plan seen a) (equal_to plan w first)))
+    each_when test ((is_none v && is_none w) && differ decimals first second)
+    (values_in plan seen a ++ values_in plan seen b)
+    (together (said_from seen (values_in plan seen b) (equal_to plan v second))
+    (said_from seen (values_in plan seen a) (equal_to plan w first)))
     (both_pass test (values_in plan seen a) (values_in plan seen b) of_a of_b)
-    (each_together test (said_from seen (values_in plan seen b) (equal_to plan v second)) (said_from seen (values_in plan seen a) (equal_to plan w first))
-    (each_from test seen (values_in plan seen b) (equal_to plan v second) of_b) (each_from test seen (values_in plan seen a) (equal_to plan w first) of_a))
+    (each_together test (said_from seen (values_in plan seen b) (equal_to plan v second))
+    (said_from seen (values_in plan seen a) (equal_to plan w first))
+    (each_from test seen (values_in plan seen b) (equal_to plan v second) of_b)
+    (each_from test seen (values_in plan seen a) (equal_to plan w first) of_a))

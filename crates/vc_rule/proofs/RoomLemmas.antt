@@ -15,7 +15,8 @@ max_zero a = omega arith
 
 -- one more taken, and none left
 pub one_greater : (plan : Plan) (all : Rooms) (so_far now next : Room) (rule : Rule) (rest : List Rule)
-    → greater (room_in so_far) (rooms_of_rules plan (rule ∷ rest)) ≡ all → room_in now ≡ room_of_kind plan rule rule.kind
+    → greater (room_in so_far) (rooms_of_rules plan (rule ∷ rest)) ≡ all
+    → room_in now ≡ room_of_kind plan rule rule.kind
     → room_in next ≡ greater (room_in so_far) (room_in now) → greater (room_in next) (rooms_of_rules plan rest) ≡ all
 one_greater plan all so_far now next rule rest e k h =
     let s = room_in so_far in
@@ -28,7 +29,8 @@ one_greater plan all so_far now next rule rest e k h =
       premises = max_assoc s.premises m.premises later.premises i;
     }) ∙ e)
 
-pub none_greater : (plan : Plan) (all : Rooms) (so_far : Room) → greater (room_in so_far) (rooms_of_rules plan []) ≡ all → room_in so_far ≡ all
+pub none_greater : (plan : Plan) (all : Rooms) (so_far : Room)
+    → greater (room_in so_far) (rooms_of_rules plan []) ≡ all → room_in so_far ≡ all
 none_greater plan all so_far e =
     sym (λ i. record {
       cites = max_zero so_far.cites i;

@@ -34,17 +34,23 @@ all_stand : (seen : Seen) (vs : List ℕ) → VarsPass (says seen) seen vs
 all_stand seen [] = tt
 all_stand seen (v ∷ vs) = ((λ g e. e, λ a e. value_says seen v a e), all_stand seen vs)
 
-pub acting_stands : (plan : Plan) (seen : Seen) (rule : Rule) → acts plan seen rule ≡ true → SaysAll seen (why_it_acts plan seen rule)
+pub acting_stands : (plan : Plan) (seen : Seen) (rule : Rule) → acts plan seen rule ≡ true
+    → SaysAll seen (why_it_acts plan seen rule)
 acting_stands plan seen rule e =
     let vs = deciding_if seen (slice_get plan.conditions rule.condition) in
-    let h : (list_all seen.here rule.slots ≡ true) × (is_true (truth_at plan (net_reading seen) rule.condition) ≡ true) =
+    let h : (list_all seen.here rule.slots ≡ true)
+    × (is_true (truth_at plan (net_reading seen) rule.condition) ≡ true) =
     and_parts (list_all seen.here rule.slots) (is_true (truth_at plan (net_reading seen) rule.condition)) e in
-    both_pass (says seen) (map Here rule.slots) (values_of seen vs) (slots_stand seen rule.slots h.0) (values_pass (says seen) seen vs (all_stand seen vs))
+    both_pass (says seen) (map Here rule.slots) (values_of seen vs) (slots_stand seen rule.slots h.0)
+    (values_pass (says seen) seen vs (all_stand seen vs))
 
-kind_stands : (plan : Plan) (seen : Seen) (rule : Rule) (kind : Kind) → each_premise (says seen) (kind_said plan seen rule kind) ≡ true
+kind_stands : (plan : Plan) (seen : Seen) (rule : Rule) (kind : Kind)
+    → each_premise (says seen) (kind_said plan seen rule kind) ≡ true
 kind_stands plan seen rule (Among v restriction) = among_stands plan seen rule v restriction
-kind_stands plan seen rule (Compare r a b) = compare_passes (says seen) plan seen rule r a b (all_stand seen (vars_of_sides plan a b))
-kind_stands plan seen rule (Equate a b) = equate_passes (says seen) plan seen rule a b (all_stand seen (vars_of_sides plan a b))
+kind_stands plan seen rule (Compare r a b) = compare_passes (says seen) plan seen rule r a b
+    (all_stand seen (vars_of_sides plan a b))
+kind_stands plan seen rule (Equate a b) = equate_passes (says seen) plan seen rule a b
+    (all_stand seen (vars_of_sides plan a b))
 kind_stands plan seen rule (ByTable table columns) = table_stands plan seen rule table columns
 kind_stands plan seen rule Never = refl
 kind_stands plan seen rule (Last v) = last_stands plan seen v
@@ -54,9 +60,11 @@ pub found_stands : FoundStands
 found_stands plan seen r = by (slice_get plan.rules r)
   where
     acting : (rule : Rule) (b : Bool) → acts plan seen rule ≡ b
-        → each_premise (says seen) (cond b (said_with (why_it_acts plan seen rule) (kind_said plan seen rule rule.kind)) silent) ≡ true
+        → each_premise (says seen) (cond b (said_with (why_it_acts plan seen rule)
+        (kind_said plan seen rule rule.kind)) silent) ≡ true
     acting rule true e =
-        each_with (says seen) (why_it_acts plan seen rule) (kind_said plan seen rule rule.kind) (acting_stands plan seen rule e)
+        each_with (says seen) (why_it_acts plan seen rule) (kind_said plan seen rule rule.kind)
+        (acting_stands plan seen rule e)
         (kind_stands plan seen rule rule.kind)
     acting rule false e = refl
 

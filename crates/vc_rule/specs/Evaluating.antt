@@ -31,7 +31,8 @@ kind_said plan seen rule (Line i) = line_said plan seen i
 abbrev pub found_by : Plan → Seen → Option Rule → Said
 found_by plan seen None = silent
 found_by plan seen (Some rule) =
-    let said = said_with (why_it_acts plan seen rule) (kind_said plan seen rule rule.kind) in if acts plan seen rule then said else silent
+    let said = said_with (why_it_acts plan seen rule) (kind_said plan seen rule rule.kind) in
+    if acts plan seen rule then said else silent
 
 abbrev pub found_at : Plan → Seen → ℕ → Said
 found_at plan seen r = found_by plan seen (slice_get plan.rules r)
@@ -39,7 +40,8 @@ found_at plan seen r = found_by plan seen (slice_get plan.rules r)
 -- how a yield takes what a rule says
 abbrev pub taken_from : Plan → Seen → Rule → Yielded → Yielded
 taken_from plan seen rule y =
-    let more = taken (cited_all y (why_it_acts plan seen rule)) (kind_said plan seen rule rule.kind) in if acts plan seen rule then more else y
+    let more = taken (cited_all y (why_it_acts plan seen rule)) (kind_said plan seen rule rule.kind) in
+    if acts plan seen rule then more else y
 
 -- terms and conditions fit, and a number of 32 bits tells each grain
 pub record RulesFit (plan : Plan) : Type 0 where

@@ -14,7 +14,8 @@ use Rattle.vc_rule.specs.Evaluating.{found_at}
 
 -- without what it follows from it is what the rule gives
 abbrev pub FoundIsGiven : Type 0
-FoundIsGiven = (plan : Plan) (sources : Sources) (seen : Seen) (r : ℕ) → given_of (found_at plan seen r) ≡ gives plan sources (by_rule r) seen
+FoundIsGiven = (plan : Plan) (sources : Sources) (seen : Seen) (r : ℕ)
+    → given_of (found_at plan seen r) ≡ gives plan sources (by_rule r) seen
 
 -- each premise stands
 abbrev pub FoundStands : Type 0
@@ -30,7 +31,8 @@ abbrev pub FoundOnce : Type 0
 FoundOnce = (plan : Plan) (seen : Seen) (r : ℕ) → EachList (IsDistinct same_atom) (found_at plan seen r)
 
 abbrev pub FoundBesideRoot : Type 0
-FoundBesideRoot = (plan : Plan) (seen : Seen) (r : ℕ) → each_premise (λ a. not (same_atom (Here 0) a)) (found_at plan seen r) ≡ true
+FoundBesideRoot = (plan : Plan) (seen : Seen) (r : ℕ)
+    → each_premise (λ a. not (same_atom (Here 0) a)) (found_at plan seen r) ≡ true
 
 -- each premise is of a slot or a variable that the rule reads
 abbrev pub FoundIsRead : Type 0

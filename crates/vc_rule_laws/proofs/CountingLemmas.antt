@@ -1,5 +1,6 @@
 -- How many premises are cited at most: of each variable one value, of each grain that it is out.
-use Rattle.std.proofs.Common.{◌≡◌, ℕ, ◌+◌, ◌≤◌, Bool, true, false, cond, not, ◌&&◌, ◌⊎◌, List, [], ◌∷◌, ◌++◌, length, map, refl, sym, subst, inl, inr, arith, length-append}
+use Rattle.std.proofs.Common.{◌≡◌, ℕ, ◌+◌, ◌≤◌, Bool, true, false, cond, not, ◌&&◌, ◌⊎◌, List, [], ◌∷◌, ◌++◌, length}
+use Rattle.std.proofs.Common.{map, refl, sym, subst, inl, inr, arith, length-append}
 use Rattle.std.specs.Prelude.{◌==◌, nat_eq, Option, None, Some, slice_get}
 use Rattle.std.specs.List.{filter, list_any}
 use Rattle.std.specs.Option.{option_to_list}
@@ -42,25 +43,30 @@ both_within xs ys whole more f g a h =
 
 pub few_cited : (premises all : List Atom) → Within same_atom premises all → length (cited_once premises) ≤ length all
 few_cited premises all f =
-    few_are_cited premises all (λ a h. let k : (has same_atom premises a ≡ true) × (same_atom (Here 0) a ≡ false) = nothing_else_is_cited premises a h in f a k.0)
+    few_are_cited premises all (λ a h. let k : (has same_atom premises a ≡ true) × (same_atom (Here 0) a ≡ false) =
+    nothing_else_is_cited premises a h in f a k.0)
 
 -- a list with each number once has the same numbers, and isn't longer
 any_has : (x : ℕ) (xs : List ℕ) → list_any (λ y. y == x) xs ≡ true → has nat_eq xs x ≡ true
 any_has x [] e = e
 any_has x (y ∷ ys) e =
     elim (or_cases (y == x) (list_any (λ z. z == x) ys) e) [
-      | inl q ↦ subst (λ z. has nat_eq (z ∷ ys) x ≡ true) (sym (eqb-true y x q)) (has_first nat_eq number_exact number_itself x ys)
+      | inl q ↦ subst (λ z. has nat_eq (z ∷ ys) x ≡ true) (sym (eqb-true y x q))
+          (has_first nat_eq number_exact number_itself x ys)
       | inr q ↦ has_more nat_eq number_exact number_itself y ys x (any_has x ys q)
     ]
 
 pub distinct_has : (xs : List ℕ) → Within nat_eq xs (distinct xs)
 distinct_has [] a h = h
-distinct_has (x ∷ xs) a h = by (distinct_has xs a) (list_any (λ y. y == x) xs) refl (has_cases nat_eq number_exact number_itself x xs a h)
+distinct_has (x ∷ xs) a h = by (distinct_has xs a) (list_any (λ y. y == x) xs) refl
+    (has_cases nat_eq number_exact number_itself x xs a h)
   where
-    by : (has nat_eq xs a ≡ true → has nat_eq (distinct xs) a ≡ true) → (b : Bool) → list_any (λ y. y == x) xs ≡ b → (a ≡ x) ⊎ (has nat_eq xs a ≡ true) → has nat_eq (cond b (distinct xs) (x ∷ distinct xs)) a ≡ true
+    by : (has nat_eq xs a ≡ true → has nat_eq (distinct xs) a ≡ true) → (b : Bool) → list_any (λ y. y == x) xs ≡ b
+        → (a ≡ x) ⊎ (has nat_eq xs a ≡ true) → has nat_eq (cond b (distinct xs) (x ∷ distinct xs)) a ≡ true
     by f true e (inl q) = f (subst (λ z. has nat_eq xs z ≡ true) (sym q) (any_has x xs e))
     by f true e (inr k) = f k
-    by f false e (inl q) = subst (λ z. has nat_eq (x ∷ distinct xs) z ≡ true) (sym q) (has_first nat_eq number_exact number_itself x (distinct xs))
+    by f false e (inl q) = subst (λ z. has nat_eq (x ∷ distinct xs) z ≡ true) (sym q)
+        (has_first nat_eq number_exact number_itself x (distinct xs))
     by f false e (inr k) = has_more nat_eq number_exact number_itself x (distinct xs) a (f k)
 
 pub distinct_short : (xs : List ℕ) → length (distinct xs) ≤ length xs
@@ -86,17 +92,20 @@ values_few seen (v ∷ vs) =
     length-append (value_of seen v) (values_of seen vs) in
     omega arith
 
-value_among : (seen : Seen) (ws : List ℕ) (v : ℕ) (a : Atom) → has nat_eq ws v ≡ true → has same_atom (value_of seen v) a ≡ true
+value_among : (seen : Seen) (ws : List ℕ) (v : ℕ) (a : Atom) → has nat_eq ws v ≡ true
+    → has same_atom (value_of seen v) a ≡ true
     → has same_atom (values_of seen ws) a ≡ true
 value_among seen [] v a h k = absurd (cc)
 value_among seen (w ∷ ws) v a h k =
     elim (has_cases nat_eq number_exact number_itself w ws v h) [
       | inl q ↦ has_front same_atom atom_exact atom_itself (value_of seen w) (values_of seen ws) a
           (subst (λ z. has same_atom (value_of seen z) a ≡ true) q k)
-      | inr q ↦ has_back same_atom atom_exact atom_itself (value_of seen w) (values_of seen ws) a (value_among seen ws v a q k)
+      | inr q ↦ has_back same_atom atom_exact atom_itself (value_of seen w) (values_of seen ws) a
+          (value_among seen ws v a q k)
     ]
 
-pub values_within : (seen : Seen) (vs ws : List ℕ) → Within nat_eq vs ws → Within same_atom (values_of seen vs) (values_of seen ws)
+pub values_within : (seen : Seen) (vs ws : List ℕ) → Within nat_eq vs ws
+    → Within same_atom (values_of seen vs) (values_of seen ws)
 values_within seen [] ws f a h = absurd (cc)
 values_within seen (v ∷ vs) ws f a h =
     elim (has_either same_atom atom_exact atom_itself (value_of seen v) (values_of seen vs) a h) [
@@ -109,14 +118,17 @@ abbrev acting_all : Plan → Seen → Rule → List Atom
 acting_all plan seen rule =
     map Here rule.slots ++ values_of seen (distinct (vars_of_condition (slice_get plan.conditions rule.condition)))
 
-condition_within : (seen : Seen) (o : Option Condition) → Within nat_eq (deciding_if seen o) (distinct (vars_of_condition o))
+condition_within : (seen : Seen) (o : Option Condition)
+    → Within nat_eq (deciding_if seen o) (distinct (vars_of_condition o))
 condition_within seen None a h = h
 condition_within seen (Some c) a h = distinct_has (vars_of_condition (Some c)) a (deciding_is_read seen true c a h)
 
-acting_within : (plan : Plan) (seen : Seen) (rule : Rule) → Within same_atom (why_it_acts plan seen rule) (acting_all plan seen rule)
+acting_within : (plan : Plan) (seen : Seen) (rule : Rule)
+    → Within same_atom (why_it_acts plan seen rule) (acting_all plan seen rule)
 acting_within plan seen rule =
     let o = slice_get plan.conditions rule.condition in
-    both_within (map Here rule.slots) (values_of seen (deciding_if seen o)) (map Here rule.slots) (values_of seen (distinct (vars_of_condition o)))
+    both_within (map Here rule.slots) (values_of seen (deciding_if seen o)) (map Here rule.slots)
+    (values_of seen (distinct (vars_of_condition o)))
     (λ a h. h) (values_within seen (deciding_if seen o) (distinct (vars_of_condition o)) (condition_within seen o))
 
 acting_short : (plan : Plan) (seen : Seen) (rule : Rule) → length (acting_all plan seen rule) ≤ acting_size plan rule
@@ -130,7 +142,8 @@ acting_short plan seen rule =
     omega arith
 
 -- so with premises that lie within others there are no more than both
-pub acting_few : (plan : Plan) (seen : Seen) (rule : Rule) (own all : List Atom) (n : ℕ) → Within same_atom own all → length all ≤ n
+pub acting_few : (plan : Plan) (seen : Seen) (rule : Rule) (own all : List Atom) (n : ℕ) → Within same_atom own all
+    → length all ≤ n
     → length (cited_once (why_it_acts plan seen rule ++ own)) ≤ acting_size plan rule + n
 acting_few plan seen rule own all n f few =
     let cites = few_cited (why_it_acts plan seen rule ++ own) (acting_all plan seen rule ++ all)
@@ -144,7 +157,8 @@ acting_few plan seen rule own all n f few =
 pub filter_short : (p : ℕ → Bool) (xs : List ℕ) → length (filter p xs) ≤ length xs
 filter_short p xs = let h = length-filter_both p (λ x. not (p x)) (λ x. refl) xs in omega arith
 
-pub fewer : (p q : ℕ → Bool) → ((g : ℕ) → q g ≡ true → p g ≡ true) → (gs : List ℕ) → length (filter q gs) ≤ length (filter p gs)
+pub fewer : (p q : ℕ → Bool) → ((g : ℕ) → q g ≡ true → p g ≡ true) → (gs : List ℕ)
+    → length (filter q gs) ≤ length (filter p gs)
 fewer p q f [] = omega arith
 fewer p q f (g ∷ gs) = by (q g) (p g) refl refl (fewer p q f gs)
   where
@@ -155,7 +169,8 @@ fewer p q f (g ∷ gs) = by (q g) (p g) refl refl (fewer p q f gs)
     by false true e k h = omega arith
     by false false e k h = h
 
-pub outs_few : (plan : Plan) (seen : Seen) (v : ℕ) (test : Piece → Bool) → length (outs_with plan seen v test) ≤ count_of plan v
+pub outs_few : (plan : Plan) (seen : Seen) (v : ℕ) (test : Piece → Bool)
+    → length (outs_with plan seen v test) ≤ count_of plan v
 outs_few plan seen v test =
     let p = λ (g : ℕ). seen.out v g && is_grain_with plan v test g in
     let those = filter p (numbers_below (count_of plan v)) in
@@ -169,7 +184,8 @@ some_there p [] e = absurd (cc)
 some_there p (x ∷ xs) e = omega arith
 
 -- why no more grains are left is no more than there are
-pub left_few : (plan : Plan) (seen : Seen) (v : ℕ) (test : Piece → Bool) → LiesInGrains plan seen → length (why_left plan seen v test) ≤ count_of plan v
+pub left_few : (plan : Plan) (seen : Seen) (v : ℕ) (test : Piece → Bool) → LiesInGrains plan seen
+    → length (why_left plan seen v test) ≤ count_of plan v
 left_few plan seen v test lies = by (seen.value v) refl
   where
     by : (o : Option Value) → seen.value v ≡ o → length (why_left_by plan seen v test o) ≤ count_of plan v
@@ -177,17 +193,23 @@ left_few plan seen v test lies = by (seen.value v) refl
     by (Some a) e = some_there (lies_in a) (grains_of plan v) (lies v a e)
 
 -- a last grain's value is the variable's
-pub last_is : (plan : Plan) (v : ℕ) (gs : List ℕ) (a : Atom) → has same_atom (last_atoms plan v gs) a ≡ true → (b : Value) × (a ≡ Is v b)
+pub last_is : (plan : Plan) (v : ℕ) (gs : List ℕ) (a : Atom) → has same_atom (last_atoms plan v gs) a ≡ true
+    → (b : Value) × (a ≡ Is v b)
 last_is plan v [] a h = absurd (cc)
 last_is plan v (g ∷ []) a h = by (only_value plan v g) h
   where
     by : (o : Option Value) → has same_atom (value_atoms v o) a ≡ true → (b : Value) × (a ≡ Is v b)
     by None k = absurd (cc)
-    by (Some b) k = elim (has_cases same_atom atom_exact atom_itself (Is v b) [] a k) [ inl q ↦ (b, q) | inr q ↦ absurd (cc) ]
+    by (Some b) k = elim (has_cases same_atom atom_exact atom_itself (Is v b) [] a k) [
+      | inl q ↦ (b, q)
+      | inr q ↦
+          absurd (cc)
+    ]
 last_is plan v (g ∷ (h ∷ more)) a k = absurd (cc)
 
 -- what is mapped is of an element
-pub mapped_is : (f : ℕ → Atom) (xs : List ℕ) (a : Atom) → has same_atom (map f xs) a ≡ true → (x : ℕ) × (a ≡ f x) × (has nat_eq xs x ≡ true)
+pub mapped_is : (f : ℕ → Atom) (xs : List ℕ) (a : Atom) → has same_atom (map f xs) a ≡ true
+    → (x : ℕ) × (a ≡ f x) × (has nat_eq xs x ≡ true)
 mapped_is f [] a h = absurd (cc)
 mapped_is f (x ∷ xs) a h =
     elim (has_cases same_atom atom_exact atom_itself (f x) (map f xs) a h) [

@@ -1,5 +1,6 @@
 -- How much of each kind what is said takes: premises of one conclusion or of a clash, conclusions, premises of all.
-use Rattle.std.proofs.Common.{◌≡◌, ℕ, ◌+◌, ◌*◌, ◌≤◌, Bool, true, false, not, List, [], ◌∷◌, ◌++◌, length, map, refl, sym, ap, subst, arith, length-append}
+use Rattle.std.proofs.Common.{◌≡◌, ℕ, ◌+◌, ◌*◌, ◌≤◌, Bool, true, false, not, List, [], ◌∷◌, ◌++◌, length, map, refl}
+use Rattle.std.proofs.Common.{sym, ap, subst, arith, length-append}
 use Rattle.std.specs.List.{filter, sum_by, AllByRecursion}
 use Rattle.std.proofs.lemmas.List.Filters.{length-filter_both}
 use Rattle.std.proofs.lemmas.List.Sums.{sum_by-append, sum_by-cons}
@@ -9,7 +10,8 @@ use Rattle.vc_plan.specs.declared.atoms.Atom.{Atom}
 use Rattle.vc_plan.specs.Seen.{Seen, says}
 use Rattle.vc_rule_yield.specs.Yielding.{Conclusion, Rooms}
 use Rattle.vc_rule_premises.specs.Cited.{cited_once}
-use Rattle.vc_rule_premises.specs.Saying.{Said, clashing, concluding, together, clash_when, conclusion_from, said_from, conclusion_with, said_with, HasRoomFor}
+use Rattle.vc_rule_premises.specs.Saying.{Said, clashing, concluding, together, clash_when, conclusion_from, said_from}
+use Rattle.vc_rule_premises.specs.Saying.{conclusion_with, said_with, HasRoomFor}
 
 pub times_next : (n a : ℕ) → (n + 1) * a ≡ n * a + a
 times_next n a = omega arith
@@ -24,7 +26,8 @@ weight cs = sum_by (λ (c : Conclusion). length c.premises) cs
 abbrev pub EachAtMost : ℕ → List Conclusion → Type 0
 EachAtMost c cs = AllByRecursion (λ (x : Conclusion). length x.premises ≤ c) cs
 
--- a clash has so many premises at most; of conclusions each has so many, there are so many, and these have so many in all
+-- a clash has so many premises at most; of conclusions each has so many, there are so many, and these have so many
+-- in all
 abbrev pub Takes : ℕ → ℕ → ℕ → Said → Type 0
 Takes c n p (clashing premises) = length premises ≤ c
 Takes c n p (concluding cs) = EachAtMost c cs × (length cs ≤ n) × (weight cs ≤ p)
@@ -34,7 +37,8 @@ each_more b c h [] k = tt
 each_more b c h (x ∷ cs) k = (let first : length x.premises ≤ b = k.0 in omega arith, each_more b c h cs k.1)
 
 -- a yield with so much room has room for it
-pub takes_room : (rooms : Rooms) (c n p : ℕ) (said : Said) → c ≤ rooms.cites → c ≤ rooms.premises → n ≤ rooms.atoms → p ≤ rooms.premises
+pub takes_room : (rooms : Rooms) (c n p : ℕ) (said : Said) → c ≤ rooms.cites → c ≤ rooms.premises → n ≤ rooms.atoms
+    → p ≤ rooms.premises
     → Takes c n p said → HasRoomFor rooms said
 takes_room rooms c n p (clashing premises) h k l m t = (omega arith, omega arith)
 takes_room rooms c n p (concluding cs) h k l m t =
@@ -87,7 +91,8 @@ module _ (seen : Seen) (why : List Atom) where
   Gives m c n p clash = m ≤ c
   Gives m c n p (atoms xs) = (m ≤ c) × (length xs ≤ n) × (length xs * m ≤ p)
 
-  pub from_takes : (own : List Atom) (m c n p : ℕ) (given : Given Atom) → length (cited_once (why ++ own)) ≤ m → Gives m c n p given
+  pub from_takes : (own : List Atom) (m c n p : ℕ) (given : Given Atom) → length (cited_once (why ++ own)) ≤ m
+      → Gives m c n p given
       → Takes c n p (said_with why (said_from seen own given))
   from_takes own m c n p clash few g = omega arith
   from_takes own m c n p (atoms xs) few g =
@@ -99,8 +104,12 @@ module _ (seen : Seen) (why : List Atom) where
       let shorter : length ys ≤ length xs = omega arith in
       let times : length ys * m ≤ length xs * m = mul-le (length ys) m (length xs) m shorter (omega arith) in
       let light = each_light ys in
-      let same = mapped ys in
-      (each_more m c cites (map (conclusion_with why) (map (conclusion_from own) ys)) (each ys), omega arith, omega arith)
+      let same = mapped ys in (
+        each_more m c cites (map (conclusion_with why) (map (conclusion_from own) ys))
+            (each ys),
+        omega arith,
+        omega arith,
+      )
     where
       each : (ys : List Atom) → EachAtMost m (map (conclusion_with why) (map (conclusion_from own) ys))
       each [] = tt

@@ -1,5 +1,5 @@
 -- What is found by a rule has no more premises than its bound.
-use Rattle.std.specs.Prelude.{◌≡◌, ◌≤◌, ℕ, length, slice_get, Some}
+use Rattle.std.specs.Prelude.{◌≡◌, ◌≤◌, ℕ, true, List, length, slice_get, Some}
 use Rattle.std.specs.List.{AllByRecursion}
 use Rattle.vc_plan.specs.declared.atoms.Atom.{Atom}
 use Rattle.vc_plan.specs.declared.atoms.Atom.TheVariants.{Here, Out, Is}
@@ -8,7 +8,8 @@ use Rattle.vc_plan.specs.declared.rules.Kind.{Kind}
 use Rattle.vc_plan.specs.declared.rules.Rule.{Rule}
 use Rattle.vc_plan.specs.Bounds.{Place, here_at, is_at, out_at, here_bound, is_bound, out_bound, kind_clash_bound}
 use Rattle.vc_plan.specs.Bounds.{clash_bound, greatest, place_bound}
-use Rattle.vc_plan.specs.Seen.{Seen}
+use Rattle.vc_plan.specs.Clear.{is_clear}
+use Rattle.vc_plan.specs.Seen.{Seen, seen_of}
 use Rattle.vc_plan.specs.Valid.{IsValid}
 use Rattle.vc_rule_terms.specs.Computing.{LiesInGrains}
 use Rattle.vc_rule_premises.specs.Saying.{Said, clashing, concluding}
@@ -32,7 +33,11 @@ IsWithin plan rule kind (clashing premises) = length premises ≤ kind_clash_bou
 IsWithin plan rule kind (concluding conclusions) =
     AllByRecursion (λ conclusion. length conclusion.premises ≤ kind_bound plan rule kind conclusion.atom) conclusions
 
--- so is what is found by a rule, where values lie in grains
+-- values lie in grains where a clear set says them
+abbrev pub ClearLiesInGrains : Type 0
+ClearLiesInGrains = (plan : Plan) (set : List Atom) → is_clear plan set ≡ true → LiesInGrains plan (seen_of set)
+
+-- there what is found by a rule is within its bounds
 abbrev pub FoundIsFew : Type 0
 FoundIsFew = (plan : Plan) (seen : Seen) (r : ℕ) (rule : Rule) → IsValid plan → LiesInGrains plan seen
     → slice_get plan.rules r ≡ Some rule → IsWithin plan rule rule.kind (found_at plan seen r)

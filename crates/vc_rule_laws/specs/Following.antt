@@ -2,10 +2,11 @@
 use Rattle.std.specs.Prelude.{◌≡◌, ℕ, true, false, List, [], ◌∷◌, ◌++◌, slice_get, Some}
 use Rattle.std.specs.List.{AllByRecursion}
 use Rattle.vc_base.specs.Chains.{cited}
-use Rattle.vc_base.specs.Sets.{has}
+use Rattle.vc_base.specs.Sets.{has, Within}
 use Rattle.vc_plan.specs.declared.atoms.Atom.{Atom}
 use Rattle.vc_plan.specs.declared.atoms.Clash.{Clash}
 use Rattle.vc_plan.specs.declared.atoms.Culprit.TheVariants as culprits
+use Rattle.vc_plan.specs.declared.atoms.Origin.{Origin}
 use Rattle.vc_plan.specs.declared.atoms.Origin.TheVariants as origins
 use Rattle.vc_plan.specs.declared.atoms.Step.{Step}
 use Rattle.vc_plan.specs.declared.plans.Plan.{Plan}
@@ -42,13 +43,6 @@ abbrev pub FoundFollows : Type 0
 FoundFollows = (plan : Plan) (sources : Sources) (set : List Atom) (r : ℕ) → is_clear plan (set_with set) ≡ true
     → AllFollow plan sources r (found_at plan (seen_of (set_with set)) r)
 
--- the same of the conclusion at a place
-abbrev pub FoundFollowsAt : Type 0
-FoundFollowsAt = (plan : Plan) (sources : Sources) (set : List Atom) (r : ℕ) (conclusions : List Conclusion) (n : ℕ)
-    (conclusion : Conclusion)
-    → is_clear plan (set_with set) ≡ true → found_at plan (seen_of (set_with set)) r ≡ concluding conclusions
-    → slice_get conclusions n ≡ Some conclusion → IsStep plan sources r conclusion
-
 -- each premise is of the set, beside that the root is here
 abbrev pub FoundIsConcluded : Type 0
 FoundIsConcluded = (plan : Plan) (set : List Atom) (r : ℕ)
@@ -62,11 +56,36 @@ IsNew seen (concluding conclusions) = AllByRecursion (λ conclusion. says seen c
 abbrev pub FoundIsNew : Type 0
 FoundIsNew = (plan : Plan) (seen : Seen) (r : ℕ) → IsNew seen (found_at plan seen r)
 
--- an accepted log goes on with a step that follows from what it cites of it
-abbrev pub LogsGoOn : Type 0
-LogsGoOn = (plan : Plan) (sources : Sources) (log : List Step) (step : Step) (premises : List Atom)
-    → is_accepted plan sources log ≡ true → cited (concluded log) step.premises ≡ Some premises
-    → follows plan sources step premises ≡ true → is_accepted plan sources (log ++ step ∷ []) ≡ true
+-- an atom may come next to a log by an origin: its premises are concluded there, and it follows from them, by whatever
+-- numbers they are cited
+pub record IsNext (plan : Plan) (sources : Sources) (log : List Step) (atom : Atom) (origin : Origin)
+    (premises : List Atom) : Type 0 where
+  pub there : Within same_atom premises (concluded log)
+  pub from : (numbers : List ℕ)
+      → follows plan sources (record { conclusion = atom; origin = origin; premises = numbers }) premises ≡ true
+
+-- each conclusion found at what a log concludes may, by the rule
+abbrev pub FoundIsNext : Type 0
+FoundIsNext = (plan : Plan) (sources : Sources) (log : List Step) (r : ℕ) (conclusions : List Conclusion) (n : ℕ)
+    (conclusion : Conclusion)
+    → is_clear plan (set_with (concluded log)) ≡ true
+    → found_at plan (seen_of (set_with (concluded log))) r ≡ concluding conclusions
+    → slice_get conclusions n ≡ Some conclusion
+    → IsNext plan sources log conclusion.atom (origins.Rule r) conclusion.premises
+
+-- and still when other steps have come before it
+abbrev pub NextMayWait : Type 0
+NextMayWait = (plan : Plan) (sources : Sources) (log more : List Step) (atom : Atom) (origin : Origin)
+    (premises : List Atom)
+    → IsNext plan sources log atom origin premises → IsNext plan sources (log ++ more) atom origin premises
+
+-- an accepted log goes on with it
+abbrev pub NextIsAccepted : Type 0
+NextIsAccepted = (plan : Plan) (sources : Sources) (log : List Step) (atom : Atom) (origin : Origin)
+    (premises : List Atom) (numbers : List ℕ)
+    → is_accepted plan sources log ≡ true → IsNext plan sources log atom origin premises
+    → cited (concluded log) numbers ≡ Some premises
+    → is_accepted plan sources (log ++ record { conclusion = atom; origin = origin; premises = numbers } ∷ []) ≡ true
 
 -- a clash found at what an accepted log concludes refutes the sources
 abbrev pub FoundRefutes : Type 0
