@@ -7,3 +7,6 @@ pub mod rooms;
 
 pub use evaluating::evaluate;
 pub use rooms::new_yield;
+
+#[cfg(test)]
+mod tests;
