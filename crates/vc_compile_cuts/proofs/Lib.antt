@@ -1,0 +1,3 @@
+pub mod CuttingLemmas
+pub mod MarkLemmas
+pub mod TableLemmas
