@@ -127,7 +127,8 @@ impl<'n, 'm, 't> Typed<'n, 'm, 't> {
 
     /// Of which instance an operand of the dependency names a characteristic.
     pub fn instance(&self, operand: &Operand) -> Instance
-        ensures { result ≡ instance_of (seen self.now.setting).place.at (objects_of (tree_of self.now.tree)) operand.now }
+        ensures { result ≡ instance_of (seen self.now.setting).place.at
+            (objects_of (tree_of self.now.tree)) operand.now }
     {
         instance_of(self.setting.place().at, objects(self.tree), operand)
     }

@@ -1,9 +1,9 @@
 //! Faults of names: what isn't there, and what stands twice.
 
-ghost use Rattle.std.specs.Prelude.{◌≡◌, Some, filter_map, is_some, is_none};
+ghost use Rattle.std.specs.Prelude.{◌≡◌, Some, filter_map, is_some, is_none, slice_get};
 ghost use Rattle.std.specs.List.{list_any};
 ghost use Rattle.vc_syntax_terms.specs.Trees.{binding_of, table_call_of};
-ghost use Rattle.vc_types.specs.Looking.{member_of, table_named};
+ghost use Rattle.vc_types.specs.Looking.{member_in, member_of, table_named};
 ghost use Rattle.vc_types.specs.NameFaults as faults;
 ghost use Rattle.vc_types.specs.Settings.{component_class, component_classes};
 ghost use Rattle.vc_types_faults.specs.Terms.{if_part};
@@ -162,23 +162,25 @@ pub fn component_class(names: &Names, item: &BillItem) -> Option<u32>
     }
 }
 
-fn item_has(names: &Names, name: &[u8], item: &BillItem) -> bool
-    ensures { result ≡ if_part (λ class. is_some (member_of names.now.model.now name.now (Some class)))
+fn item_has(names: &Names, characteristic: Option<u32>, item: &BillItem) -> bool
+    ensures { result ≡ if_part (λ class. is_some
+        (member_in (slice_get (names.now.model.now).classes class) characteristic))
         (component_class names.now.model.now item.now) }
 {
     match component_class(names, item) {
-        Some(class) => names.member_of(name, Some(class)).is_some(),
+        Some(class) => names.member_in(class, characteristic).is_some(),
         None => false,
     }
 }
 
 #[tactic(auto, using(crate::proofs::AnyLemmas::any_option))]
-fn some_item_has(names: &Names, name: &[u8], items: &[BillItem]) -> bool
-    ensures { result ≡ list_any (λ class. is_some (member_of names.now.model.now name.now (Some class)))
+fn some_item_has(names: &Names, characteristic: Option<u32>, items: &[BillItem]) -> bool
+    ensures { result ≡ list_any (λ class. is_some
+        (member_in (slice_get (names.now.model.now).classes class) characteristic))
         (filter_map (component_class names.now.model.now) items.now) }
 {
     for item in items {
-        if item_has(names, name, item) {
+        if item_has(names, characteristic, item) {
             return true;
         }
     }
@@ -190,13 +192,14 @@ fn some_part_has(setting: &Setting, leaf: &NameLeaf) -> bool
         (component_classes (seen setting.now)) }
 {
     let names = setting.names();
+    let characteristic = names.characteristic(leaf.name.bytes());
     match names
         .model()
         .objects
         .as_slice()
         .get(setting.place().object as usize)
     {
-        Some(object) => some_item_has(names, leaf.name.bytes(), object.bill.as_slice()),
+        Some(object) => some_item_has(names, characteristic, object.bill.as_slice()),
         None => false,
     }
 }

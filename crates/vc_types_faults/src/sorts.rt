@@ -1,10 +1,10 @@
 //! Faults of kind: texts and numbers that meet, and what stands where something else belongs.
 
-ghost use Rattle.std.specs.Prelude.{◌≡◌, ◌&&◌, ◌||◌, not, Some, filter_map, map};
+ghost use Rattle.std.specs.Prelude.{◌≡◌, ◌&&◌, ◌||◌, not, Some, filter_map, map, slice_get};
 ghost use Rattle.std.specs.List.{list_any};
 ghost use Rattle.vc_syntax_terms.specs.Trees.{Compared, action_of, binding_of, relation_of};
 ghost use Rattle.vc_syntax_terms.specs.Trees.{statement_of, table_call_of, term_of};
-ghost use Rattle.vc_types.specs.Looking.{member_of};
+ghost use Rattle.vc_types.specs.Looking.{member_in, member_of};
 ghost use Rattle.vc_types.specs.Meanings.{known};
 ghost use Rattle.vc_types.specs.Occurrences.{is_equality};
 ghost use Rattle.vc_types.specs.Settings.{component_class, component_classes, is_set, meaning, sort_meant};
@@ -363,31 +363,33 @@ pub fn some_declares_set(setting: &Setting, objects: &[Object]) -> bool
     objects.iter().any(|object| declares_set(setting, object))
 }
 
-fn is_text_member(names: &Names, name: &[u8], class: u32) -> bool
+fn is_text_member(names: &Names, characteristic: Option<u32>, class: u32) -> bool
     ensures { result ≡ faults.is_text (sort_meant names.now.model.now
-        (known (member_of names.now.model.now name.now (Some class)))) }
+        (known (member_in (slice_get (names.now.model.now).classes class) characteristic))) }
 {
-    is_text(sort_meant(names, known(names.member_of(name, Some(class)))))
+    let member = names.member_in(class, characteristic);
+    is_text(sort_meant(names, known(member)))
 }
 
-fn item_has_text(names: &Names, name: &[u8], item: &BillItem) -> bool
+fn item_has_text(names: &Names, characteristic: Option<u32>, item: &BillItem) -> bool
     ensures { result ≡ if_part (λ class. faults.is_text (sort_meant names.now.model.now
-        (known (member_of names.now.model.now name.now (Some class))))) (component_class names.now.model.now item.now) }
+        (known (member_in (slice_get (names.now.model.now).classes class) characteristic))))
+        (component_class names.now.model.now item.now) }
 {
     match component_class(names, item) {
-        Some(class) => is_text_member(names, name, class),
+        Some(class) => is_text_member(names, characteristic, class),
         None => false,
     }
 }
 
 #[tactic(auto, using(crate::proofs::AnyLemmas::any_option))]
-fn some_item_has_text(names: &Names, name: &[u8], items: &[BillItem]) -> bool
+fn some_item_has_text(names: &Names, characteristic: Option<u32>, items: &[BillItem]) -> bool
     ensures { result ≡ list_any (λ class. faults.is_text (sort_meant names.now.model.now
-        (known (member_of names.now.model.now name.now (Some class)))))
+        (known (member_in (slice_get (names.now.model.now).classes class) characteristic))))
         (filter_map (component_class names.now.model.now) items.now) }
 {
     for item in items {
-        if item_has_text(names, name, item) {
+        if item_has_text(names, characteristic, item) {
             return true;
         }
     }
@@ -400,13 +402,14 @@ fn some_part_has_text(setting: &Setting, leaf: &NameLeaf) -> bool
         (component_classes (seen setting.now)) }
 {
     let names = setting.names();
+    let characteristic = names.characteristic(leaf.name.bytes());
     match names
         .model()
         .objects
         .as_slice()
         .get(setting.place().object as usize)
     {
-        Some(object) => some_item_has_text(names, leaf.name.bytes(), object.bill.as_slice()),
+        Some(object) => some_item_has_text(names, characteristic, object.bill.as_slice()),
         None => false,
     }
 }

@@ -2,6 +2,7 @@
 #![tactic(auto)]
 
 pub mod first_named;
+pub mod members;
 pub mod named;
 pub mod names;
 

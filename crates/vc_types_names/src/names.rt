@@ -7,8 +7,10 @@ ghost use Rattle.vc_types.specs.Looking as looking;
 ghost use Rattle.vc_types.specs.RangeFaults.{largest, size_in, size_of_values, value_size};
 ghost use Rattle.vc_types.specs.Settings.{are_multiple, is_multiple, sort_of_characteristic, sort_of_values};
 ghost use Rattle.vc_types_names.specs.FirstNames.{value_of};
+ghost use Rattle.vc_types_names.specs.Members.{rows_of};
 
 use crate::first_named::FirstNamed;
+use crate::members::{if_flagged, rows_of};
 use crate::named::places;
 use std::alloc::{AllocError, Global};
 use vc_model_parts::{
@@ -27,6 +29,8 @@ pub struct Names<'a> {
     tables: FirstNamed<u32>,
     // the largest size of a number of each characteristic, in millionths
     sizes: Listed<u64>,
+    // of each class, for each characteristic whether it has it
+    members: Listed<Listed<bool>>,
     ghost characteristics_are: { (name : List ℕ) → value_of characteristics name
         ≡ looking.characteristic_named model.now name } by { Prim.hlevel props },
     ghost classes_are: { (name : List ℕ) → value_of classes name
@@ -37,6 +41,8 @@ pub struct Names<'a> {
         ≡ position (λ t. bytes_eq t.name name) (model.now).tables } by { Prim.hlevel props },
     ghost sizes_are: { sizes
         ≡ map (λ c. size_of_values c.values) (model.now).characteristics } by { Prim.hlevel props },
+    ghost members_are: { members
+        ≡ rows_of (model.now).classes } by { Prim.hlevel props },
 }
 
 impl<'a> Names<'a> {
@@ -49,6 +55,7 @@ impl<'a> Names<'a> {
         let objects = places(alloc, model.objects.as_slice())?;
         let tables = places(alloc, model.tables.as_slice())?;
         let sizes = sizes_of(alloc, model.characteristics.as_slice())?;
+        let members = rows_of(alloc, model.classes.as_slice())?;
         Ok(Names {
             model,
             characteristics,
@@ -56,6 +63,7 @@ impl<'a> Names<'a> {
             objects,
             tables,
             sizes,
+            members,
         })
     }
 
@@ -112,10 +120,19 @@ impl<'a> Names<'a> {
         ensures { result ≡ looking.member_of self.now.model.now name.now class }
     {
         match class {
-            Some(class) => member_in(
-                self.model.classes.as_slice().get(class as usize),
-                self.characteristic(name),
-            ),
+            Some(class) => self.member_in(class, self.characteristic(name)),
+            None => None,
+        }
+    }
+
+    /// The characteristic, if the class has it.
+    pub fn member_in(&self, class: u32, characteristic: Option<u32>) -> Option<u32>
+        ensures { result ≡ looking.member_in (slice_get (self.now.model.now).classes class) characteristic }
+    {
+        match characteristic {
+            Some(characteristic) => {
+                if_flagged(element(self.members.as_slice(), class), characteristic)
+            }
             None => None,
         }
     }
@@ -182,35 +199,6 @@ fn class_in(object: Option<&Object>) -> Option<u32>
 {
     match object {
         Some(object) => Some(object.class),
-        None => None,
-    }
-}
-
-fn member_among(members: &[u32], characteristic: u32) -> Option<u32>
-    ensures { result ≡ find (λ member. member == characteristic) members.now }
-{
-    for member in members {
-        if *member == characteristic {
-            return Some(*member);
-        }
-    }
-    None
-}
-
-fn if_member(class: Option<&Class>, characteristic: u32) -> Option<u32>
-    ensures { result ≡ looking.if_member (option_copied class.entry) characteristic }
-{
-    match class {
-        Some(class) => member_among(class.members.as_slice(), characteristic),
-        None => None,
-    }
-}
-
-fn member_in(class: Option<&Class>, characteristic: Option<u32>) -> Option<u32>
-    ensures { result ≡ looking.member_in (option_copied class.entry) characteristic }
-{
-    match characteristic {
-        Some(characteristic) => if_member(class, characteristic),
         None => None,
     }
 }
