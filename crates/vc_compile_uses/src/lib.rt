@@ -5,7 +5,7 @@ pub mod texts;
 pub mod uses;
 
 pub use texts::{Texts, texts_of};
-pub use uses::{active_constraints, used_dependencies};
+pub use uses::{active_constraints, net_constraints, used_dependencies};
 
 mod marks;
 mod mentions;

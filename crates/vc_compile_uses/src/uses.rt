@@ -1,7 +1,10 @@
 //! Which constraints are active, and which dependencies are used: those that stand at the object of
 //! some slot.
 
-ghost use Rattle.std.specs.Prelude.{◌≡◌, ◌++◌, List, flat_map, slice_get, IfOk, Some};
+ghost use Rattle.std.specs.Prelude.{◌≡◌, ◌++◌, List, flat_map, length, slice_get, IfOk, Some};
+ghost use Rattle.std.specs.List.{filter};
+ghost use Rattle.vc_plan.specs.Domains.{numbers_below};
+ghost use Rattle.vc_compile_plan.specs.Refusals.{is_in_net};
 ghost use Rattle.vc_compile_plan.specs.Layouts.{layout_over};
 ghost use Rattle.vc_compile_plan.specs.Uses as uses;
 ghost use Rattle.vc_compile_plan.specs.Variables.{members_in};
@@ -11,7 +14,7 @@ ghost use Rattle.vc_compile_uses.specs.Marks.{mark_all};
 use crate::marks::{mark_numbers, marked_numbers, unmarked};
 use std::alloc::{AllocError, Global};
 use vc_model_parts::parts::{
-    BillItem, Characteristic, Model, NumberValue, Object, Operation, TextValue, Values,
+    BillItem, Characteristic, Model, Net, NumberValue, Object, Operation, TextValue, Values,
 };
 use vc_plan::Slot;
 use vc_value::Listed;
@@ -184,5 +187,24 @@ pub fn used_dependencies(
     let mut marks = unmarked(alloc, model.dependencies.as_slice())?;
     mark_active(model, slots, &mut marks);
     mark_standing(model, slots, &mut marks);
+    marked_numbers(alloc, marks.as_slice())
+}
+
+// Marks the constraints of these nets.
+fn mark_nets(nets: &[Net], marks: &mut Listed<bool>)
+    ensures { marks.new ≡ mark_all marks.old (flat_map (λ net. net.constraints) nets.now) }
+{
+    for net in nets {
+        mark_numbers(marks, net.constraints.as_slice());
+    }
+}
+
+/// The constraints that some net uses, whether an object has that net or not, by their numbers among the
+/// dependencies.
+pub fn net_constraints(alloc: Global, model: &Model) -> Result<Listed<u32>, AllocError>
+    ensures { IfOk result (λ found. found ≡ filter (is_in_net model.now) (numbers_below (length model.now.dependencies))) }
+{
+    let mut marks = unmarked(alloc, model.dependencies.as_slice())?;
+    mark_nets(model.nets.as_slice(), &mut marks);
     marked_numbers(alloc, marks.as_slice())
 }

@@ -1,0 +1,24 @@
+//! Terms and conditions of a model's dependencies, as its plan has them where they stand.
+#![tactic(auto)]
+
+pub mod conditions;
+pub mod entries;
+pub mod layout;
+pub mod numbers;
+pub mod places;
+pub mod site;
+pub mod terms;
+
+pub use conditions::{condition_at, pieces_of};
+pub use entries::{Entry, entries_of};
+pub use layout::Layout;
+pub use numbers::Numbers;
+pub use places::{
+    Asked, dependency, place_at, preconditions_among, selections_among, setting_at, site_of,
+    statements_in,
+};
+pub use site::Site;
+pub use terms::{literal_of, lone_of, term_at};
+
+#[cfg(test)]
+mod tests;
