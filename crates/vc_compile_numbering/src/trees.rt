@@ -42,7 +42,8 @@ impl Trees {
     /// Puts a condition last, and answers its number.
     pub fn add_condition(&mut self, condition: Condition) -> Result<u32, AllocError>
         ensures number { IfOk result (λ number. number ≡ length (kept self.old).conditions) }
-        ensures kept { OnOk result (kept self.new ≡ with_conditions (kept self.old) (plan.condition_of condition ∷ [])) }
+        ensures kept { OnOk result (kept self.new
+            ≡ with_conditions (kept self.old) (plan.condition_of condition ∷ [])) }
     {
         let number = number_from(self.conditions.len())?;
         self.conditions.push(condition)?;

@@ -42,7 +42,8 @@ fn number_of(number: SignedNumber) -> Result<Dec, AllocError>
 }
 
 fn stretch(low: SignedNumber, high: SignedNumber) -> Result<Piece, AllocError>
-    ensures { IfOk result (λ piece. piece ≡ Stretch (record { low = conditions.number_of low; high = conditions.number_of high })) }
+    ensures { IfOk result (λ piece. piece
+        ≡ Stretch (record { low = conditions.number_of low; high = conditions.number_of high })) }
 {
     Ok(Piece::Stretch(Grain {
         low: number_of(low)?,

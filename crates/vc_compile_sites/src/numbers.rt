@@ -1,6 +1,7 @@
 //! Numbers by slot and characteristic. Of equal places the first counts.
 
-ghost use Rattle.std.specs.Prelude.{◌≡◌, ◌==◌, ◌&&◌, ◌<◌, ◌^◌, ℕ, length, None, Some, OnOk, IfOk, position, if◌then◌else◌};
+ghost use Rattle.std.specs.Prelude.{◌≡◌, ◌==◌, ◌&&◌, ◌<◌, ◌^◌, ℕ, length, position, None, Some, OnOk, IfOk};
+ghost use Rattle.std.specs.Prelude.{if◌then◌else◌};
 ghost use Rattle.std.specs.Option.{option_or};
 ghost use Rattle.vc_compile_sites.specs.Numbered.{number_of};
 

@@ -158,7 +158,8 @@ pub fn selections_among<'n>(
     layout: &Layout<'n, '_>,
     uses: &[u32],
 ) -> Result<Listed<Asked<'n>>, AllocError>
-    ensures { IfOk result (λ asked. map asked_seen asked ≡ places.selections_among (layout_seen layout.now).model uses.now) }
+    ensures { IfOk result (λ asked. map asked_seen asked
+        ≡ places.selections_among (layout_seen layout.now).model uses.now) }
 {
     let mut all = Listed::new(alloc);
     for number in uses {

@@ -202,7 +202,8 @@ fn mark_nets(nets: &[Net], marks: &mut Listed<bool>)
 /// The constraints that some net uses, whether an object has that net or not, by their numbers among the
 /// dependencies.
 pub fn net_constraints(alloc: Global, model: &Model) -> Result<Listed<u32>, AllocError>
-    ensures { IfOk result (λ found. found ≡ filter (is_in_net model.now) (numbers_below (length model.now.dependencies))) }
+    ensures { IfOk result (λ found. found
+        ≡ filter (is_in_net model.now) (numbers_below (length model.now.dependencies))) }
 {
     let mut marks = unmarked(alloc, model.dependencies.as_slice())?;
     mark_nets(model.nets.as_slice(), &mut marks);
