@@ -1,5 +1,6 @@
 -- Domains cut by marks that are joined, by one mark, and by all.
-use Rattle.std.proofs.Common.{◌≡◌, ◌<◌, ◌≤◌, ◌+◌, ◌==◌, ◌⊎◌, inl, inr, ℕ, zero, suc, Bool, true, false, cond, List, [], ◌∷◌, ◌++◌}
+use Rattle.std.proofs.Common.{◌≡◌, ◌<◌, ◌≤◌, ◌+◌, ◌==◌, ◌⊎◌, inl, inr, ℕ, zero, suc, Bool, true, false, cond, List}
+use Rattle.std.proofs.Common.{[], ◌∷◌, ◌++◌}
 use Rattle.std.proofs.Common.{length, get_or, set, drop, map, refl, sym, ap, ◌∙◌, arith, Result, Ok, Err, IfOk, OnOk}
 use Rattle.std.specs.List.{filter, flat_map}
 use Rattle.std.proofs.Math.Seq.{drop-cons}
@@ -34,7 +35,8 @@ cut_more decimals grains (number ∷ first) second = cut_more decimals (cut_at d
 cut_domain_more : (first second : List Dec) (domain : Domain)
     → cut_domain (first ++ second) domain ≡ cut_domain second (cut_domain first domain)
 cut_domain_more first second (domains.Texts texts) = refl
-cut_domain_more first second (domains.Nums decimals grains) = ap (domains.Nums decimals) (cut_more decimals grains first second)
+cut_domain_more first second (domains.Nums decimals grains) = ap (domains.Nums decimals)
+    (cut_more decimals grains first second)
 
 cuts_more : (first second : List Mark) (c : ℕ) → cuts_at (first ++ second) c ≡ cuts_at first c ++ cuts_at second c
 cuts_more first second c =
@@ -48,7 +50,8 @@ pub cut_join : (first second : List Mark) (c : ℕ) (all : List Domain)
 cut_join first second c [] = refl
 cut_join first second c (domain ∷ all) =
     ap (λ numbers. cut_domain numbers domain ∷ cut_from (first ++ second) (suc c) all) (cuts_more first second c)
-    ∙ ap (λ one. one ∷ cut_from (first ++ second) (suc c) all) (cut_domain_more (cuts_at first c) (cuts_at second c) domain)
+    ∙ ap (λ one. one ∷ cut_from (first ++ second) (suc c) all)
+    (cut_domain_more (cuts_at first c) (cuts_at second c) domain)
     ∙ ap (λ more. cut_domain (cuts_at second c) (cut_domain (cuts_at first c) domain) ∷ more)
     (cut_join first second (suc c) all)
 
@@ -76,7 +79,8 @@ cut_elsewhere mark c (domain ∷ all) other =
     (no_cuts mark c (ap (λ n. mark.characteristic == n) (first c) ∙ other 0 (omega arith)))
     ∙ ap (λ one. one ∷ cut_from (mark ∷ []) (suc c) all) (uncut domain)
     ∙ ap (λ more. domain ∷ more)
-    (cut_elsewhere mark (suc c) all (λ k inside. ap (λ n. mark.characteristic == n) (next c k) ∙ other (suc k) (omega (inside, arith))))
+    (cut_elsewhere mark (suc c) all
+    (λ k inside. ap (λ n. mark.characteristic == n) (next c k) ∙ other (suc k) (omega (inside, arith))))
   where
     first : (c : ℕ) → c ≡ c + 0
     first c = omega arith

@@ -1,5 +1,6 @@
 -- Marks of lists that are joined.
-use Rattle.std.proofs.Common.{◌≡◌, ◌<◌, ◌+◌, ℕ, suc, List, ◌∷◌, ◌++◌, length, map, flat_map, get_or, drop, sym, ap, ◌∙◌, arith, append_assoc}
+use Rattle.std.proofs.Common.{◌≡◌, ◌<◌, ◌+◌, ℕ, suc, List, ◌∷◌, ◌++◌, length, map, flat_map, get_or, drop, sym, ap}
+use Rattle.std.proofs.Common.{◌∙◌, arith, append_assoc}
 use Rattle.std.proofs.Math.Seq.{drop-cons}
 use Rattle.std.proofs.lemmas.Grind.{flat_map-append}
 use Rattle.std.proofs.lemmas.List.{map-append}
@@ -10,7 +11,8 @@ use Rattle.vc_compile_cuts.specs.declared.marks.Mark.{Mark as Kept}
 pub ruleset joins = (map-append, flat_map-append)
 
 -- the marks of an element more
-pub next_marks : {X Y : Type 0} (f : Y → List Mark) (v : X → Y) (xs : List X) (i : ℕ) (x : X) (out after : List Kept) (all : List Mark)
+pub next_marks : {X Y : Type 0} (f : Y → List Mark) (v : X → Y) (xs : List X) (i : ℕ) (x : X) (out after : List Kept)
+    (all : List Mark)
     → i < length xs → x ≡ get_or xs i x → marks_seen after ≡ marks_seen out ++ f (v x)
     → marks_seen out ++ flat_map f (map v (drop i xs)) ≡ all
     → marks_seen after ++ flat_map f (map v (drop (i + 1) xs)) ≡ all

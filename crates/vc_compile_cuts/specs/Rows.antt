@@ -10,7 +10,8 @@ use Rattle.vc_compile_plan.specs.Tables.{cell_in}
 
 -- the numbers are those of the model's tables
 abbrev pub Numbers : FirstNamed ℕ → Model → Type 0
-Numbers numbers model = (name : List ℕ) → value_of numbers name ≡ position (λ table. bytes_eq table.name name) model.tables
+Numbers numbers model = (name : List ℕ)
+    → value_of numbers name ≡ position (λ table. bytes_eq table.name name) model.tables
 
 -- the cells of a column of rows
 abbrev pub cells_in : List Row → ℕ → List Value

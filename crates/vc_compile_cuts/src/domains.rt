@@ -150,8 +150,8 @@ fn cut_by_dependency(
 ) -> Result<(), AllocError>
     requires { Numbers (rows.now).numbers.now names.now.model.now }
     ensures { OnOk result (domains_seen all.new.items
-        ≡ cut_from (cuts.marks_if names.now.model.now (rows.now).tables.now (layouts.tree_of names.now.model.now number))
-        0 (domains_seen all.old.items)) }
+        ≡ cut_from (cuts.marks_if names.now.model.now (rows.now).tables.now
+        (layouts.tree_of names.now.model.now number)) 0 (domains_seen all.old.items)) }
 {
     match dependency(names.model(), number) {
         Some(named) => {
@@ -171,7 +171,8 @@ fn cut_by_dependencies(
 ) -> Result<(), AllocError>
     requires { Numbers (rows.now).numbers.now names.now.model.now }
     ensures { OnOk result (domains_seen all.new.items
-        ≡ cut_from (marks_of_all names.now.model.now (rows.now).tables.now numbers.now) 0 (domains_seen all.old.items)) }
+        ≡ cut_from (marks_of_all names.now.model.now (rows.now).tables.now numbers.now) 0
+        (domains_seen all.old.items)) }
 {
     for number in numbers {
         cut_by_dependency(alloc, all, names, rows, *number)?;

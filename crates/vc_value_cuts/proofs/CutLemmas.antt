@@ -1,5 +1,6 @@
 -- What a cut leaves as it is.
-use Rattle.std.proofs.Common.{◌≡◌, ◌<◌, ◌≤◌, ◌⊎◌, inl, inr, ℕ, zero, suc, ℤ, pos, Bool, true, false, cond, ◌&&◌, ◌||◌, List, [], ◌∷◌, ◌++◌}
+use Rattle.std.proofs.Common.{◌≡◌, ◌<◌, ◌≤◌, ◌⊎◌, inl, inr, ℕ, zero, suc, ℤ, pos, Bool, true, false, cond, ◌&&◌, ◌||◌}
+use Rattle.std.proofs.Common.{List, [], ◌∷◌, ◌++◌}
 use Rattle.std.proofs.Common.{◌+◌, ◌-◌, length, get_or, drop, refl, sym, ap, ◌∙◌, arith, if◌then◌else◌, Some, None}
 use Rattle.std.specs.Prelude.{slice_get}
 use Rattle.std.proofs.Math.Seq.{drop-cons}
@@ -11,12 +12,14 @@ use Rattle.std.specs.Ordering.{int_eq}
 use Rattle.std.proofs.lemmas.Int.{ints, clamps}
 use Rattle.vc_value.specs.declared.decimal.Dec.{Dec}
 use Rattle.vc_value.specs.declared.grains.Grain.{Grain}
-use Rattle.vc_value.specs.Grains.{interval, part_between, part_below, part_at, part_above, parts_of, next_below, next_above}
+use Rattle.vc_value.specs.Grains.{interval, part_between, part_below, part_at, part_above, parts_of, next_below}
+use Rattle.vc_value.specs.Grains.{next_above}
 use Rattle.vc_value.specs.Grains.{is_multiple, is_below, is_ordered, is_ascending, unit_of, cut_at}
 use Rattle.vc_value.proofs.GrainLemmas.{both, both_true, at_most, ascending_at, ordered_at}
 use Rattle.vc_value.proofs.CutLemmas.{one_part, below_cut, above_cut, cut_ascending}
 use Rattle.vc_value.proofs.PowerLemmas.{ten_pow_pos}
-use Rattle.vc_value_cuts.specs.Made.{IsCut, lies_below, lies_above, has_ends, is_point, starts_above, is_left_first, is_made}
+use Rattle.vc_value_cuts.specs.Made.{IsCut, lies_below, lies_above, has_ends, is_point, starts_above, is_left_first}
+use Rattle.vc_value_cuts.specs.Made.{is_made}
 use Rattle.vc_value_cuts.specs.declared.cut.Cut.{Cut}
 
 -- a grain within the two counts is its only part there; one outside has none
@@ -28,13 +31,16 @@ whole_part low high grain from to ordered =
     (grind (arith, ints, clamps)) (grind (arith, ints, clamps)) ordered refl)
 
 no_part : (low high : ℤ) (grain : Grain)
-    → le_z (int_max grain.low.millionths low) (int_min grain.high.millionths high) ≡ false → part_between low high grain ≡ []
+    → le_z (int_max grain.low.millionths low) (int_min grain.high.millionths high) ≡ false
+    → part_between low high grain ≡ []
 no_part low high grain none =
-    ap (λ b. if b then interval (int_max grain.low.millionths low) (int_min grain.high.millionths high) ∷ [] else []) none
+    ap (λ b. if b then interval (int_max grain.low.millionths low)
+    (int_min grain.high.millionths high) ∷ [] else []) none
 
 no_point : (unit : ℕ) (at : ℤ) (grain : Grain) → part_between at at grain ≡ [] → part_at unit at grain ≡ []
 no_point unit at grain none =
-    elim (is_multiple unit at) as (λ b. (if b then part_between at at grain else []) ≡ []) [ true ↦ none | false ↦ refl ]
+    elim (is_multiple unit at) as
+    (λ b. (if b then part_between at at grain else []) ≡ []) [ true ↦ none | false ↦ refl ]
 
 -- no numbers of a grain lie between two counts above it, or below it
 above_all : (low high from to : ℤ) → lt_z high from ≡ true → le_z (int_max low from) (int_min high to) ≡ false
@@ -69,7 +75,8 @@ third_of first second third grain one two last =
 second_of : (first second third : List Grain) (grain : Grain) → first ≡ [] → second ≡ grain ∷ [] → third ≡ []
     → (first ++ second) ++ third ≡ grain ∷ []
 second_of first second third grain one two last =
-    ap (λ ps. (ps ++ second) ++ third) one ∙ ap (λ ps. ([] ++ ps) ++ third) two ∙ ap (λ ps. ([] ++ (grain ∷ [])) ++ ps) last
+    ap (λ ps. (ps ++ second) ++ third) one ∙ ap (λ ps. ([] ++ ps) ++ third) two
+    ∙ ap (λ ps. ([] ++ (grain ∷ [])) ++ ps) last
 
 -- a grain below the cut, and one above it
 pub below_left : (unit : ℕ) (at : ℤ) (grain : Grain) → 0 < unit → is_ordered grain ≡ true
@@ -97,7 +104,8 @@ above_left unit at grain some ordered above =
     (whole_part (next_above unit at) high grain above (le_self high) ordered)
 
 -- a grain that is the cut
-point_whole : (unit : ℕ) (at : ℤ) (grain : Grain) → is_multiple unit at ≡ true → part_at unit at grain ≡ part_between at at grain
+point_whole : (unit : ℕ) (at : ℤ) (grain : Grain) → is_multiple unit at ≡ true
+    → part_at unit at grain ≡ part_between at at grain
 point_whole unit at grain whole = ap (λ b. if b then part_between at at grain else []) whole
 
 same_ends : (low high at : ℤ) → (int_eq low at && int_eq high at) ≡ true → (low ≡ at) × (high ≡ at)
@@ -116,7 +124,8 @@ point_left unit at grain some ordered whole same =
     second_of (part_below unit at grain) (part_at unit at grain) (part_above unit at grain) grain
     (no_part low (next_below unit at) grain (below_all low high low (next_below unit at) before))
     (point_whole unit at grain whole
-    ∙ whole_part at at grain (ap (λ z. le_z at z) ends.0 ∙ le_self at) (ap (λ z. le_z z at) ends.1 ∙ le_self at) ordered)
+    ∙ whole_part at at grain (ap (λ z. le_z at z) ends.0 ∙ le_self at)
+    (ap (λ z. le_z z at) ends.1 ∙ le_self at) ordered)
     (no_part (next_above unit at) high grain (above_all low high (next_above unit at) high behind))
 
 -- of a cut as it is kept
@@ -139,7 +148,8 @@ kept_point : (cut : Cut) (grain : Grain) → IsCut cut → is_ordered grain ≡ 
     → parts_of (unit_of cut.decimals) cut.at.millionths grain ≡ grain ∷ []
 kept_point cut grain is ordered point =
     let parts = both cut.whole (has_ends cut grain) point in
-    point_left (unit_of cut.decimals) cut.at.millionths grain (some_unit cut.decimals) ordered (sym is.whole ∙ parts.0) parts.1
+    point_left (unit_of cut.decimals) cut.at.millionths grain (some_unit cut.decimals) ordered
+    (sym is.whole ∙ parts.0) parts.1
 
 -- a grain more that is left
 kept_more : (cut : Cut) (grain : Grain) (grains : List Grain)
@@ -149,7 +159,8 @@ kept_more cut grain grains one more =
     ap (λ ps. ps ++ cut_at cut.decimals cut.at grains) one ∙ ap (λ gs. grain ∷ gs) more
 
 ascending_parts : (grain : Grain) (grains : List Grain) → is_ascending (grain ∷ grains) ≡ true
-    → (is_ordered grain ≡ true) × (list_all (λ later. is_below later.low grain) grains ≡ true) × (is_ascending grains ≡ true)
+    → (is_ordered grain ≡ true) × (list_all (λ later. is_below later.low grain) grains ≡ true) ×
+    (is_ascending grains ≡ true)
 ascending_parts grain grains ascend =
     let first = both (is_ordered grain) _ ascend in
     let rest = both (list_all (λ later. is_below later.low grain) grains) (is_ascending grains) first.1 in
@@ -167,7 +178,8 @@ still_above cut grain (next ∷ grains) ascend above =
     onward : (a b c d : ℤ) → le_z a b ≡ true → le_z b c ≡ true → lt_z c d ≡ true → le_z a d ≡ true
     onward a b c d p q r = grind (arith, ints)
 
-pub above_kept : (cut : Cut) (grains : List Grain) → IsCut cut → is_ascending grains ≡ true → starts_above cut grains ≡ true
+pub above_kept : (cut : Cut) (grains : List Grain) → IsCut cut → is_ascending grains ≡ true
+    → starts_above cut grains ≡ true
     → cut_at cut.decimals cut.at grains ≡ grains
 above_kept cut [] is ascend above = refl
 above_kept cut (grain ∷ grains) is ascend above =
@@ -179,13 +191,15 @@ above_kept cut (grain ∷ grains) is ascend above =
 left_first : (cut : Cut) (grain : Grain) (grains : List Grain) → IsCut cut → is_ascending (grain ∷ grains) ≡ true
     → is_left_first cut (grain ∷ grains) ≡ true → cut_at cut.decimals cut.at (grain ∷ grains) ≡ grain ∷ grains
 left_first cut grain grains is ascend left =
-    elim (lies_above cut grain) as (λ b. lies_above cut grain ≡ b → (b || (is_point cut grain && starts_above cut grains)) ≡ true
+    elim (lies_above cut grain) as
+    (λ b. lies_above cut grain ≡ b → (b || (is_point cut grain && starts_above cut grains)) ≡ true
     → cut_at cut.decimals cut.at (grain ∷ grains) ≡ grain ∷ grains) [
       | true ↦ λ above told. above_kept cut (grain ∷ grains) is ascend above
       | false ↦ λ not_above told.
           let parts = ascending_parts grain grains ascend in
           let point = both (is_point cut grain) (starts_above cut grains) told in
-          kept_more cut grain grains (kept_point cut grain is parts.0 point.0) (above_kept cut grains is parts.2 point.1)
+          kept_more cut grain grains (kept_point cut grain is parts.0 point.0)
+          (above_kept cut grains is parts.2 point.1)
     ] refl left
 
 pub made_kept : (cut : Cut) (grains : List Grain) → IsCut cut → is_ascending grains ≡ true → is_made cut grains ≡ true
@@ -202,7 +216,8 @@ made_kept cut (grain ∷ grains) is ascend made =
     ] refl made
 
 -- what lies below stands first
-pub partitioned : (cut : Cut) (grains : List Grain) → is_ascending grains ≡ true → IsPartitionedBy (lies_below cut) grains
+pub partitioned : (cut : Cut) (grains : List Grain) → is_ascending grains ≡ true
+    → IsPartitionedBy (lies_below cut) grains
 partitioned cut grains ascend i j d le inside below =
     elim (at_most i j le) [
       | inl before ↦ between (get_or grains i d).high.millionths (get_or grains j d).low.millionths
@@ -240,7 +255,8 @@ drop_there xs n x there =
     ap (λ m. x ∷ drop m xs) next ∙ rest_there xs n x there
 
 -- of ascending grains each is ordered, and those before it lie below it
-pub ascending_split : (first : List Grain) (grain : Grain) (rest : List Grain) → is_ascending (first ++ grain ∷ rest) ≡ true
+pub ascending_split : (first : List Grain) (grain : Grain) (rest : List Grain)
+    → is_ascending (first ++ grain ∷ rest) ≡ true
     → (is_ordered grain ≡ true) × (list_all (is_below grain.low) first ≡ true)
 ascending_split [] grain rest ascend = ((ascending_parts grain rest ascend).0, refl)
 ascending_split (one ∷ first) grain rest ascend =

@@ -10,7 +10,8 @@ pub returns-in-None : goal.returns-in-None
 returns-in-None c =
     let model = c.args.names.now.model.now in
     let all = domains_seen c.args.all.now.items in
-    sym (ap (λ o. cut_from (marks_if model c.args.rows.now.tables.now (option_map (λ one. dependency_of one.tree) o)) 0 all)
+    sym (ap (λ o. cut_from
+    (marks_if model c.args.rows.now.tables.now (option_map (λ one. dependency_of one.tree) o)) 0 all)
     (ap (λ m. slice_get m.dependencies c.args.number) (sym c.model.ensures) ∙ sym c.dependency.ensures
     ∙ ap option_copied c.in-None.is)
     ∙ cut_nothing 0 all)

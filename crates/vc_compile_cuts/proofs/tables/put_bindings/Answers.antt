@@ -7,7 +7,8 @@ use Rattle.vc_compile_cuts.proofs.tables.put_bindings.Goals as goal
 pub loop-binding-preserved : goal.loop-binding-preserved
 loop-binding-preserved c =
     let setting = seen c.args.setting.now in
-    next_marks (binding_marks setting.model c.args.rows.now.tables.now setting.variables (table_call_of c.args.call.now))
+    next_marks (binding_marks setting.model c.args.rows.now.tables.now setting.variables
+    (table_call_of c.args.call.now))
     binding_of c.as_slice-binding-items.result.now c.loop-binding.binding-index c.binding-item.result
     c.loop-binding.out c.put_binding.new.out _ c.loop-binding-test.true c.binding-item.is
     c.in_ok-put_binding.ensures c.loop-binding.invariant

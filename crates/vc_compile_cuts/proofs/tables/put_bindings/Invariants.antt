@@ -8,8 +8,10 @@ use Rattle.vc_compile_cuts.proofs.tables.put_bindings.Given as goal
 abbrev pub invariant-loop-binding : goal.invariant-loop-binding
 invariant-loop-binding l =
     marks_seen l.out
-    ++ flat_map (binding_marks (seen l.setting).model l.rows.tables.now (seen l.setting).variables (table_call_of l.call))
+    ++ flat_map
+    (binding_marks (seen l.setting).model l.rows.tables.now (seen l.setting).variables (table_call_of l.call))
     (map binding_of (drop l.binding-index l.binding-items))
     ≡ marks_seen l.fn.out
-    ++ flat_map (binding_marks (seen l.setting).model l.rows.tables.now (seen l.setting).variables (table_call_of l.call))
+    ++ flat_map
+    (binding_marks (seen l.setting).model l.rows.tables.now (seen l.setting).variables (table_call_of l.call))
     (map binding_of l.binding-items)

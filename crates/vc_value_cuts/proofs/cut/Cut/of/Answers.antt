@@ -5,4 +5,5 @@ use Rattle.vc_value_cuts.proofs.cut.Cut.of.Goals as goal
 
 pub put_cut-requires-clause-ordered : goal.put_cut-requires-clause-ordered
 put_cut-requires-clause-ordered c =
-    ordered_at c.args.grains.now c.loop-grain.grain-index (interval (pos 0) (pos 0)) c.requires.ascending c.loop-grain-test.true
+    ordered_at c.args.grains.now c.loop-grain.grain-index
+    (interval (pos 0) (pos 0)) c.requires.ascending c.loop-grain-test.true

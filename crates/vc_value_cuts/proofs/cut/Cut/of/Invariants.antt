@@ -4,4 +4,5 @@ use Rattle.vc_value_cuts.proofs.cut.Cut.of.Given as goal
 
 abbrev pub invariant-loop-grain : goal.invariant-loop-grain
 invariant-loop-grain l =
-    l.cut.items ++ cut_at l.self.decimals l.self.at (drop l.grain-index l.grains) ≡ cut_at l.self.decimals l.self.at l.grains
+    l.cut.items ++ cut_at l.self.decimals l.self.at (drop l.grain-index l.grains)
+    ≡ cut_at l.self.decimals l.self.at l.grains

@@ -14,4 +14,5 @@ returns-in_ok-push c =
           let over : lies_above cut c.args.grain ≡ true = cc (w.value-is, w.is_below.ensures, c.if-is_below.true) in
           ap (λ b. b || lies_above cut c.args.grain) (sym c.is_above.ensures ∙ w.if-is_above.false) ∙ over
     ] in
-    c.in_ok-push.ensures.items ∙ ap (λ gs. c.args.out.now.items ++ gs) (sym (kept_apart cut c.args.grain c.requires.cut c.requires.ordered apart))
+    c.in_ok-push.ensures.items
+    ∙ ap (λ gs. c.args.out.now.items ++ gs) (sym (kept_apart cut c.args.grain c.requires.cut c.requires.ordered apart))
