@@ -1,0 +1,2 @@
+pub mod InferringLemmas
+pub mod RuleLemmas
