@@ -5,7 +5,7 @@ use Rattle.std.proofs.lemmas.Bool.Decides.{nat_tests}
 use Rattle.std.proofs.lemmas.List.{append_assoc, append-nil}
 use Rattle.std.proofs.lemmas.List.Folds.{list_any-append}
 use Rattle.vc_compile_plan.specs.Rules.{distinct}
-use Rattle.vc_compile_rules.specs.Inferring.{with_number, with_numbers}
+use Rattle.vc_compile_rules.specs.Inferring.{with_numbers}
 
 abbrev is_new : List ℕ → ℕ → Bool
 is_new known n = not (list_any (λ m. n == m) known)

@@ -1,5 +1,5 @@
 -- Rules that are put behind others, unless there are more than a plan may have.
-use Rattle.std.specs.Prelude.{◌≡◌, ℕ, ◌+◌, ◌<◌, List, length, Option, None, Some}
+use Rattle.std.specs.Prelude.{◌≡◌, ◌+◌, ◌<◌, List, length, Option, None, Some}
 use Rattle.vc_plan.specs.declared.rules.Kind.{Kind}
 use Rattle.vc_plan.specs.declared.rules.Rule.{Rule}
 use Rattle.vc_compile_plan.specs.Numbering.{demand_terms, kind_from, rule_brings, rule_from}

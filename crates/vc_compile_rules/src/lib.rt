@@ -1,4 +1,5 @@
-//! The rules of a plan: those of constraints at tuples of slots, and those that each variable and each slot has of its own.
+//! The rules of a plan: those of constraints at tuples of slots, and those that each variable and each slot has of
+//! its own.
 #![tactic(auto)]
 
 pub mod adding;
