@@ -215,7 +215,8 @@ fn bindings_at(
     table: &[u8],
     bindings: &[Binding],
 ) -> Result<Listed<PlanBinding>, AllocError>
-    ensures { IfOk result (λ given. given ≡ map (rules.binding_at (layout_seen layout.now) (site_seen site.now) table.now)
+    ensures { IfOk result (λ given. given
+        ≡ map (rules.binding_at (layout_seen layout.now) (site_seen site.now) table.now)
         (map syntax.binding_of bindings.now)) }
 {
     let mut given = Listed::new(alloc);
