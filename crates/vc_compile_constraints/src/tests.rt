@@ -190,17 +190,34 @@ fn are_made(rules: &[Rule]) -> bool {
     }
 }
 
-fn of_names(alloc: Global, names: &Names<'_>) -> Result<bool, AllocError> {
-    let layout = layout(alloc, names)?;
+fn of_the_layout(alloc: Global, layout: &Layout<'_, '_>) -> Result<bool, AllocError> {
     let mut out = Numbering::over(alloc, Trees::new(alloc)?);
-    let room = push_constraint_rules(alloc, &layout, &mut out)?;
-    Ok(room == Room::Enough && are_made(out.items.as_slice()))
+    let room = push_constraint_rules(alloc, layout, &mut out);
+    let made = are_made(out.items.as_slice());
+    drop(out);
+    Ok(room? == Room::Enough && made)
+}
+
+// What is built is dropped on one path alone: each path more is proved anew.
+fn in_a_layout(alloc: Global, names: &Names<'_>) -> Result<bool, AllocError> {
+    let layout = layout(alloc, names)?;
+    let made = of_the_layout(alloc, &layout);
+    drop(layout);
+    made
+}
+
+fn in_a_model(alloc: Global, model: &Model) -> Result<bool, AllocError> {
+    let names = Names::new(alloc, model)?;
+    let made = in_a_layout(alloc, &names);
+    drop(names);
+    made
 }
 
 fn of_the_model(alloc: Global) -> Result<bool, AllocError> {
     let model = model(alloc)?;
-    let names = Names::new(alloc, &model)?;
-    of_names(alloc, &names)
+    let made = in_a_model(alloc, &model);
+    drop(model);
+    made
 }
 
 #[test]

@@ -166,14 +166,25 @@ fn tuples(alloc: Global) -> Result<Listed<Listed<u32>>, AllocError> {
     Ok(tuples)
 }
 
+fn push_constraint(
+    alloc: Global,
+    layout: &Layout<'_, '_>,
+    out: &mut Numbering<Rule>,
+) -> Result<Room, AllocError> {
+    let tuples = tuples(alloc)?;
+    let constraint = constraint(alloc)?;
+    let room = push_at_tuples(alloc, layout, 0, &constraint, tuples.as_slice(), out);
+    drop(constraint);
+    drop(tuples);
+    room
+}
+
 fn push_all(
     alloc: Global,
     layout: &Layout<'_, '_>,
     out: &mut Numbering<Rule>,
 ) -> Result<bool, AllocError> {
-    let constraint = constraint(alloc)?;
-    let tuples = tuples(alloc)?;
-    let first = push_at_tuples(alloc, layout, 0, &constraint, tuples.as_slice(), out)?;
+    let first = push_constraint(alloc, layout, out)?;
     let second = push_last_rules(alloc, layout, out)?;
     let third = push_line_rules(alloc, layout, out)?;
     Ok(first == Room::Enough && second == Room::Enough && third == Room::Enough)
@@ -189,17 +200,34 @@ fn are_made(rules: &[Rule]) -> bool {
     }
 }
 
-fn of_names(alloc: Global, names: &Names<'_>) -> Result<bool, AllocError> {
-    let layout = layout(alloc, names)?;
+fn of_the_layout(alloc: Global, layout: &Layout<'_, '_>) -> Result<bool, AllocError> {
     let mut out = Numbering::over(alloc, Trees::new(alloc)?);
-    let enough = push_all(alloc, &layout, &mut out)?;
-    Ok(enough && are_made(out.items.as_slice()))
+    let enough = push_all(alloc, layout, &mut out);
+    let made = are_made(out.items.as_slice());
+    drop(out);
+    Ok(enough? && made)
+}
+
+// What is built is dropped on one path alone: each path more is proved anew.
+fn in_a_layout(alloc: Global, names: &Names<'_>) -> Result<bool, AllocError> {
+    let layout = layout(alloc, names)?;
+    let made = of_the_layout(alloc, &layout);
+    drop(layout);
+    made
+}
+
+fn in_a_model(alloc: Global, model: &Model) -> Result<bool, AllocError> {
+    let names = Names::new(alloc, model)?;
+    let made = in_a_layout(alloc, &names);
+    drop(names);
+    made
 }
 
 fn of_the_model(alloc: Global) -> Result<bool, AllocError> {
     let model = model(alloc)?;
-    let names = Names::new(alloc, &model)?;
-    of_names(alloc, &names)
+    let made = in_a_model(alloc, &model);
+    drop(model);
+    made
 }
 
 #[test]

@@ -23,7 +23,6 @@ use vc_types_names::{FirstNamed, Names};
 use vc_value::Listed;
 
 /// The slots, variables, sets and texts of a model's plan, with the indexes by which they are found.
-#[derive(Drop)]
 pub struct Layout<'n, 'm> {
     names: &'n Names<'m>,
     standings: Listed<Standing>,
@@ -45,6 +44,31 @@ pub struct Layout<'n, 'm> {
         ≡ position (λ x. (x.slot == i) && (x.characteristic == c)) sets } by { Prim.hlevel props },
     ghost tables_are: { (name : List ℕ) → value_of tables name
         ≡ position (λ t. bytes_eq t.name name) (names.now.model.now).tables } by { Prim.hlevel props },
+}
+
+// By hand, one field after another: a derived drop of so many fields makes who drops one slow to prove.
+impl<'n, 'm> Drop for Layout<'n, 'm> {
+    fn drop(self) {
+        let Layout {
+            names: _,
+            standings,
+            slots,
+            vars,
+            sets,
+            texts,
+            var_numbers,
+            set_numbers,
+            tables,
+        } = self;
+        drop(standings);
+        drop(slots);
+        drop(vars);
+        drop(sets);
+        drop(texts);
+        drop(var_numbers);
+        drop(set_numbers);
+        drop(tables);
+    }
 }
 
 impl<'n, 'm> Layout<'n, 'm> {

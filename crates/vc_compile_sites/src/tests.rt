@@ -200,23 +200,52 @@ fn conditions_are_kept(
     Ok(holds_b(&condition))
 }
 
-fn all_is_kept(alloc: Global, names: &Names<'_>) -> Result<bool, AllocError> {
-    let layout = layout(alloc, names)?;
-    let setting = Setting::new(alloc, names, ROOT, Tree::Procedure(&[]))?;
+fn all_is_kept(
+    alloc: Global,
+    layout: &Layout<'_, '_>,
+    setting: &Setting<'_, '_, '_>,
+) -> Result<bool, AllocError> {
     let site = Site {
-        setting: &setting,
+        setting,
         own: 0,
         parent: 0,
         objects: &[],
         slots: &[],
     };
-    Ok(terms_are_kept(alloc, &layout, &site)? && conditions_are_kept(alloc, &layout, &site)?)
+    Ok(terms_are_kept(alloc, layout, &site)? && conditions_are_kept(alloc, layout, &site)?)
+}
+
+// What is built is dropped on one path alone: each path more is proved anew.
+fn in_a_setting(
+    alloc: Global,
+    names: &Names<'_>,
+    layout: &Layout<'_, '_>,
+) -> Result<bool, AllocError> {
+    let setting = Setting::new(alloc, names, ROOT, Tree::Procedure(&[]))?;
+    let kept = all_is_kept(alloc, layout, &setting);
+    drop(setting);
+    kept
+}
+
+fn in_a_layout(alloc: Global, names: &Names<'_>) -> Result<bool, AllocError> {
+    let layout = layout(alloc, names)?;
+    let kept = in_a_setting(alloc, names, &layout);
+    drop(layout);
+    kept
+}
+
+fn in_a_model(alloc: Global, model: &Model) -> Result<bool, AllocError> {
+    let names = Names::new(alloc, model)?;
+    let kept = in_a_layout(alloc, &names);
+    drop(names);
+    kept
 }
 
 fn of_the_model(alloc: Global) -> Result<bool, AllocError> {
     let model = model(alloc)?;
-    let names = Names::new(alloc, &model)?;
-    all_is_kept(alloc, &names)
+    let kept = in_a_model(alloc, &model);
+    drop(model);
+    kept
 }
 
 #[test]
