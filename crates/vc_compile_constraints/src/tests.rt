@@ -1,4 +1,5 @@
-//! The rules of a model of one object whose net has a constraint that forbids it.
+//! The rules of a model of one object whose net has a constraint that forbids it: of the constraint, of its variable and
+//! of its slot.
 
 use crate::push_constraint_rules;
 use std::alloc::{AllocError, Global};
@@ -6,6 +7,7 @@ use std::test::Fail;
 use vc_compile_numbering::{Numbering, Trees};
 use vc_compile_plan::Standing;
 use vc_compile_rules::Room;
+use vc_compile_rules::own::{push_last_rules, push_line_rules};
 use vc_compile_sites::Layout;
 use vc_compile_uses::texts_of;
 use vc_model_parts::parts::{
@@ -180,10 +182,21 @@ fn layout<'n, 'm>(alloc: Global, names: &'n Names<'m>) -> Result<Layout<'n, 'm>,
     Layout::new(alloc, names, standings, slots, vars, sets, texts)
 }
 
+fn push_all(
+    alloc: Global,
+    layout: &Layout<'_, '_>,
+    out: &mut Numbering<Rule>,
+) -> Result<bool, AllocError> {
+    let first = push_constraint_rules(alloc, layout, out)?;
+    let second = push_last_rules(alloc, layout, out)?;
+    let third = push_line_rules(alloc, layout, out)?;
+    Ok(first == Room::Enough && second == Room::Enough && third == Room::Enough)
+}
+
 fn are_made(rules: &[Rule]) -> bool {
     match rules {
-        [rule] => match &rule.kind {
-            Kind::Never => rule.number == 1 && rule.slots.as_slice() == [0].as_slice(),
+        [first, second] => match (&first.kind, &second.kind) {
+            (Kind::Never, Kind::Last(var)) => first.number == 1 && second.number == 0 && *var == 0,
             _ => false,
         },
         _ => false,
@@ -192,10 +205,10 @@ fn are_made(rules: &[Rule]) -> bool {
 
 fn of_the_layout(alloc: Global, layout: &Layout<'_, '_>) -> Result<bool, AllocError> {
     let mut out = Numbering::over(alloc, Trees::new(alloc)?);
-    let room = push_constraint_rules(alloc, layout, &mut out);
+    let enough = push_all(alloc, layout, &mut out);
     let made = are_made(out.items.as_slice());
     drop(out);
-    Ok(room? == Room::Enough && made)
+    Ok(enough? && made)
 }
 
 // What is built is dropped on one path alone: each path more is proved anew.
@@ -221,7 +234,7 @@ fn of_the_model(alloc: Global) -> Result<bool, AllocError> {
 }
 
 #[test]
-fn constraints_have_rules(rt: HostRuntime) -> Result<(), Fail> {
+fn rules_are_made(rt: HostRuntime) -> Result<(), Fail> {
     assert!(rt; of_the_model(rt.alloc())?);
     Ok(())
 }

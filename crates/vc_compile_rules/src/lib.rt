@@ -9,6 +9,3 @@ pub mod inferred;
 pub mod own;
 
 pub use adding::Room;
-
-#[cfg(test)]
-mod tests;
