@@ -14,7 +14,7 @@ use vc_syntax_terms::tree::{
 };
 use vc_table::{Row, VariantTable};
 use vc_types_names::Names;
-use vc_value::{Dec, Domain, Grain, Listed, Value, Word};
+use vc_value::{Dec, Domain, Grain, GrainList, Listed, Value, Word};
 
 fn word(alloc: Global, text: &str) -> Result<Word, AllocError> {
     Word::from_bytes(alloc, text.as_bytes())
@@ -217,26 +217,49 @@ const ROOT: Slot = Slot {
     line: 0,
 };
 
+fn all_rows(alloc: Global) -> Result<Listed<VariantTable>, AllocError> {
+    let mut tables = Listed::new(alloc);
+    tables.push(rows(alloc)?)?;
+    Ok(tables)
+}
+
+// What is built is dropped on one path alone: each path more is proved anew.
+fn domains_by(alloc: Global, names: &Names<'_>) -> Result<Listed<Domain>, AllocError> {
+    let tables = all_rows(alloc)?;
+    let found = domains_of(alloc, names, [ROOT].as_slice(), tables.as_slice());
+    drop(tables);
+    found
+}
+
+fn domains_in(alloc: Global, model: &Model) -> Result<Listed<Domain>, AllocError> {
+    let names = Names::new(alloc, model)?;
+    let found = domains_by(alloc, &names);
+    drop(names);
+    found
+}
+
 // The domains of the model, with the rows of its table.
 fn domains(alloc: Global) -> Result<Listed<Domain>, AllocError> {
     let model = model(alloc)?;
-    let names = Names::new(alloc, &model)?;
-    let mut tables = Listed::new(alloc);
-    tables.push(rows(alloc)?)?;
-    domains_of(alloc, &names, [ROOT].as_slice(), tables.as_slice())
+    let found = domains_in(alloc, &model);
+    drop(model);
+    found
+}
+
+fn are_grains(grains: &GrainList, wanted: &[Grain]) -> bool {
+    for n in 0..grains.count() {
+        match wanted.get(n as usize) {
+            Some(grain) if *grain == grains.grain(n) => {}
+            _ => return false,
+        }
+    }
+    grains.count() as usize == wanted.len()
 }
 
 fn has_grains(domain: &Domain, wanted: &[Grain]) -> bool {
     match domain {
         Domain::Texts(_) => false,
-        Domain::Nums { decimals, grains } => {
-            for (n, grain) in wanted.iter().enumerate() {
-                if n as u32 >= grains.count() || grains.grain(n as u32) != *grain {
-                    return false;
-                }
-            }
-            *decimals == 0 && grains.count() as usize == wanted.len()
-        }
+        Domain::Nums { decimals, grains } => *decimals == 0 && are_grains(grains, wanted),
     }
 }
 
