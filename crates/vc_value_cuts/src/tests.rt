@@ -19,15 +19,21 @@ fn grain(low: i64, high: i64) -> Grain {
 // The whole numbers from 0 to 10.
 fn ten(alloc: Global) -> Result<CutGrains, AllocError> {
     let mut list = GrainList::new(alloc);
-    list.add(grain(0, 10_000_000))?;
+    list.add(Grain {
+        low: Dec { millionths: 0 },
+        high: Dec {
+            millionths: 10_000_000,
+        },
+    })?;
     CutGrains::new(alloc, &list)
 }
 
 // Whether the list has just these grains.
 fn is_list(list: &GrainList, grains: &[Grain]) -> bool {
-    for (n, grain) in grains.iter().enumerate() {
-        if n as u32 >= list.count() || list.grain(n as u32) != *grain {
-            return false;
+    for n in 0..list.count() {
+        match grains.get(n as usize) {
+            Some(grain) if *grain == list.grain(n) => {}
+            _ => return false,
         }
     }
     list.count() as usize == grains.len()
