@@ -1,5 +1,4 @@
-//! The rules of a model of one object whose net has a constraint that forbids it: of the constraint, of its variable and
-//! of its slot.
+//! The rules of a model of one object, whose net has a constraint that forbids it.
 
 use crate::push_constraint_rules;
 use std::alloc::{AllocError, Global};
