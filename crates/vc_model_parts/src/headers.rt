@@ -78,7 +78,8 @@ fn grains_of(alloc: Global, values: &[NumberValue]) -> Result<GrainList, AllocEr
     Ok(grains)
 }
 
-fn domain_of(alloc: Global, values: &Values) -> Result<Domain, AllocError>
+/// The values of a characteristic as they are listed: of texts their numbers, of numbers an interval an entry.
+pub fn domain_of(alloc: Global, values: &Values) -> Result<Domain, AllocError>
     ensures { IfOk result (λ domain. domain ≡ headers.domain_of values.now) }
 {
     match values {

@@ -4,7 +4,7 @@
 pub mod headers;
 pub mod parts;
 
-pub use headers::{header, table_count, table_file};
+pub use headers::{domain_of, header, table_count, table_file};
 pub use parts::{
     BillItem, Characteristic, Class, Component, Model, NamedDependency, Net, NumberValue, Object,
     Operation, Table, TableColumn, TextValue, Values,

@@ -1,6 +1,6 @@
 //! The header of a table with a column of texts, which is its key, and one of numbers.
 
-use crate::headers::{header, table_count, table_file};
+use crate::headers::{domain_of, header, table_count, table_file};
 use crate::parts::{
     Characteristic, Class, Model, NamedDependency, Net, NumberValue, Object, Table, TableColumn,
     TextValue, Values,
@@ -140,4 +140,27 @@ fn is_large(entries: &[Entry]) -> bool {
         [entry] => entry.text.is(b"L") && entry.number == 1,
         _ => false,
     }
+}
+
+fn listed(alloc: Global) -> Result<Domain, AllocError> {
+    let mut values = Listed::new(alloc);
+    values.push(TextValue {
+        text: 5,
+        uses: Listed::new(alloc),
+    })?;
+    domain_of(
+        alloc,
+        &Values::Texts {
+            length: 1,
+            multiple: true,
+            values,
+        },
+    )
+}
+
+#[test]
+fn a_domain_has_the_numbers_of_texts(rt: HostRuntime) -> Result<(), Fail> {
+    let domain = listed(rt.alloc())?;
+    assert!(rt; matches!(&domain, Domain::Texts(texts) if texts.as_slice() == [5].as_slice()));
+    Ok(())
 }
