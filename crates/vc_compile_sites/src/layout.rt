@@ -20,7 +20,7 @@ use vc_model_parts::{
 use vc_plan::{Named, Slot, TextSet, Var};
 use vc_types_names::named::places;
 use vc_types_names::{FirstNamed, Names};
-use vc_value::Listed;
+use vc_value::{Listed, Word};
 
 /// The slots, variables, sets and texts of a model's plan, with the indexes by which they are found.
 pub struct Layout<'n, 'm> {
@@ -44,6 +44,15 @@ pub struct Layout<'n, 'm> {
         ≡ position (λ x. (x.slot == i) && (x.characteristic == c)) sets } by { Prim.hlevel props },
     ghost tables_are: { (name : List ℕ) → value_of tables name
         ≡ position (λ t. bytes_eq t.name name) (names.now.model.now).tables } by { Prim.hlevel props },
+}
+
+/// The lists of a layout, without the indexes by which they are searched.
+#[derive(Drop)]
+pub struct Lists {
+    pub slots: Listed<Slot>,
+    pub vars: Listed<Var>,
+    pub sets: Listed<TextSet>,
+    pub texts: Listed<Word>,
 }
 
 // By hand, one field after another: a derived drop of so many fields makes who drops one slow to prove.
@@ -140,6 +149,38 @@ impl<'n, 'm> Layout<'n, 'm> {
         ensures { result.now ≡ (layout_seen self.now).standings }
     {
         self.standings.as_slice()
+    }
+
+    /// The slots, variables, sets and texts alone.
+    pub fn into_lists(self) -> Lists
+        ensures { result ≡ record {
+          slots = (layout_seen self.entry).slots;
+          vars = (layout_seen self.entry).vars;
+          sets = (layout_seen self.entry).sets;
+          texts = (layout_seen self.entry).texts;
+        } }
+    {
+        let Layout {
+            names: _,
+            standings,
+            slots,
+            vars,
+            sets,
+            texts,
+            var_numbers,
+            set_numbers,
+            tables,
+        } = self;
+        drop(standings);
+        drop(var_numbers);
+        drop(set_numbers);
+        drop(tables);
+        Lists {
+            slots,
+            vars,
+            sets,
+            texts: texts.into_all(),
+        }
     }
 
     /// How many variables there are.

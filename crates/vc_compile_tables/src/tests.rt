@@ -1,11 +1,11 @@
-//! A model of one object with two characteristics and one table, as its plan keeps it.
+//! A model of one object and one table, as its plan keeps it, and a characteristic.
 
-use crate::{dependency_names, objects_of, tables_of};
+use crate::{characteristics_of, dependency_names, objects_of, tables_of};
 use std::alloc::{AllocError, Global};
 use std::test::Fail;
 use vc_model_parts::parts::{
-    BillItem, Characteristic, Class, Model, NamedDependency, Net, Object, Operation, Table,
-    TableColumn,
+    BillItem, Characteristic, Class, Model, NamedDependency, Net, NumberValue, Object, Operation,
+    Table, TableColumn, Values,
 };
 use vc_syntax_terms::tree::{Dependency, Statement};
 use vc_table::{Row, VariantTable};
@@ -129,9 +129,40 @@ fn first_name(alloc: Global) -> Result<bool, AllocError> {
     }
 }
 
+// A characteristic of numbers in bar, without a listed value.
+fn pressures(alloc: Global) -> Result<Listed<Characteristic>, AllocError> {
+    let values: Listed<NumberValue> = Listed::new(alloc);
+    let mut characteristics = Listed::new(alloc);
+    characteristics.push(Characteristic {
+        name: word(alloc, "PRESSURE")?,
+        restrictable: false,
+        required: true,
+        uses: Listed::new(alloc),
+        values: Values::Numbers {
+            decimals: 1,
+            unit: Some(word(alloc, "bar")?),
+            values,
+        },
+    })?;
+    Ok(characteristics)
+}
+
+fn pressure_is_kept(alloc: Global) -> Result<bool, AllocError> {
+    let declared = pressures(alloc)?;
+    let kept = characteristics_of(alloc, declared.as_slice())?;
+    match kept.as_slice() {
+        [pressure] => {
+            let unit = pressure.unit.as_ref();
+            Ok(pressure.required && unit.is_some_and(|unit| unit.is(b"bar".as_slice())))
+        }
+        _ => Ok(false),
+    }
+}
+
 #[test]
 fn objects_and_tables_are_kept(rt: HostRuntime) -> Result<(), Fail> {
     assert!(rt; all_is_kept(rt.alloc())?);
     assert!(rt; first_name(rt.alloc())?);
+    assert!(rt; pressure_is_kept(rt.alloc())?);
     Ok(())
 }
