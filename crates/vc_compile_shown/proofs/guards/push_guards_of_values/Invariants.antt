@@ -1,0 +1,13 @@
+use Rattle.std.proofs.Common.{◌≡◌, drop, map, flat_map, slice_get, Some}
+use Rattle.vc_compile_plan.specs.Numbering.{guard_brings, guard_from}
+use Rattle.vc_compile_plan.specs.Shown.{GuardDraft, choice_at, guards_among, guards_of, guards_at}
+use Rattle.vc_compile_plan.specs.Sites.{named_at}
+use Rattle.vc_compile_plan.specs.Variables.{by_slot}
+use Rattle.vc_compile_numbering.specs.Growing.{seen, with_drafts}
+use Rattle.vc_compile_sites.specs.Standing.{asked_seen, entry_seen, layout_seen, site_seen}
+use Rattle.vc_compile_shown.proofs.guards.push_guards_of_values.Given as goal
+
+abbrev pub invariant-loop-entry : goal.invariant-loop-entry
+invariant-loop-entry l =
+    with_drafts guard_brings guard_from (seen l.out) (flat_map (λ e. guards_among (layout_seen l.layout) (site_seen l.site) l.at (Some e.piece) e.uses) (map entry_seen (drop l.entry-index l.entries)))
+    ≡ with_drafts guard_brings guard_from (seen l.fn.out) (flat_map (λ e. guards_among (layout_seen l.layout) (site_seen l.site) l.at (Some e.piece) e.uses) (map entry_seen l.entries))
