@@ -1,0 +1,73 @@
+//! The statements of procedures.
+
+ghost use Rattle.std.specs.Prelude.{◌≡◌, [], map, option_map, IfOk, OnOk};
+ghost use Rattle.vc_syntax_terms.specs.Trees as syntax;
+ghost use Rattle.vc_compile_plan.specs.Conditions as conditions;
+ghost use Rattle.vc_compile_plan.specs.Numbering.{statement_brings, statement_from};
+ghost use Rattle.vc_compile_plan.specs.Procedures as procedures;
+ghost use Rattle.vc_compile_plan.specs.Trees as plan;
+ghost use Rattle.vc_compile_numbering.specs.Growing.{with_draft, with_drafts};
+ghost use Rattle.vc_compile_sites.specs.Standing.{layout_seen, site_seen};
+ghost use Rattle.vc_compile_procedures.specs.Doing.{seen_with};
+
+use crate::actions::action_at;
+use std::alloc::{AllocError, Global};
+use vc_compile_numbering::Trees;
+use vc_compile_sites::{Layout, Site, condition_at};
+use vc_plan::{Condition as PlanCondition, Statement};
+use vc_syntax_terms::tree::{Condition, Statement as Stated};
+use vc_value::Listed;
+
+fn condition_if(
+    alloc: Global,
+    layout: &Layout<'_, '_>,
+    site: &Site<'_, '_, '_, '_>,
+    condition: &Option<Box<Condition>>,
+) -> Result<Option<PlanCondition>, AllocError>
+    ensures { IfOk result (λ asked. option_map plan.condition_of asked ≡ option_map
+        (conditions.condition_at (layout_seen layout.now) (site_seen site.now))
+        (option_map (λ boxed. syntax.condition_of boxed.value) condition.now)) }
+{
+    match condition {
+        Some(condition) => Ok(Some(condition_at(alloc, layout, site, condition)?)),
+        None => Ok(None),
+    }
+}
+
+// Puts a statement last.
+fn push_statement(
+    alloc: Global,
+    layout: &Layout<'_, '_>,
+    site: &Site<'_, '_, '_, '_>,
+    statement: &Stated,
+    trees: &mut Trees,
+    out: &mut Listed<Statement>,
+) -> Result<(), AllocError>
+    ensures { OnOk result (seen_with trees.new out.new ≡ with_draft statement_brings statement_from
+        (seen_with trees.old out.old) (procedures.statement_at (layout_seen layout.now) (site_seen site.now)
+        (syntax.statement_of statement.now))) }
+{
+    let condition = condition_if(alloc, layout, site, &statement.condition)?;
+    let condition = trees.add_if_asked(condition)?;
+    let action = action_at(alloc, layout, site, &statement.action, trees)?;
+    out.push(Statement { action, condition })
+}
+
+/// The statements at the site, whose conditions and terms come behind the others.
+pub fn statements_at(
+    alloc: Global,
+    layout: &Layout<'_, '_>,
+    site: &Site<'_, '_, '_, '_>,
+    statements: &[Stated],
+    trees: &mut Trees,
+) -> Result<Listed<Statement>, AllocError>
+    ensures { IfOk result (λ all. seen_with trees.new all ≡ with_drafts statement_brings statement_from
+        (seen_with trees.old []) (map (procedures.statement_at (layout_seen layout.now) (site_seen site.now))
+        (map syntax.statement_of statements.now))) }
+{
+    let mut all = Listed::new(alloc);
+    for statement in statements {
+        push_statement(alloc, layout, site, statement, trees, &mut all)?;
+    }
+    Ok(all)
+}
