@@ -1,0 +1,8 @@
+mod BoundRows
+pub mod CappingLemmas
+pub mod CountingLemmas
+pub mod KindLemmas
+pub mod MeetingLemmas
+pub mod PlaceLemmas
+pub mod RaisingLemmas
+pub mod RestrictionLemmas
