@@ -8,6 +8,7 @@ use Rattle.vc_plan.proofs.PlanRows.Models.{empty, own_rule, pump, root}
 use Rattle.vc_net_places.specs.Cells.{all_places, bounds_of, total}
 use Rattle.vc_net_bounds.specs.Capping.{capped}
 use Rattle.vc_net_bounds.specs.Counting.{clash_cells, sources_before}
+use Rattle.vc_net_bounds.specs.Keeping.{column_counts}
 use Rattle.vc_net_bounds.specs.Meeting.{met_after}
 use Rattle.vc_net_bounds.specs.Raising.{at_line, raised_by, raised_by_rules}
 
@@ -22,6 +23,13 @@ raised = refl
 
 as_stated : raised_by_rules pump pump.rules (map source_bound (all_places pump)) ≡ bounds_of pump
 as_stated = refl
+
+-- of its table one row has the first size, two the second and one the third; counted for a column alone, and for a variable
+counted : column_counts pump (record { table = 0; column = 0; domain = 0 }) ≡ 1 ∷ 2 ∷ 1 ∷ []
+counted = refl
+
+not_alike : column_counts pump (record { table = 0; column = 0; domain = 0 }) ≢ 2 ∷ 2 ∷ 2 ∷ []
+not_alike e = cc
 
 -- a clash needs the slot and the rows of the table
 clash : clash_cells pump ≡ 5

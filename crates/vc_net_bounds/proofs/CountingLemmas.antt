@@ -10,7 +10,7 @@ use Rattle.vc_plan.specs.Bounds.{Place, cell_bound, clash_bound, greatest, here_
 use Rattle.vc_plan.specs.Domains.{count_of, numbers_below}
 use Rattle.vc_net_places.specs.Cells.{all_places, bounds_of, own_bound, places_of_var, total}
 use Rattle.vc_net_places.proofs.PlaceLaws.Cells.{cells_suffice}
-use Rattle.vc_net_places.proofs.PlaceLaws.Things.{length_range}
+use Rattle.vc_net_places.proofs.PlaceLaws.Things.{length_range, replicate_next}
 use Rattle.vc_net_bounds.specs.declared.bounds.Bounds.{Bounds}
 use Rattle.vc_net_bounds.specs.declared.bounds.Counted.TheVariants.{Within, TooMany}
 use Rattle.vc_net_bounds.specs.Capping.{capped}
@@ -166,3 +166,6 @@ sources_next plan v =
 
 pub slots_first : (plan : Plan) → replicate (length plan.slots) 0 ≡ sources_before plan 0
 slots_first plan = sym (append-nil (replicate (length plan.slots) 0))
+
+-- what slots need for sources
+pub ruleset source_steps = (slots_first, replicate_next)

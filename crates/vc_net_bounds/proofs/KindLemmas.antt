@@ -17,7 +17,7 @@ use Rattle.vc_plan.specs.TableRows.{is_column_of, rows_of}
 use Rattle.vc_net_places.specs.Cells.{all_places}
 use Rattle.vc_net_bounds.specs.Capping.{capped}
 use Rattle.vc_net_bounds.specs.Raising.{at_equal, at_grains, at_line, at_narrowed, at_place, at_side, at_variable, capped_bound, raised_by, raised_narrowed, where_failing, with_rows}
-use Rattle.vc_net_bounds.proofs.CappingLemmas.{capped_if, sum_first}
+use Rattle.vc_net_bounds.proofs.CappingLemmas.{capped_if, sum_first, sum_of_capped}
 use Rattle.vc_net_bounds.proofs.RaisingLemmas.{raised_none, raised_same, raised_twice}
 
 -- nothing is needed at a slot but by a line
@@ -451,3 +451,12 @@ line_needs plan rule i b ns is = raised_same (at_line i b) (capped_bound plan ru
         by false true true true e h = let k : false ≡ true = h refl in absurd (cc)
     same (out_at w g) = none (i == 0)
     same (is_at w) = none (i == 0)
+
+-- what Among raises
+pub ruleset among_steps = (among_excluded, among_valued, among_alone, sum_of_capped)
+
+-- what a table call raises at a variable
+pub ruleset narrowed_steps = (narrowed_grains, narrowed_value, narrowed_not)
+
+-- what the kinds without a call of their own raise
+pub ruleset kind_steps = (never_raised, last_raised, line_needs)

@@ -1,6 +1,7 @@
 mod BoundRows
 pub mod CappingLemmas
 pub mod CountingLemmas
+pub mod KeepingLemmas
 pub mod KindLemmas
 pub mod MeetingLemmas
 pub mod PlaceLemmas

@@ -253,3 +253,22 @@ pub grains_done : (plan : Plan) (v g count : ℕ) (need : ℕ → ℕ) (ns ms : 
 grains_done plan v g count need ns ms done all =
     let none : 0 ≡ count - g = omega (arith, done) in
     ap (λ n. raised_grains plan v need (range_with_len g n) ms) none ∙ (all ∙ grains_raised plan v need ns)
+
+-- by needs that are the same at the variable's own grains
+pub grains_there : (plan : Plan) (v : ℕ) (f g : ℕ → ℕ) → ((i : ℕ) → i < count_of plan v → f i ≡ g i) → (ns : List ℕ)
+    → raised_by (at_grains v f) (all_places plan) ns ≡ raised_by (at_grains v g) (all_places plan) ns
+grains_there plan v f g same ns =
+    raised_each (at_grains v f) (at_grains v g) (all_places plan)
+    (λ i p e. let n : Numbered plan i p = numbered plan i p e in of_place p n.there) ns
+  where
+    of_place : (p : Place) → is_place plan p ≡ true → at_grains v f p ≡ at_grains v g p
+    of_place (here_at i) e = refl
+    of_place (is_at w) e = refl
+    of_place (out_at w h) e = by (v == w) refl
+      where
+        below : h < count_of plan w
+        below = ltb-true h (count_of plan w) (and_parts (nat_lt w (length plan.vars)) (nat_lt h (count_of plan w)) e).1
+
+        by : (b : Bool) → (v == w) ≡ b → only_if b (f h) ≡ only_if b (g h)
+        by true is = same h (subst (λ u. h < count_of plan u) (sym (eqb-true v w is)) below)
+        by false is = refl

@@ -92,3 +92,6 @@ raised_at_length [] zero b = refl
 raised_at_length [] (suc i) b = refl
 raised_at_length (n ∷ ns) zero b = refl
 raised_at_length (n ∷ ns) (suc i) b = let rest = raised_at_length ns i b in omega (arith, rest)
+
+-- one number raised, or none
+pub ruleset raising_steps = (set_raised, raised_past, raised_at_length)

@@ -1,15 +1,17 @@
 //! How many cells each place of a plan needs, and a clash.
 
-ghost use Rattle.std.specs.Prelude.{◌≡◌, ◌^◌, ◌<◌, ◌≤◌, ◌+◌, ◌++◌, max, map, length, IfOk, OnOk};
-ghost use Rattle.vc_plan.specs.Bounds.{cell_bound, clash_bound, greatest, source_bound};
+ghost use Rattle.std.specs.Prelude.{◌≡◌, ◌^◌, ◌<◌, ◌+◌, ◌++◌, max, map, length, IfOk, OnOk};
+ghost use Rattle.vc_plan.specs.Bounds.{clash_bound, source_bound};
 ghost use Rattle.vc_plan.specs.Domains.{atom_count, count_of};
 ghost use Rattle.vc_net_places.specs.Cells.{all_places, bounds_of};
 ghost use Rattle.vc_net_places.specs.Places.{index_of};
 ghost use Rattle.vc_net_bounds.specs.Capping.{capped};
 ghost use Rattle.vc_net_bounds.specs.Counting.{IsCounted, clash_cells, sources_before, sources_of_var};
+ghost use Rattle.vc_net_bounds.specs.Keeping.{IsKept};
 ghost use Rattle.vc_net_bounds.specs.Raising.{capped_bound, raised_by, raised_by_rules};
 
 use crate::capping::{MOST_CELLS, capped_sum, capped_total};
+use crate::keeping::Kept;
 use crate::kinds::raise_by_kind;
 use crate::meeting::Met;
 use crate::sizes::{clash_bound, common_bound};
@@ -33,7 +35,7 @@ pub enum Counted {
     TooMany,
 }
 
-#[tactic(auto, using(crate::proofs::CountingLemmas::slots_first, vc_net_places::proofs::PlaceLaws::Things::replicate_next))]
+#[tactic(auto, using(crate::proofs::CountingLemmas::source_steps))]
 fn sources_of_slots(alloc: Global, plan: &Plan) -> Result<Listed<u32>, AllocError>
     ensures { IfOk result (λ bounds. bounds ≡ sources_before plan.now 0) }
 {
@@ -74,18 +76,29 @@ fn take_rule(
     index: &Places,
     rule: &Rule,
     met: &mut Met,
+    kept: &mut Kept,
     bounds: &mut Bounds,
 ) -> Result<(), AllocError>
     requires few { atom_count plan.now < 2 ^ 32 }
     requires index { index.now ≡ index_of plan.now }
     requires whole { length bounds.old.places ≡ length (all_places plan.now) }
+    requires kept { IsKept plan.now kept.old }
+    ensures kept { OnOk result (IsKept plan.now kept.new) }
     ensures places { OnOk result (bounds.new.places
         ≡ raised_by (capped_bound plan.now rule.now rule.now.kind) (all_places plan.now) bounds.old.places) }
     ensures whole { OnOk result (length bounds.new.places ≡ length (all_places plan.now)) }
     ensures clash { OnOk result (bounds.new.clash ≡ max bounds.old.clash (capped (clash_bound plan.now rule.now))) }
 {
     let common = common_bound(plan, rule, &rule.kind, met)?;
-    raise_by_kind(plan, index, rule, &rule.kind, common, &mut bounds.places);
+    raise_by_kind(
+        plan,
+        index,
+        rule,
+        &rule.kind,
+        common,
+        kept,
+        &mut bounds.places,
+    )?;
     bounds.clash = bounds
         .clash
         .max(clash_bound(plan, rule, &rule.kind, common));
@@ -102,13 +115,14 @@ fn capped_bounds(alloc: Global, plan: &Plan) -> Result<Bounds, AllocError>
 {
     let index = Places::new(alloc, plan)?;
     let mut met = Met::new(alloc);
+    let mut kept = Kept::new(alloc);
     let mut bounds = Bounds {
         places: source_bounds(alloc, plan)?,
         clash: 1,
     };
     let mut rest = plan.rules.as_slice();
     while let [rule, more @ ..] = rest {
-        take_rule(plan, &index, rule, &mut met, &mut bounds)?;
+        take_rule(plan, &index, rule, &mut met, &mut kept, &mut bounds)?;
         rest = more;
     }
     Ok(bounds)

@@ -1,6 +1,7 @@
 //! Numbers that are told apart as far as the cells of a plan are counted.
 
 ghost use Rattle.std.specs.Prelude.{◌≡◌, ◌+◌};
+ghost use Rattle.vc_plan.specs.Bounds.{only_if};
 ghost use Rattle.vc_net_places.specs.Cells.{total};
 ghost use Rattle.vc_net_bounds.specs.Capping.{capped};
 
@@ -19,6 +20,17 @@ pub fn capped_sum(first: u32, second: u32) -> u32
     ensures { result ≡ capped (first + second) }
 {
     first.saturating_add(second).min(500_001)
+}
+
+/// One more where it is counted, as far as that is told.
+pub fn capped_count(counts: bool, count: u32) -> u32
+    ensures { result ≡ capped (count + only_if counts 1) }
+{
+    if counts {
+        capped_sum(count, 1)
+    } else {
+        capped_sum(count, 0)
+    }
 }
 
 /// All of the numbers together, as far as that is told.

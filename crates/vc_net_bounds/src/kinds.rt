@@ -1,17 +1,20 @@
 //! What a rule needs at the places where it may conclude, by its kind.
 
-ghost use Rattle.std.specs.Prelude.{◌≡◌, ◌^◌, ◌<◌, length};
+ghost use Rattle.std.specs.Prelude.{◌≡◌, ◌^◌, ◌<◌, length, OnOk};
 ghost use Rattle.vc_plan.specs.declared.rules.Kind.TheVariants.{Among, Compare, Equate};
 ghost use Rattle.vc_plan.specs.Domains.{atom_count};
 ghost use Rattle.vc_net_places.specs.Cells.{all_places};
 ghost use Rattle.vc_net_places.specs.Places.{index_of};
 ghost use Rattle.vc_net_bounds.specs.Capping.{capped};
+ghost use Rattle.vc_net_bounds.specs.Keeping.{IsKept};
 ghost use Rattle.vc_net_bounds.specs.Raising.{at_equal, at_line, at_side, capped_bound, common_bound, raised_by};
 
 use crate::capping::{capped, capped_sum};
+use crate::keeping::Kept;
 use crate::raising::{raise_failing, raise_slot, raise_value, raise_variable};
 use crate::restrictions::allowed_of;
 use crate::tables::raise_table;
+use std::alloc::AllocError;
 use vc_net_places::Places;
 use vc_plan::{Kind, Plan, Relation, Restriction, Rule, count_of};
 use vc_rule_grains::grains::is_restrictable;
@@ -19,7 +22,7 @@ use vc_rule_grains::kinds::is_inferred;
 use vc_rule_sides::sides::lone_inferred;
 use vc_value::Listed;
 
-#[tactic(auto, using(crate::proofs::KindLemmas::among_excluded, crate::proofs::KindLemmas::among_valued, crate::proofs::KindLemmas::among_alone, crate::proofs::CappingLemmas::sum_of_capped))]
+#[tactic(auto, using(crate::proofs::KindLemmas::among_steps))]
 fn raise_among(
     plan: &Plan,
     index: &Places,
@@ -144,39 +147,50 @@ fn raise_line(plan: &Plan, slot: u32, bound: u32, bounds: &mut Listed<u32>)
 }
 
 /// Raises the bounds at the places where a rule of the kind may conclude.
-#[tactic(auto, using(crate::proofs::KindLemmas::never_raised, crate::proofs::KindLemmas::last_raised, crate::proofs::KindLemmas::line_needs))]
+#[tactic(auto, using(crate::proofs::KindLemmas::kind_steps))]
 pub fn raise_by_kind(
     plan: &Plan,
     index: &Places,
     rule: &Rule,
     kind: &Kind,
     common: u32,
+    kept: &mut Kept,
     bounds: &mut Listed<u32>,
-)
+) -> Result<(), AllocError>
     requires few { atom_count plan.now < 2 ^ 32 }
     requires index { index.now ≡ index_of plan.now }
     requires whole { length bounds.old ≡ length (all_places plan.now) }
+    requires kept { IsKept plan.now kept.old }
     requires common { common ≡ capped (common_bound plan.now rule.now kind.now) }
-    ensures is { bounds.new ≡ raised_by (capped_bound plan.now rule.now kind.now) (all_places plan.now) bounds.old }
-    ensures whole { length bounds.new ≡ length (all_places plan.now) }
+    ensures kept { OnOk result (IsKept plan.now kept.new) }
+    ensures is { OnOk result (bounds.new ≡ raised_by (capped_bound plan.now rule.now kind.now)
+        (all_places plan.now) bounds.old) }
+    ensures whole { OnOk result (length bounds.new ≡ length (all_places plan.now)) }
 {
     match kind {
         Kind::Among(var, restriction) => {
-            raise_among(plan, index, rule, *var, restriction, common, bounds)
+            raise_among(plan, index, rule, *var, restriction, common, bounds);
         }
         Kind::Compare {
             relation,
             left,
             right,
-        } => raise_compare(plan, index, rule, *relation, *left, *right, common, bounds),
+        } => {
+            raise_compare(plan, index, rule, *relation, *left, *right, common, bounds);
+        }
         Kind::Equate { left, right } => {
-            raise_equate(plan, index, rule, *left, *right, common, bounds)
+            raise_equate(plan, index, rule, *left, *right, common, bounds);
         }
         Kind::ByTable { table, columns } => {
-            raise_table(plan, index, rule, *table, columns, common, bounds)
+            raise_table(plan, index, rule, *table, columns, common, kept, bounds)?;
         }
         Kind::Never => {}
-        Kind::Last(var) => { raise_value(plan, index, *var, capped(count_of(plan, *var)), bounds) }
-        Kind::Line(slot) => raise_line(plan, *slot, common, bounds),
+        Kind::Last(var) => {
+            raise_value(plan, index, *var, capped(count_of(plan, *var)), bounds);
+        }
+        Kind::Line(slot) => {
+            raise_line(plan, *slot, common, bounds);
+        }
     }
+    Ok(())
 }

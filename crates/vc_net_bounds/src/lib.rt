@@ -3,6 +3,7 @@
 
 pub mod bounds;
 pub mod capping;
+pub mod keeping;
 pub mod kinds;
 pub mod meeting;
 pub mod raising;

@@ -1,6 +1,6 @@
 //! How many different variables conditions and terms read.
 
-ghost use Rattle.std.specs.Prelude.{◌≡◌, ◌++◌, [], length, slice_get, IfOk, OnOk};
+ghost use Rattle.std.specs.Prelude.{◌≡◌, [], length, slice_get, IfOk, OnOk};
 ghost use Rattle.vc_plan.specs.Bounds.{condition_size, sides_size};
 ghost use Rattle.vc_plan.specs.Reads.{vars_in, vars_of_condition, vars_of_term, vars_read};
 ghost use Rattle.vc_net_bounds.specs.Capping.{capped};

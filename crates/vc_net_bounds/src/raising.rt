@@ -16,7 +16,7 @@ use vc_rule_grains::remaining::grain_count;
 use vc_value::Listed;
 
 // Nothing happens where there is no place of this number.
-#[tactic(auto, using(crate::proofs::RaisingLemmas::set_raised, crate::proofs::RaisingLemmas::raised_past, crate::proofs::RaisingLemmas::raised_at_length))]
+#[tactic(auto, using(crate::proofs::RaisingLemmas::raising_steps))]
 fn raise_at(bounds: &mut Listed<u32>, place: usize, bound: u32)
     ensures is { bounds.new ≡ raised_at place bound bounds.old }
     ensures kept { length bounds.new ≡ length bounds.old }

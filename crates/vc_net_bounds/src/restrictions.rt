@@ -1,6 +1,6 @@
 //! What a restriction allows, of any plan.
 
-ghost use Rattle.std.specs.Prelude.{◌≡◌, ◌≤◌, min};
+ghost use Rattle.std.specs.Prelude.{◌≡◌, min};
 ghost use Rattle.vc_plan.specs.Domains.{decimals_in, decimals_of, domain_of};
 ghost use Rattle.vc_plan.specs.Restrictions.{allows, literal_for};
 ghost use Rattle.vc_rule_terms.specs.Values.{meant};

@@ -1,22 +1,21 @@
-use Rattle.std.proofs.Common.{◌∙◌, arith}
-use Rattle.vc_plan.specs.Domains.{count_of}
-use Rattle.vc_net_bounds.specs.Raising.{with_rows}
-use Rattle.vc_net_bounds.proofs.PlaceLemmas.{grain_next, grains_done}
+-- The counts at hand are those of the variable's rows, whether they were kept or are counted anew.
+use Rattle.std.proofs.Common.{◌≡◌, ◌∙◌, Some, sym}
+use Rattle.vc_net_bounds.specs.Keeping.{column_counts}
+use Rattle.vc_net_bounds.proofs.KeepingLemmas.{counts_rows}
 use Rattle.vc_net_bounds.proofs.tables.raise_with_rows.Goals as goal
 
-pub loop-grain-preserved : goal.loop-grain-preserved
-loop-grain-preserved c =
+pub returns-in_ok-place-in-Some-clause-is : goal.returns-in_ok-place-in-Some-clause-is
+returns-in_ok-place-in-Some-clause-is c =
     let plan = c.args.plan.now in
-    let need = with_rows c.args.plan.now c.args.table c.args.columns.now c.args.var c.args.bound in (
-      grain_next plan c.args.var c.loop-grain.grain (count_of plan c.args.var) c.with_rows-own.result need c.loop-grain.bounds c.raise_grain.new.bounds
-          (omega (arith, c.loop-grain-test.true, c.grain_count-grain-end.ensures)) c.with_rows-own.ensures c.raise_grain.ensures.is
-          ∙ c.loop-grain.invariant.0,
-      c.raise_grain.ensures.whole,
-    )
+    let some : Some c.counts_at.result.now ≡ Some (column_counts plan c.in-Some.column)
+    = sym c.counts_at.ensures ∙ c.in_ok-place-in-Some.ensures.counts in
+    let same : c.counts_at.result.now ≡ column_counts plan c.in-Some.column = cc in
+    c.raise_with_counts.ensures.is
+    ∙ counts_rows plan c.args.table c.args.columns.now c.args.var c.args.bound c.counts_at.result.now c.args.bounds.now
+    (same ∙ sym c.in-Some.ensures)
 
-pub returns-clause-is : goal.returns-clause-is
-returns-clause-is c =
-    let plan = c.args.plan.now in
-    let need = with_rows c.args.plan.now c.args.table c.args.columns.now c.args.var c.args.bound in
-    grains_done plan c.args.var c.loop-grain.grain (count_of plan c.args.var) need c.args.bounds.now c.loop-grain.bounds
-    (omega (arith, c.loop-grain-test.false, c.grain_count-grain-end.ensures)) c.loop-grain.invariant.0
+pub returns-in_ok-counts-in-None-clause-is : goal.returns-in_ok-counts-in-None-clause-is
+returns-in_ok-counts-in-None-clause-is c =
+    c.raise_with_counts-in-None.ensures.is
+    ∙ counts_rows c.args.plan.now c.args.table c.args.columns.now c.args.var c.args.bound c.as_slice.result.now c.args.bounds.now
+    (c.as_slice.ensures ∙ c.in_ok-counts-in-None.ensures)
