@@ -29,7 +29,7 @@ places_next plan v =
 grains_count : (plan : Plan) (v : ℕ) → length (map (out_at v) (numbers_below (count_of plan v))) ≡ count_of plan v
 grains_count plan v = length-map (numbers_below (count_of plan v)) (out_at v) ∙ length_range 0 (count_of plan v)
 
-places_length : (plan : Plan) (v : ℕ) → length (places_before plan v) ≡ first_place plan v
+pub places_length : (plan : Plan) (v : ℕ) → length (places_before plan v) ≡ first_place plan v
 places_length plan zero =
     let slots = map here_at (numbers_below (length plan.slots)) in
     let count : length slots ≡ length plan.slots

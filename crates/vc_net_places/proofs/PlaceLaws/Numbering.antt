@@ -19,7 +19,7 @@ some_var : (plan : Plan) (v : ℕ) (o : Option (variable.Var)) → slice_get pla
 some_var plan v None e some = absurd (omega (arith, some))
 some_var plan v (Some x) e some = get_below plan.vars v x e
 
-has_grain : (plan : Plan) (v : ℕ) → 0 < count_of plan v → nat_lt v (length plan.vars) ≡ true
+pub has_grain : (plan : Plan) (v : ℕ) → 0 < count_of plan v → nat_lt v (length plan.vars) ≡ true
 has_grain plan v some = lt-ltb v (length plan.vars) (some_var plan v (slice_get plan.vars v) refl some)
 
 pub named_have_places : NamedHavePlaces

@@ -109,7 +109,7 @@ thing_of_var plan v (suc k) i below few =
         ∙ get_replicate (count_of plan k + 1) i (Var k) (subst (λ w. i < count_of plan w + 1) is few))
 
 -- what is kept at a number
-first_is : (plan : Plan) (v : ℕ) → v < length plan.vars → first_in (index_of plan) v ≡ first_place plan v
+pub first_is : (plan : Plan) (v : ℕ) → v < length plan.vars → first_in (index_of plan) v ≡ first_place plan v
 first_is plan v below = index_at (first_place plan) 0 (length plan.vars) v below ∙ ap (first_place plan) from_zero
   where
     from_zero : 0 + v ≡ v

@@ -1,0 +1,22 @@
+use Rattle.std.proofs.Common.{◌∙◌, arith, refl}
+use Rattle.vc_plan.specs.Domains.{count_of}
+use Rattle.vc_net_bounds.specs.Raising.{alike}
+use Rattle.vc_net_bounds.proofs.PlaceLemmas.{grain_next, grains_done}
+use Rattle.vc_net_bounds.proofs.raising.raise_grains.Goals as goal
+
+pub loop-grain-preserved : goal.loop-grain-preserved
+loop-grain-preserved c =
+    let plan = c.args.plan.now in
+    let need = alike c.args.bound in (
+      grain_next plan c.args.var c.loop-grain.grain (count_of plan c.args.var) c.args.bound need c.loop-grain.bounds c.raise_grain.new.bounds
+          (omega (arith, c.loop-grain-test.true, c.grain_count-grain-end.ensures)) refl c.raise_grain.ensures.is
+          ∙ c.loop-grain.invariant.0,
+      c.raise_grain.ensures.whole,
+    )
+
+pub returns-clause-is : goal.returns-clause-is
+returns-clause-is c =
+    let plan = c.args.plan.now in
+    let need = alike c.args.bound in
+    grains_done plan c.args.var c.loop-grain.grain (count_of plan c.args.var) need c.args.bounds.now c.loop-grain.bounds
+    (omega (arith, c.loop-grain-test.false, c.grain_count-grain-end.ensures)) c.loop-grain.invariant.0

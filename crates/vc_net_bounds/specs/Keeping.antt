@@ -1,0 +1,51 @@
+-- How many rows of a table have each grain, and which of these counts are kept.
+use Rattle.std.specs.Prelude.{◌≡◌, ℕ, Bool, List, [], ◌∷◌, length, map, slice_get, slice_index_or, ◌+◌, Option, None, Some}
+use Rattle.std.specs.List.{filter}
+use Rattle.vc_value.specs.declared.value.Value.{Value}
+use Rattle.vc_plan.specs.declared.plans.Plan.{Plan}
+use Rattle.vc_plan.specs.declared.rules.Binding.{Binding}
+use Rattle.vc_plan.specs.Bounds.{rows_with}
+use Rattle.vc_plan.specs.Domains.{count_of, grains_in, numbers_below}
+use Rattle.vc_plan.specs.TableRows.{cell_passes, columns_of, rows_of}
+use Rattle.vc_rule_table.specs.Cells.{grain_holds}
+use Rattle.vc_net_bounds.specs.declared.keeping.Column.{Column}
+use Rattle.vc_net_bounds.specs.Capping.{capped}
+
+-- of a variable that a table call is given, by grain
+abbrev pub rows_by_grain : Plan → ℕ → List Binding → ℕ → ℕ → ℕ
+rows_by_grain plan table columns v g = capped (rows_with plan table columns v g)
+
+abbrev pub row_counts : Plan → ℕ → List Binding → ℕ → List ℕ
+row_counts plan table columns v = map (rows_by_grain plan table columns v) (numbers_below (count_of plan v))
+
+-- of a column against a domain
+abbrev pub lies_in_grain : Plan → Column → ℕ → List Value → Bool
+lies_in_grain plan column g row =
+    cell_passes (λ a. grain_holds (grains_in (slice_get plan.domains column.domain)) a g) (slice_get row column.column)
+
+abbrev pub cells_by_grain : Plan → Column → ℕ → ℕ
+cells_by_grain plan column g = capped (length (filter (lies_in_grain plan column g) (rows_of plan column.table)))
+
+abbrev pub column_counts : Plan → Column → List ℕ
+column_counts plan column =
+    map (cells_by_grain plan column) (numbers_below (length (grains_in (slice_get plan.domains column.domain))))
+
+-- the columns that were asked for, with their counts
+pub record Counts : Type 0 where
+  pub columns : List Column
+  pub counts : List (List ℕ)
+
+abbrev pub IsKept : Plan → Counts → Type 0
+IsKept plan kept = kept.counts ≡ map (column_counts plan) kept.columns
+
+-- the numbers of the columns that the variable is given to, and that number, if there is one
+abbrev pub own_columns : ℕ → List Binding → List ℕ
+own_columns v columns = map (λ column. column.column) (columns_of v columns)
+
+abbrev pub if_met : Option ℕ → List ℕ
+if_met None = []
+if_met (Some n) = n ∷ []
+
+-- what each grain needs by these counts
+abbrev pub with_counts : List ℕ → ℕ → ℕ → ℕ
+with_counts counts b g = capped (b + slice_index_or counts g 0)

@@ -1,0 +1,5 @@
+pub mod Capping
+pub mod Counting
+pub mod Keeping
+pub mod Meeting
+pub mod Raising
