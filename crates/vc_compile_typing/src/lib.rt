@@ -9,3 +9,6 @@ pub mod uses;
 
 pub use finding::Found;
 pub use slots::type_fault;
+
+#[cfg(test)]
+mod tests;
