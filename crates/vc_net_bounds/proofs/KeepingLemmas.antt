@@ -5,18 +5,19 @@ use Rattle.std.specs.List.{filter, range_with_len}
 use Rattle.std.proofs.lemmas.Bool.{and_parts, eqb-true}
 use Rattle.std.proofs.lemmas.List.{length-map, map-append}
 use Rattle.vc_value.specs.declared.value.Value.{Value}
+use Rattle.vc_plan.specs.declared.conditions.Piece.{Piece}
 use Rattle.vc_plan.specs.declared.plans.Plan.{Plan}
 use Rattle.vc_plan.specs.declared.plans.Var as variable
 use Rattle.vc_plan.specs.declared.rules.Binding.{Binding}
 use Rattle.vc_plan.specs.Bounds.{rows_with}
-use Rattle.vc_plan.specs.Domains.{count_of, domain_of, grains_in, numbers_below}
+use Rattle.vc_plan.specs.Domains.{count_of, domain_of, grains_in, grains_of, numbers_below}
 use Rattle.vc_plan.specs.TableRows.{cell_passes, columns_of, has_grain, is_column_of, rows_of}
 use Rattle.vc_rule_table.specs.Cells.{grain_holds}
 use Rattle.vc_net_places.specs.Cells.{all_places}
-use Rattle.vc_net_places.proofs.PlaceLaws.Things.{length_range}
+use Rattle.vc_net_places.proofs.PlaceLaws.Things.{length_range, mapped_next}
 use Rattle.vc_net_bounds.specs.declared.keeping.Column.{Column}
 use Rattle.vc_net_bounds.specs.Capping.{capped}
-use Rattle.vc_net_bounds.specs.Keeping.{cells_by_grain, column_counts, if_met, lies_in_grain, own_columns, row_counts, rows_by_grain, with_counts}
+use Rattle.vc_net_bounds.specs.Keeping.{cell_of, cells_by_grain, cells_of, column_counts, if_met, lies_in_grain, lies_in_piece, own_columns, row_counts, rows_by_grain, with_counts}
 use Rattle.vc_net_bounds.specs.Raising.{at_grains, raised_by, with_rows}
 use Rattle.vc_net_bounds.proofs.CappingLemmas.{sum_second}
 use Rattle.vc_net_bounds.proofs.PlaceLemmas.{grains_there}
@@ -129,3 +130,44 @@ pub columns_more : (there : Bool) (columns new : List Column) (column : Column)
     → new ≡ cond there columns (columns ++ column ∷ []) → not there ≡ true → new ≡ columns ++ column ∷ []
 columns_more true columns new column e is = absurd (cc)
 columns_more false columns new column e is = e
+
+-- what is counted of cells is counted of their rows
+filter_mapped : {X Y : Type 0} (f : X → Y) (q : Y → Bool) (xs : List X)
+    → length (filter q (map f xs)) ≡ length (filter (λ x. q (f x)) xs)
+filter_mapped f q [] = refl
+filter_mapped f q (x ∷ xs) = by (q (f x)) (filter_mapped f q xs)
+  where
+    by : (b : Bool) → length (filter q (map f xs)) ≡ length (filter (λ y. q (f y)) xs)
+        → length (cond b (f x ∷ filter q (map f xs)) (filter q (map f xs)))
+        ≡ length (cond b (x ∷ filter (λ y. q (f y)) xs) (filter (λ y. q (f y)) xs))
+    by true rest = omega (arith, rest)
+    by false rest = rest
+
+pub counted_next : (plan : Plan) (v g n : ℕ) (column : Column) (piece : Option Piece) (cells : List (Option Value)) (counts next : List ℕ)
+    → grains_of plan v ≡ grains_in (slice_get plan.domains column.domain) → piece ≡ slice_get (grains_of plan v) g
+    → cells ≡ cells_of plan column → n ≡ capped (length (filter (lies_in_piece piece) cells))
+    → counts ≡ map (cells_by_grain plan column) (numbers_below g) → next ≡ counts ++ n ∷ []
+    → next ≡ map (cells_by_grain plan column) (numbers_below (g + 1))
+counted_next plan v g n column piece cells counts next grains p c count are pushed =
+    pushed
+    ∙ (ap (λ xs. xs ++ n ∷ []) are
+    ∙ (ap (λ k. map (cells_by_grain plan column) (numbers_below g) ++ k ∷ []) own ∙ sym (mapped_next (cells_by_grain plan column) g)))
+  where
+    own : n ≡ cells_by_grain plan column g
+    own =
+        count
+        ∙ (ap (λ q. capped (length (filter (lies_in_piece q) cells))) (p ∙ ap (λ gs. slice_get gs g) grains)
+        ∙ (ap (λ xs. capped (length (filter (lies_in_piece (slice_get (grains_in (slice_get plan.domains column.domain)) g)) xs))) c
+        ∙ ap capped (filter_mapped (cell_of column) (lies_in_piece (slice_get (grains_in (slice_get plan.domains column.domain)) g))
+        (rows_of plan column.table))))
+
+pub counted_all : (plan : Plan) (v g : ℕ) (column : Column) (counts : List ℕ)
+    → grains_of plan v ≡ grains_in (slice_get plan.domains column.domain) → count_of plan v ≡ g
+    → counts ≡ map (cells_by_grain plan column) (numbers_below g) → counts ≡ column_counts plan column
+counted_all plan v g column counts grains all are =
+    are ∙ ap (λ k. map (cells_by_grain plan column) (numbers_below k)) (sym all ∙ ap length grains)
+
+pub own_grains : (plan : Plan) (v d : ℕ) (x : variable.Var) → slice_get plan.vars v ≡ Some x → x.domain ≡ d
+    → grains_of plan v ≡ grains_in (slice_get plan.domains d)
+own_grains plan v d x at is =
+    ap (λ y. grains_in (domain_of plan y)) at ∙ ap (λ e. grains_in (slice_get plan.domains e)) is

@@ -2,12 +2,13 @@
 use Rattle.std.specs.Prelude.{◌≡◌, ℕ, Bool, List, [], ◌∷◌, length, map, slice_get, slice_index_or, ◌+◌, Option, None, Some}
 use Rattle.std.specs.List.{filter}
 use Rattle.vc_value.specs.declared.value.Value.{Value}
+use Rattle.vc_plan.specs.declared.conditions.Piece.{Piece}
 use Rattle.vc_plan.specs.declared.plans.Plan.{Plan}
 use Rattle.vc_plan.specs.declared.rules.Binding.{Binding}
 use Rattle.vc_plan.specs.Bounds.{rows_with}
-use Rattle.vc_plan.specs.Domains.{count_of, grains_in, numbers_below}
+use Rattle.vc_plan.specs.Domains.{count_of, grains_in, numbers_below, passes}
+use Rattle.vc_plan.specs.Pieces.{lies_in}
 use Rattle.vc_plan.specs.TableRows.{cell_passes, columns_of, rows_of}
-use Rattle.vc_rule_table.specs.Cells.{grain_holds}
 use Rattle.vc_net_bounds.specs.declared.keeping.Column.{Column}
 use Rattle.vc_net_bounds.specs.Capping.{capped}
 
@@ -19,9 +20,18 @@ abbrev pub row_counts : Plan → ℕ → List Binding → ℕ → List ℕ
 row_counts plan table columns v = map (rows_by_grain plan table columns v) (numbers_below (count_of plan v))
 
 -- of a column against a domain
+abbrev pub cell_of : Column → List Value → Option Value
+cell_of column row = slice_get row column.column
+
+abbrev pub cells_of : Plan → Column → List (Option Value)
+cells_of plan column = map (cell_of column) (rows_of plan column.table)
+
+abbrev pub lies_in_piece : Option Piece → Option Value → Bool
+lies_in_piece piece cell = cell_passes (λ a. passes (lies_in a) piece) cell
+
 abbrev pub lies_in_grain : Plan → Column → ℕ → List Value → Bool
 lies_in_grain plan column g row =
-    cell_passes (λ a. grain_holds (grains_in (slice_get plan.domains column.domain)) a g) (slice_get row column.column)
+    lies_in_piece (slice_get (grains_in (slice_get plan.domains column.domain)) g) (cell_of column row)
 
 abbrev pub cells_by_grain : Plan → Column → ℕ → ℕ
 cells_by_grain plan column g = capped (length (filter (lies_in_grain plan column g) (rows_of plan column.table)))

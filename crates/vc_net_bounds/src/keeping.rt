@@ -1,21 +1,23 @@
 //! How many rows of a table have each grain, counted once for a column and a domain.
 
-ghost use Rattle.std.specs.Prelude.{◌≡◌, ◌<◌, ◌∷◌, [], length, slice_get, IfOk, IfSome, OnOk, Some};
+ghost use Rattle.std.specs.Prelude.{◌≡◌, ◌^◌, ◌<◌, ◌∷◌, [], length, slice_get, IfOk, IfSome, OnOk, Some};
 ghost use Rattle.std.specs.List.{filter};
-ghost use Rattle.vc_plan.specs.Domains.{grains_in};
-ghost use Rattle.vc_rule_table.specs.Cells.{grain_holds};
+ghost use Rattle.vc_plan.specs.Domains.{atom_count, grains_in, grains_of, passes};
+ghost use Rattle.vc_plan.specs.Pieces.{lies_in};
 ghost use Rattle.vc_net_bounds.specs.Capping.{capped};
-ghost use Rattle.vc_net_bounds.specs.Keeping.{column_counts, lies_in_grain, own_columns, row_counts};
+ghost use Rattle.vc_net_bounds.specs.Keeping.{cells_of, column_counts, lies_in_piece, own_columns, row_counts};
 
 use crate::capping::capped_count;
 use crate::tables::count_rows;
 use indexmap::IndexSet;
 use std::alloc::{AllocError, Global};
 use std::marker::Model;
-use vc_plan::{Binding, Plan, count_of};
-use vc_rule_table::cells::{grain_count, grain_holds};
+use vc_plan::{Binding, Piece, Plan, count_of};
+use vc_rule_grains::grains::piece;
+use vc_rule_grains::remaining::grain_count;
 use vc_rule_table::rows::{is_column_of, rows_of};
 use vc_rule_terms::elements::element;
+use vc_rule_terms::lies_in;
 use vc_value::{Listed, Value};
 
 /// A column of a table, against the grains of a domain.
@@ -43,7 +45,8 @@ impl Model for Kept {
 }
 
 impl Kept {
-    ghost use Rattle.std.specs.Prelude.{◌≡◌, ◌<◌, [], length, slice_get, IfOk, OnOk, Some};
+    ghost use Rattle.std.specs.Prelude.{◌≡◌, ◌^◌, ◌<◌, [], length, slice_get, IfOk, OnOk, Some};
+    ghost use Rattle.vc_plan.specs.Domains.{atom_count, grains_in, grains_of};
     ghost use Rattle.vc_net_bounds.specs.Keeping.{IsKept, column_counts, row_counts};
 
     /// None yet.
@@ -58,15 +61,18 @@ impl Kept {
         }
     }
 
-    /// Where the column's counts stand, which are counted where they aren't there yet.
-    pub fn place_of(&mut self, plan: &Plan, column: Column) -> Result<usize, AllocError>
-        requires { IsKept plan.now self.old }
+    /// Where the column's counts stand, which are counted by a variable's grains where they aren't there yet.
+    pub fn place_of(&mut self, plan: &Plan, var: u32, column: Column) -> Result<usize, AllocError>
+        requires few { atom_count plan.now < 2 ^ 32 }
+        requires grains { grains_of plan.now var ≡ grains_in (slice_get plan.now.domains column.domain) }
+        requires kept { IsKept plan.now self.old }
         ensures kept { OnOk result (IsKept plan.now self.new) }
         ensures counts { IfOk result (λ place. slice_get self.new.counts place ≡ Some (column_counts plan.now column)) }
     {
         let (place, is_new) = self.columns.insert_full(column)?;
         if is_new {
-            self.counts.push(count_column(self.alloc, plan, column)?)?;
+            self.counts
+                .push(count_column(self.alloc, plan, var, column)?)?;
         }
         Ok(place)
     }
@@ -98,55 +104,94 @@ impl Kept {
     }
 }
 
-fn grain_has(plan: &Plan, domain: u32, grain: usize, value: Value) -> bool
-    ensures { result ≡ grain_holds (grains_in (slice_get plan.now.domains domain)) value grain }
+fn piece_has(piece: Option<Piece>, value: Value) -> bool
+    ensures { result ≡ passes (lies_in value) piece }
 {
-    match element(plan.domains.as_slice(), domain) {
-        Some(domain) => grain_holds(domain, grain, value),
+    match piece {
+        Some(piece) => lies_in(value, piece),
         None => false,
     }
 }
 
-fn lies_in_grain(plan: &Plan, column: Column, grain: usize, row: &[Value]) -> bool
-    ensures { result ≡ lies_in_grain plan.now column grain row.now }
+fn lies_in_piece(piece: Option<Piece>, cell: Option<Value>) -> bool
+    ensures { result ≡ lies_in_piece piece cell }
 {
-    match element(row, column.column) {
-        Some(value) => grain_has(plan, column.domain, grain, *value),
+    match cell {
+        Some(value) => piece_has(piece, value),
         None => false,
     }
 }
 
-// How many of the rows have a cell in the grain, as far as that is told.
+// How many of the cells lie in the piece, as far as that is told.
 #[tactic(auto, using(crate::proofs::CappingLemmas::row_next, crate::proofs::CappingLemmas::sum_done))]
-fn count_cells(plan: &Plan, column: Column, grain: usize, rows: &[Listed<Value>]) -> u32
-    ensures { result ≡ capped (length (filter (lies_in_grain plan.now column grain) rows.now)) }
+fn count_cells(piece: Option<Piece>, cells: &[Option<Value>]) -> u32
+    ensures { result ≡ capped (length (filter (lies_in_piece piece) cells.now)) }
 {
     let mut count = 0;
-    let mut rest = rows;
-    while let [row, more @ ..] = rest {
-        count = capped_count(lies_in_grain(plan, column, grain, row.as_slice()), count);
+    let mut rest = cells;
+    while let [cell, more @ ..] = rest {
+        count = capped_count(lies_in_piece(piece, *cell), count);
         rest = more;
     }
     count
 }
 
-fn grains_of_domain(plan: &Plan, domain: u32) -> usize
-    ensures { result ≡ length (grains_in (slice_get plan.now.domains domain)) }
+fn cell_at(row: &[Value], column: u32) -> Option<Value>
+    ensures { result ≡ slice_get row.now column }
 {
-    match element(plan.domains.as_slice(), domain) {
-        Some(domain) => grain_count(domain),
-        None => 0,
+    match element(row, column) {
+        Some(value) => Some(*value),
+        None => None,
     }
 }
 
-#[tactic(auto, using(vc_net_places::proofs::PlaceLaws::Things::mapped_next))]
-fn count_column(alloc: Global, plan: &Plan, column: Column) -> Result<Listed<u32>, AllocError>
+// The cells in the column, one after another in memory.
+fn cells_of(alloc: Global, plan: &Plan, column: Column) -> Result<Listed<Option<Value>>, AllocError>
+    ensures { IfOk result (λ cells. cells ≡ cells_of plan.now column) }
+{
+    let mut cells = Listed::new(alloc);
+    let mut rest = rows_of(plan, column.table);
+    while let [row, more @ ..] = rest {
+        cells.push(cell_at(row.as_slice(), column.column))?;
+        rest = more;
+    }
+    Ok(cells)
+}
+
+// How many of the column's cells lie in each grain of the variable.
+fn count_by_cells(
+    alloc: Global,
+    plan: &Plan,
+    var: u32,
+    column: Column,
+    cells: &[Option<Value>],
+) -> Result<Listed<u32>, AllocError>
+    requires few { atom_count plan.now < 2 ^ 32 }
+    requires grains { grains_of plan.now var ≡ grains_in (slice_get plan.now.domains column.domain) }
+    requires cells { cells.now ≡ cells_of plan.now column }
     ensures { IfOk result (λ counts. counts ≡ column_counts plan.now column) }
 {
     let mut counts = Listed::new(alloc);
-    for grain in 0..grains_of_domain(plan, column.domain) {
-        counts.push(count_cells(plan, column, grain, rows_of(plan, column.table)))?;
+    for grain in 0..grain_count(plan, var) {
+        let count = count_cells(piece(plan, var, grain), cells);
+        counts.push(count)?;
     }
+    Ok(counts)
+}
+
+// How many rows have each grain of the variable in the column.
+fn count_column(
+    alloc: Global,
+    plan: &Plan,
+    var: u32,
+    column: Column,
+) -> Result<Listed<u32>, AllocError>
+    requires few { atom_count plan.now < 2 ^ 32 }
+    requires grains { grains_of plan.now var ≡ grains_in (slice_get plan.now.domains column.domain) }
+    ensures { IfOk result (λ counts. counts ≡ column_counts plan.now column) }
+{
+    let cells = cells_of(alloc, plan, column)?;
+    let counts = count_by_cells(alloc, plan, var, column, cells.as_slice())?;
     Ok(counts)
 }
 
@@ -172,7 +217,10 @@ fn only_column(columns: &[Binding], var: u32) -> Option<u32>
 /// The column of a table and the domain, by which the variable's rows are counted, where it is given to one column.
 #[tactic(auto, using(crate::proofs::KeepingLemmas::one_column))]
 pub fn column_for(plan: &Plan, table: u32, columns: &[Binding], var: u32) -> Option<Column>
-    ensures { IfSome result (λ column. row_counts plan.now table columns.now var ≡ column_counts plan.now column) }
+    ensures counts { IfSome result (λ column. row_counts plan.now table columns.now var
+        ≡ column_counts plan.now column) }
+    ensures grains { IfSome result (λ column. grains_of plan.now var
+        ≡ grains_in (slice_get plan.now.domains column.domain)) }
 {
     let x = element(plan.vars.as_slice(), var)?;
     let column = only_column(columns, var)?;

@@ -102,7 +102,7 @@ fn raise_with_rows(
 {
     match column_for(plan, table, columns, var) {
         Some(column) => {
-            let place = kept.place_of(plan, column)?;
+            let place = kept.place_of(plan, var, column)?;
             raise_with_counts(plan, index, var, bound, kept.counts_at(place), bounds);
         }
         None => {

@@ -12,7 +12,7 @@ returns-in_ok-place-in-Some-clause-is c =
     let same : c.counts_at.result.now ≡ column_counts plan c.in-Some.column = cc in
     c.raise_with_counts.ensures.is
     ∙ counts_rows plan c.args.table c.args.columns.now c.args.var c.args.bound c.counts_at.result.now c.args.bounds.now
-    (same ∙ sym c.in-Some.ensures)
+    (same ∙ sym c.in-Some.ensures.counts)
 
 pub returns-in_ok-counts-in-None-clause-is : goal.returns-in_ok-counts-in-None-clause-is
 returns-in_ok-counts-in-None-clause-is c =
