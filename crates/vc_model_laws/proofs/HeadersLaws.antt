@@ -20,7 +20,7 @@ use Rattle.vc_model_laws.specs.Lists.{are_proper, KeepsLists}
 use Rattle.vc_model_laws.proofs.TextsLaws.{passes_at, weaker}
 
 -- a number below the count is that of a thing
-there : {X : Type 0} (xs : List X) (k : ℕ) → nat_lt k (length xs) ≡ true → (x : X) × (slice_get xs k ≡ Some x)
+pub there : {X : Type 0} (xs : List X) (k : ℕ) → nat_lt k (length xs) ≡ true → (x : X) × (slice_get xs k ≡ Some x)
 there [] k h = absurd (let no = ltb-true k 0 h in omega (arith, no))
 there (x ∷ xs) zero h = (x, refl)
 there (x ∷ xs) (suc k) h = there xs k (let is = ltb-true (suc k) (length (x ∷ xs)) h in lt-ltb k (length xs) (omega (arith, is)))

@@ -12,6 +12,7 @@ pub mod MarkedLaws
 pub mod NameCases
 pub mod NameLemmas
 pub mod NamesLaws
+pub mod RowsLaws
 pub mod SpelledLaws
 pub mod TextsLaws
 pub mod Utf8Lemmas

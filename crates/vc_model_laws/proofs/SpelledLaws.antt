@@ -11,6 +11,7 @@ use Rattle.vc_model_laws.specs.Laws.{SpelledKeeps}
 use Rattle.vc_model_laws.specs.Limits.{KeepsLimits}
 use Rattle.vc_model_laws.specs.Lists.{KeepsLists}
 use Rattle.vc_model_laws.specs.Names.{KeepsNames}
+use Rattle.vc_model_laws.specs.Rows.{ReadRowsAreKept}
 use Rattle.vc_model_laws.specs.Texts.{KeepsTexts}
 use Rattle.vc_model_laws.proofs.HeadersLaws.{keeps_headers}
 use Rattle.vc_model_laws.proofs.IndicesLaws.{keeps_indices}
@@ -19,6 +20,7 @@ use Rattle.vc_model_laws.proofs.LimitsLaws.{keeps_limits}
 use Rattle.vc_model_laws.proofs.LineForms.{lines_formed}
 use Rattle.vc_model_laws.proofs.ListsLaws.{keeps_lists}
 use Rattle.vc_model_laws.proofs.NamesLaws.{keeps_names}
+use Rattle.vc_model_laws.proofs.RowsLaws.{keeps_rows}
 use Rattle.vc_model_laws.proofs.TextsLaws.{keeps_texts}
 use Rattle.vc_model_laws.proofs.Walks.{Sound, sound}
 
@@ -49,3 +51,7 @@ spelled_keeps_kinds = spelled KeepsKinds keeps_kinds
 pub spelled_keeps_headers : SpelledKeeps KeepsHeaders
 spelled_keeps_headers text model spells =
     keeps_headers model (spelled_keeps_indices text model spells) (spelled_keeps_lists text model spells)
+
+pub read_rows_are_kept : ReadRowsAreKept
+read_rows_are_kept text model t table records rows spells at h =
+    keeps_rows model t table records rows (spelled_keeps_indices text model spells) (spelled_keeps_headers text model spells) at h

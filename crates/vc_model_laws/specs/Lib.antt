@@ -5,4 +5,5 @@ pub mod Laws
 pub mod Limits
 pub mod Lists
 pub mod Names
+pub mod Rows
 pub mod Texts

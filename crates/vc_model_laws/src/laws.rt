@@ -7,6 +7,7 @@ ghost use Rattle.vc_model_laws.specs.Laws.{SpelledKeeps};
 ghost use Rattle.vc_model_laws.specs.Limits.{KeepsLimits};
 ghost use Rattle.vc_model_laws.specs.Lists.{KeepsLists};
 ghost use Rattle.vc_model_laws.specs.Names.{KeepsNames};
+ghost use Rattle.vc_model_laws.specs.Rows.{ReadRowsAreKept};
 ghost use Rattle.vc_model_laws.specs.Texts.{KeepsTexts};
 
 /// In each model that some text spells the names, materials and units are spelled, in upper case, and of each kind a
@@ -43,4 +44,10 @@ pub fn spelled_models_keep_kinds()
 /// The headers of its tables leave nothing out of it.
 pub fn spelled_models_keep_headers()
     ensures { SpelledKeeps KeepsHeaders }
+{}
+
+/// The rows of a table that is read with its header have a value of its list for each column, they are at most 10,000,
+/// and none has the key of one before it, where there is a key.
+pub fn read_rows_are_kept()
+    ensures { ReadRowsAreKept }
 {}
