@@ -1,5 +1,6 @@
 -- The names that all lines declare are those of the things that they make.
-use Rattle.std.proofs.Common.{◌≡◌, ℕ, false, List, [], ◌++◌, map, option_to_list, Option, Some, None, refl, sym, ◌∙◌, append-nil}
+use Rattle.std.proofs.Common.{◌≡◌, ℕ, false, List, [], ◌++◌, map, option_to_list, Option, Some, None, refl, sym, ◌∙◌}
+use Rattle.std.proofs.Common.{append-nil}
 use Rattle.std.specs.Prelude.{option_map}
 use Rattle.std.proofs.lemmas.Bool.{or_parts}
 use Rattle.std.proofs.lemmas.List.{map-id}
@@ -17,10 +18,12 @@ use Rattle.vc_model_scope.specs.Recursions.{declared, with_option}
 use Rattle.vc_model_scope.specs.Scope.{scope_of}
 use Rattle.vc_model_scope.specs.declared.scope.Scope.{Scope}
 use Rattle.vc_model_faults.specs.First.{backwards}
-use Rattle.vc_model_faults.specs.Readings.{dependency_reading, dependency_read, reading, tells_unread, is_unread, tree_in}
+use Rattle.vc_model_faults.specs.Readings.{dependency_reading, dependency_read, reading, tells_unread, is_unread}
+use Rattle.vc_model_faults.specs.Readings.{tree_in}
 use Rattle.vc_model_faults.specs.Twice.{is_twice}
 use Rattle.vc_model_scope.specs.LookAhead.{block_text}
-use Rattle.vc_model_drafts.specs.Models.{never, throughout, characteristic_at, class_at, table_at, dependency_at, net_at, object_at, model_of}
+use Rattle.vc_model_drafts.specs.Models.{never, throughout, characteristic_at, class_at, table_at, dependency_at}
+use Rattle.vc_model_drafts.specs.Models.{net_at, object_at, model_of}
 use Rattle.vc_model_laws.proofs.LineCases.{dependency_made}
 use Rattle.vc_model_laws.proofs.NameCases.{by_characteristic, by_class, by_table, by_object, by_net, by_dependency}
 use Rattle.vc_model_laws.proofs.NameLemmas.{put_last}
@@ -40,68 +43,83 @@ declares f say key adds same ls s =
 abbrev pub Adds : (Line → Option (List ℕ)) → List Line → Option (List ℕ) → Type 0
 Adds f earlier o = with_option with_name (declared f earlier) o ≡ declared f earlier ++ option_to_list o
 
-new_char : (earlier : List Line) (x : CharLine) → is_twice (scope_of earlier) (lines.Char x) ≡ false → is_among (declared characteristic_of earlier) x.name ≡ false
+new_char : (earlier : List Line) (x : CharLine) → is_twice (scope_of earlier) (lines.Char x) ≡ false
+    → is_among (declared characteristic_of earlier) x.name ≡ false
 unfolding is_twice scope_of
 new_char earlier x once = once
 
-new_num : (earlier : List Line) (x : NumLine) → is_twice (scope_of earlier) (lines.Num x) ≡ false → is_among (declared characteristic_of earlier) x.name ≡ false
+new_num : (earlier : List Line) (x : NumLine) → is_twice (scope_of earlier) (lines.Num x) ≡ false
+    → is_among (declared characteristic_of earlier) x.name ≡ false
 unfolding is_twice scope_of
 new_num earlier x once = once
 
-pub characteristic_add : (earlier : List Line) (line : Line) (below : List Line) → Passes (scope_of earlier) line below → Adds characteristic_of earlier (characteristic_of line)
+pub characteristic_add : (earlier : List Line) (line : Line) (below : List Line) → Passes (scope_of earlier) line below
+    → Adds characteristic_of earlier (characteristic_of line)
 characteristic_add earlier line below s =
-    by_characteristic (scope_of earlier) line below (Adds characteristic_of earlier) (sym (append-nil (declared characteristic_of earlier)))
+    by_characteristic (scope_of earlier) line below (Adds characteristic_of earlier)
+    (sym (append-nil (declared characteristic_of earlier)))
     (λ x p. put_last (declared characteristic_of earlier) x.name (new_char earlier x p.once))
     (λ x p. put_last (declared characteristic_of earlier) x.name (new_num earlier x p.once))
     s
 
-new_class : (earlier : List Line) (x : List ℕ) → is_twice (scope_of earlier) (lines.Class x) ≡ false → is_among (declared class_of earlier) x ≡ false
+new_class : (earlier : List Line) (x : List ℕ) → is_twice (scope_of earlier) (lines.Class x) ≡ false
+    → is_among (declared class_of earlier) x ≡ false
 unfolding is_twice scope_of
 new_class earlier x once = once
 
-pub class_add : (earlier : List Line) (line : Line) (below : List Line) → Passes (scope_of earlier) line below → Adds class_of earlier (class_of line)
+pub class_add : (earlier : List Line) (line : Line) (below : List Line) → Passes (scope_of earlier) line below
+    → Adds class_of earlier (class_of line)
 class_add earlier line below s =
     by_class (scope_of earlier) line below (Adds class_of earlier) (sym (append-nil (declared class_of earlier)))
     (λ x p. put_last (declared class_of earlier) x (new_class earlier x p.once))
     s
 
-new_table : (earlier : List Line) (x : TableLine) → is_twice (scope_of earlier) (lines.Table x) ≡ false → is_among (declared table_of earlier) x.name ≡ false
+new_table : (earlier : List Line) (x : TableLine) → is_twice (scope_of earlier) (lines.Table x) ≡ false
+    → is_among (declared table_of earlier) x.name ≡ false
 unfolding is_twice scope_of
 new_table earlier x once = once
 
-pub table_add : (earlier : List Line) (line : Line) (below : List Line) → Passes (scope_of earlier) line below → Adds table_of earlier (table_of line)
+pub table_add : (earlier : List Line) (line : Line) (below : List Line) → Passes (scope_of earlier) line below
+    → Adds table_of earlier (table_of line)
 table_add earlier line below s =
     by_table (scope_of earlier) line below (Adds table_of earlier) (sym (append-nil (declared table_of earlier)))
     (λ x p. put_last (declared table_of earlier) x.name (new_table earlier x p.once))
     s
 
-new_object : (earlier : List Line) (x : ObjectLine) → is_twice (scope_of earlier) (lines.Object x) ≡ false → is_among (declared object_of earlier) x.material ≡ false
+new_object : (earlier : List Line) (x : ObjectLine) → is_twice (scope_of earlier) (lines.Object x) ≡ false
+    → is_among (declared object_of earlier) x.material ≡ false
 unfolding is_twice scope_of
 new_object earlier x once = (or_parts _ _ once).0
 
-pub object_add : (earlier : List Line) (line : Line) (below : List Line) → Passes (scope_of earlier) line below → Adds object_of earlier (object_of line)
+pub object_add : (earlier : List Line) (line : Line) (below : List Line) → Passes (scope_of earlier) line below
+    → Adds object_of earlier (object_of line)
 object_add earlier line below s =
     by_object (scope_of earlier) line below (Adds object_of earlier) (sym (append-nil (declared object_of earlier)))
     (λ x p. put_last (declared object_of earlier) x.material (new_object earlier x p.once))
     s
 
-new_net : (earlier : List Line) (x : List ℕ) → is_twice (scope_of earlier) (lines.Net x) ≡ false → is_among (declared net_of earlier) x ≡ false
+new_net : (earlier : List Line) (x : List ℕ) → is_twice (scope_of earlier) (lines.Net x) ≡ false
+    → is_among (declared net_of earlier) x ≡ false
 unfolding is_twice scope_of
 new_net earlier x once = (or_parts _ _ once).0
 
-pub net_add : (earlier : List Line) (line : Line) (below : List Line) → Passes (scope_of earlier) line below → Adds net_of earlier (net_of line)
+pub net_add : (earlier : List Line) (line : Line) (below : List Line) → Passes (scope_of earlier) line below
+    → Adds net_of earlier (net_of line)
 net_add earlier line below s =
     by_net (scope_of earlier) line below (Adds net_of earlier) (sym (append-nil (declared net_of earlier)))
     (λ x p. put_last (declared net_of earlier) x (new_net earlier x p.once))
     s
 
-new_block : (earlier : List Line) (x : BlockLine) → is_twice (scope_of earlier) (lines.Block x) ≡ false → is_among (declared dependency_of earlier) x.name ≡ false
+new_block : (earlier : List Line) (x : BlockLine) → is_twice (scope_of earlier) (lines.Block x) ≡ false
+    → is_among (declared dependency_of earlier) x.name ≡ false
 unfolding is_twice scope_of
 new_block earlier x once = (or_parts _ _ once).1
 
-pub dependency_add : (earlier : List Line) (line : Line) (below : List Line) → Passes (scope_of earlier) line below → Adds dependency_of earlier (dependency_of line)
+pub dependency_add : (earlier : List Line) (line : Line) (below : List Line) → Passes (scope_of earlier) line below
+    → Adds dependency_of earlier (dependency_of line)
 dependency_add earlier line below s =
-    by_dependency (scope_of earlier) line below (Adds dependency_of earlier) (sym (append-nil (declared dependency_of earlier)))
+    by_dependency (scope_of earlier) line below (Adds dependency_of earlier)
+    (sym (append-nil (declared dependency_of earlier)))
     (λ x p. put_last (declared dependency_of earlier) x.name (new_block earlier x p.once))
     s
 
@@ -137,12 +155,14 @@ things_named a n (lines.Root x) below = (refl, refl, refl, refl, refl)
 things_named a n lines.Action below = (refl, refl, refl, refl, refl)
 
 read_is : (n : ℕ) (x : BlockLine) (tree : Option Dependency) → tells_unread (Some (dependency_reading tree)) ≡ false
-    → option_map (λ d. d.name) (option_map (dependency_made n x) (dependency_read (Some (dependency_reading tree)))) ≡ Some x.name
+    → option_map (λ d. d.name) (option_map (dependency_made n x) (dependency_read (Some (dependency_reading tree))))
+    ≡ Some x.name
 read_is n x None read = absurd (cc)
 read_is n x (Some tree) read = refl
 
 block_named : (n : ℕ) (x : BlockLine) (below : List Line) → is_unread (lines.Block x) below ≡ false
-    → option_map (λ d. d.name) (option_map (dependency_made n x) (dependency_read (reading (lines.Block x) below))) ≡ Some x.name
+    → option_map (λ d. d.name) (option_map (dependency_made n x) (dependency_read (reading (lines.Block x) below)))
+    ≡ Some x.name
 unfolding reading is_unread
 block_named n x below read = read_is n x (tree_in x.kind (block_text below)) read
 
@@ -172,32 +192,42 @@ dependency_named a n (lines.Block x) below s = block_named n x below s
 dependency_named a n (lines.Root x) below s = refl
 dependency_named a n lines.Action below s = refl
 
-pub characteristics_are : (ls : List Line) → Sound [] ls → map (λ c. c.name) (model_of ls).characteristics ≡ declared characteristic_of (backwards [] ls)
+pub characteristics_are : (ls : List Line) → Sound [] ls
+    → map (λ c. c.name) (model_of ls).characteristics ≡ declared characteristic_of (backwards [] ls)
 characteristics_are ls s =
     let a = scope_of (backwards [] ls) in
-    declares characteristic_of (characteristic_at a) (λ c. c.name) characteristic_add (λ earlier n line below p. (things_named a n line below).0) ls s
+    declares characteristic_of (characteristic_at a) (λ c. c.name) characteristic_add
+    (λ earlier n line below p. (things_named a n line below).0) ls s
 
-pub classes_are : (ls : List Line) → Sound [] ls → map (λ c. c.name) (model_of ls).classes ≡ declared class_of (backwards [] ls)
+pub classes_are : (ls : List Line) → Sound [] ls
+    → map (λ c. c.name) (model_of ls).classes ≡ declared class_of (backwards [] ls)
 classes_are ls s =
     let a = scope_of (backwards [] ls) in
-    declares class_of (class_at a) (λ c. c.name) class_add (λ earlier n line below p. (things_named a n line below).1) ls s
+    declares class_of (class_at a) (λ c. c.name) class_add (λ earlier n line below p. (things_named a n line below).1)
+    ls s
 
-pub tables_are : (ls : List Line) → Sound [] ls → map (λ t. t.name) (model_of ls).tables ≡ declared table_of (backwards [] ls)
+pub tables_are : (ls : List Line) → Sound [] ls
+    → map (λ t. t.name) (model_of ls).tables ≡ declared table_of (backwards [] ls)
 tables_are ls s =
     let a = scope_of (backwards [] ls) in
-    declares table_of (table_at a) (λ t. t.name) table_add (λ earlier n line below p. (things_named a n line below).2) ls s
+    declares table_of (table_at a) (λ t. t.name) table_add (λ earlier n line below p. (things_named a n line below).2)
+    ls s
 
 pub nets_are : (ls : List Line) → Sound [] ls → map (λ m. m.name) (model_of ls).nets ≡ declared net_of (backwards [] ls)
 nets_are ls s =
     let a = scope_of (backwards [] ls) in
     declares net_of (net_at a) (λ m. m.name) net_add (λ earlier n line below p. (things_named a n line below).3) ls s
 
-pub objects_are : (ls : List Line) → Sound [] ls → map (λ o. o.material) (model_of ls).objects ≡ declared object_of (backwards [] ls)
+pub objects_are : (ls : List Line) → Sound [] ls
+    → map (λ o. o.material) (model_of ls).objects ≡ declared object_of (backwards [] ls)
 objects_are ls s =
     let a = scope_of (backwards [] ls) in
-    declares object_of (object_at a) (λ o. o.material) object_add (λ earlier n line below p. (things_named a n line below).4) ls s
+    declares object_of (object_at a) (λ o. o.material) object_add
+    (λ earlier n line below p. (things_named a n line below).4) ls s
 
-pub dependencies_are : (ls : List Line) → Sound [] ls → map (λ d. d.name) (model_of ls).dependencies ≡ declared dependency_of (backwards [] ls)
+pub dependencies_are : (ls : List Line) → Sound [] ls
+    → map (λ d. d.name) (model_of ls).dependencies ≡ declared dependency_of (backwards [] ls)
 dependencies_are ls s =
     let a = scope_of (backwards [] ls) in
-    declares dependency_of (dependency_at a) (λ d. d.name) dependency_add (λ earlier n line below p. dependency_named a n line below p.read) ls s
+    declares dependency_of (dependency_at a) (λ d. d.name) dependency_add
+    (λ earlier n line below p. dependency_named a n line below p.read) ls s

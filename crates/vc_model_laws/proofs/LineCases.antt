@@ -25,7 +25,9 @@ use Rattle.vc_model_parts.specs.declared.parts.Table.{Table}
 use Rattle.vc_model_parts.specs.declared.parts.TableColumn.{TableColumn}
 use Rattle.vc_model_parts.specs.declared.parts.TextValue.{TextValue}
 use Rattle.vc_model_parts.specs.declared.parts.Values.TheVariants as values
-use Rattle.vc_model_drafts.specs.Models.{until, number_of, component_or, uses_below, nets_below, use_at, net_use_at, text_at, number_at, member_at, column_at, item_at, operation_at, characteristic_at, class_at, table_at, dependency_at, net_at, object_at}
+use Rattle.vc_model_drafts.specs.Models.{until, number_of, component_or, uses_below, nets_below, use_at, net_use_at}
+use Rattle.vc_model_drafts.specs.Models.{text_at, number_at, member_at, column_at, item_at, operation_at}
+use Rattle.vc_model_drafts.specs.Models.{characteristic_at, class_at, table_at, dependency_at, net_at, object_at}
 use Rattle.vc_model_drafts.specs.Seen.{SeenDependency, SeenItem, SeenOperation, SeenObject}
 use Rattle.vc_syntax_terms.specs.Trees.{Dependency, Term}
 use Rattle.vc_model_laws.proofs.LineForms.{each, each_map}
@@ -102,7 +104,8 @@ operation_made a n x below term = record {
 }
 
 -- what passes a test wherever a line makes it
-pub at_characteristic : (all earlier : List Line) (a : Scope) (n : ℕ) (line : Line) (below : List Line) (test : Characteristic → Bool)
+pub at_characteristic : (all earlier : List Line) (a : Scope) (n : ℕ) (line : Line) (below : List Line)
+    (test : Characteristic → Bool)
     → ((x : CharLine) → Stands all earlier (lines.Char x) below → test (char_made a n x below) ≡ true)
     → ((x : NumLine) → Stands all earlier (lines.Num x) below → test (num_made a n x below) ≡ true)
     → Stands all earlier line below → each test (characteristic_at a n line below) ≡ true
@@ -211,7 +214,8 @@ at_net all earlier a n (lines.Block x) below test h s = refl
 at_net all earlier a n (lines.Root x) below test h s = refl
 at_net all earlier a n lines.Action below test h s = refl
 
-pub at_object : (all earlier : List Line) (a : Scope) (n : ℕ) (line : Line) (below : List Line) (test : SeenObject → Bool)
+pub at_object : (all earlier : List Line) (a : Scope) (n : ℕ) (line : Line) (below : List Line)
+    (test : SeenObject → Bool)
     → ((x : ObjectLine) → Stands all earlier (lines.Object x) below → test (object_made a n x below) ≡ true)
     → Stands all earlier line below → each test (object_at a n line below) ≡ true
 at_object all earlier a n lines.Skipped below test h s = refl
@@ -238,8 +242,10 @@ at_object all earlier a n (lines.Block x) below test h s = refl
 at_object all earlier a n (lines.Root x) below test h s = refl
 at_object all earlier a n lines.Action below test h s = refl
 
-pub at_dependency : (all earlier : List Line) (a : Scope) (n : ℕ) (line : Line) (below : List Line) (test : SeenDependency → Bool)
-    → ((x : BlockLine) → Stands all earlier (lines.Block x) below → (tree : Dependency) → test (dependency_made n x tree) ≡ true)
+pub at_dependency : (all earlier : List Line) (a : Scope) (n : ℕ) (line : Line) (below : List Line)
+    (test : SeenDependency → Bool)
+    → ((x : BlockLine) → Stands all earlier (lines.Block x) below → (tree : Dependency)
+    → test (dependency_made n x tree) ≡ true)
     → Stands all earlier line below → each test (dependency_at a n line below) ≡ true
 at_dependency all earlier a n lines.Skipped below test h s = refl
 at_dependency all earlier a n (lines.Inner x) below test h s = refl
@@ -261,12 +267,14 @@ at_dependency all earlier a n (lines.Net x) below test h s = refl
 at_dependency all earlier a n (lines.Object x) below test h s = refl
 at_dependency all earlier a n (lines.Bill x) below test h s = refl
 at_dependency all earlier a n (lines.Operation x) below test h s = refl
-at_dependency all earlier a n (lines.Block x) below test h s = each_map test (dependency_made n x) (dependency_read (reading (lines.Block x) below)) (h x s)
+at_dependency all earlier a n (lines.Block x) below test h s =
+    each_map test (dependency_made n x) (dependency_read (reading (lines.Block x) below)) (h x s)
 at_dependency all earlier a n (lines.Root x) below test h s = refl
 at_dependency all earlier a n lines.Action below test h s = refl
 
 pub at_item : (all earlier : List Line) (a : Scope) (n : ℕ) (line : Line) (below : List Line) (test : SeenItem → Bool)
-    → ((x : BillLine) → Stands all earlier (lines.Bill x) below → (term : Term) → test (item_made a n x below term) ≡ true)
+    → ((x : BillLine) → Stands all earlier (lines.Bill x) below → (term : Term)
+    → test (item_made a n x below term) ≡ true)
     → Stands all earlier line below → each test (item_at a n line below) ≡ true
 at_item all earlier a n lines.Skipped below test h s = refl
 at_item all earlier a n (lines.Inner x) below test h s = refl
@@ -286,14 +294,17 @@ at_item all earlier a n (lines.Table x) below test h s = refl
 at_item all earlier a n (lines.Column x) below test h s = refl
 at_item all earlier a n (lines.Net x) below test h s = refl
 at_item all earlier a n (lines.Object x) below test h s = refl
-at_item all earlier a n (lines.Bill x) below test h s = each_map test (item_made a n x below) (term_read (reading (lines.Bill x) below)) (h x s)
+at_item all earlier a n (lines.Bill x) below test h s =
+    each_map test (item_made a n x below) (term_read (reading (lines.Bill x) below)) (h x s)
 at_item all earlier a n (lines.Operation x) below test h s = refl
 at_item all earlier a n (lines.Block x) below test h s = refl
 at_item all earlier a n (lines.Root x) below test h s = refl
 at_item all earlier a n lines.Action below test h s = refl
 
-pub at_operation : (all earlier : List Line) (a : Scope) (n : ℕ) (line : Line) (below : List Line) (test : SeenOperation → Bool)
-    → ((x : OperationLine) → Stands all earlier (lines.Operation x) below → (term : Term) → test (operation_made a n x below term) ≡ true)
+pub at_operation : (all earlier : List Line) (a : Scope) (n : ℕ) (line : Line) (below : List Line)
+    (test : SeenOperation → Bool)
+    → ((x : OperationLine) → Stands all earlier (lines.Operation x) below → (term : Term)
+    → test (operation_made a n x below term) ≡ true)
     → Stands all earlier line below → each test (operation_at a n line below) ≡ true
 at_operation all earlier a n lines.Skipped below test h s = refl
 at_operation all earlier a n (lines.Inner x) below test h s = refl
@@ -314,7 +325,8 @@ at_operation all earlier a n (lines.Column x) below test h s = refl
 at_operation all earlier a n (lines.Net x) below test h s = refl
 at_operation all earlier a n (lines.Object x) below test h s = refl
 at_operation all earlier a n (lines.Bill x) below test h s = refl
-at_operation all earlier a n (lines.Operation x) below test h s = each_map test (operation_made a n x below) (term_read (reading (lines.Operation x) below)) (h x s)
+at_operation all earlier a n (lines.Operation x) below test h s =
+    each_map test (operation_made a n x below) (term_read (reading (lines.Operation x) below)) (h x s)
 at_operation all earlier a n (lines.Block x) below test h s = refl
 at_operation all earlier a n (lines.Root x) below test h s = refl
 at_operation all earlier a n lines.Action below test h s = refl
@@ -373,7 +385,8 @@ at_member all earlier a n (lines.Block x) below test h s = refl
 at_member all earlier a n (lines.Root x) below test h s = refl
 at_member all earlier a n lines.Action below test h s = refl
 
-pub at_column : (all earlier : List Line) (a : Scope) (n : ℕ) (line : Line) (below : List Line) (test : TableColumn → Bool)
+pub at_column : (all earlier : List Line) (a : Scope) (n : ℕ) (line : Line) (below : List Line)
+    (test : TableColumn → Bool)
     → ((x : ColumnLine) → Stands all earlier (lines.Column x) below → test (column_made a x) ≡ true)
     → Stands all earlier line below → each test (column_at a n line below) ≡ true
 at_column all earlier a n lines.Skipped below test h s = refl
@@ -454,8 +467,10 @@ at_net_use all earlier a n (lines.Block x) below test h s = refl
 at_net_use all earlier a n (lines.Root x) below test h s = refl
 at_net_use all earlier a n lines.Action below test h s = refl
 
-pub at_number : (all earlier : List Line) (a : Scope) (n : ℕ) (line : Line) (below : List Line) (test : NumberValue → Bool)
-    → ((x : IntervalLine) → Stands all earlier (lines.Interval x) below → each test (number_at a n (lines.Interval x) below) ≡ true)
+pub at_number : (all earlier : List Line) (a : Scope) (n : ℕ) (line : Line) (below : List Line)
+    (test : NumberValue → Bool)
+    → ((x : IntervalLine) → Stands all earlier (lines.Interval x) below
+    → each test (number_at a n (lines.Interval x) below) ≡ true)
     → Stands all earlier line below → each test (number_at a n line below) ≡ true
 at_number all earlier a n lines.Skipped below test h s = refl
 at_number all earlier a n (lines.Inner x) below test h s = refl

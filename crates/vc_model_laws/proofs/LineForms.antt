@@ -1,5 +1,6 @@
 -- The shape of a line of a text: its words stand in upper case, and its counts are those of its form.
-use Rattle.std.proofs.Common.{◌≡◌, ℕ, ◌+◌, Bool, true, false, ◌&&◌, ◌==◌, List, [], ◌∷◌, length, map, take, drop, codes, Option, Some, None, IsUtf8, if◌then◌else◌, refl, ap, ◌∙◌, arith}
+use Rattle.std.proofs.Common.{◌≡◌, ℕ, ◌+◌, Bool, true, false, ◌&&◌, ◌==◌, List, [], ◌∷◌, length, map, take, drop, codes}
+use Rattle.std.proofs.Common.{Option, Some, None, IsUtf8, if◌then◌else◌, refl, ap, ◌∙◌, arith}
 use Rattle.std.specs.Prelude.{option_map, unwrap_or}
 use Rattle.std.specs.Str.Lines.{lines as raw_lines}
 use Rattle.std.specs.Char.{to_ascii_uppercase}
@@ -16,12 +17,14 @@ use Rattle.vc_model_lines.specs.declared.line.Keyword.{Keyword}
 use Rattle.vc_model_lines.specs.declared.line.Keyword.TheVariants as keyword
 use Rattle.vc_model_lines.specs.declared.line.Line.{Line}
 use Rattle.vc_model_lines.specs.declared.line.Line.TheVariants as lines
-use Rattle.vc_model_lines.specs.Classified.{is_long, is_skipped, keyed_line, counted, inside_block, line_of, is_in_block, lines_from, lines_of}
+use Rattle.vc_model_lines.specs.Classified.{is_long, is_skipped, keyed_line, counted, inside_block, line_of}
+use Rattle.vc_model_lines.specs.Classified.{is_in_block, lines_from, lines_of}
 use Rattle.vc_model_lines.specs.Counts.{is_between, count_in, item_number}
 use Rattle.vc_model_lines.specs.Forms as forms
 use Rattle.vc_model_lines.specs.Forms.{form_of, is_word, one_name}
 use Rattle.vc_model_lines.specs.Keywords.{keyword_of}
-use Rattle.vc_model_lines.specs.LineWords.{upper, words, after_words, has_word, trimmed, without_spaces_before, first_word}
+use Rattle.vc_model_lines.specs.LineWords.{upper, words, after_words, has_word, trimmed, without_spaces_before}
+use Rattle.vc_model_lines.specs.LineWords.{first_word}
 use Rattle.vc_model_lines.specs.Quoted.{begins_with_quote, quoted_text}
 use Rattle.vc_plan.specs.Spelling.{is_upper}
 use Rattle.vc_model_laws.proofs.Utf8Lemmas.{each_utf8, EachText, after_words_is, lines_texts, quoted_is, trimmed_is}
@@ -31,7 +34,8 @@ abbrev pub each : {X : Type 0} → (X → Bool) → Option X → Bool
 each test None = true
 each test (Some x) = test x
 
-pub each_map : {X Y : Type 0} (test : Y → Bool) (f : X → Y) (o : Option X) → ((x : X) → test (f x) ≡ true) → each test (option_map f o) ≡ true
+pub each_map : {X Y : Type 0} (test : Y → Bool) (f : X → Y) (o : Option X) → ((x : X) → test (f x) ≡ true)
+    → each test (option_map f o) ≡ true
 each_map test f None h = refl
 each_map test f (Some x) h = h x
 
@@ -65,7 +69,8 @@ byte_stays byte = grind (arith, nat_tests)
 
 word_stays : (word : List ℕ) → map to_ascii_uppercase (upper word) ≡ upper word
 word_stays [] = refl
-word_stays (byte ∷ word) = ap (λ b. b ∷ map to_ascii_uppercase (upper word)) (byte_stays byte) ∙ ap (λ w. to_ascii_uppercase byte ∷ w) (word_stays word)
+word_stays (byte ∷ word) = ap (λ b. b ∷ map to_ascii_uppercase (upper word)) (byte_stays byte)
+    ∙ ap (λ w. to_ascii_uppercase byte ∷ w) (word_stays word)
 
 pub upper_is : (word : List ℕ) → is_upper (upper word) ≡ true
 upper_is word = (bytes_decides (map to_ascii_uppercase (upper word)) (upper word)).1 (word_stays word)
@@ -97,7 +102,8 @@ formed_if : (b : Bool) (line : Line) → is_formed line ≡ true → each is_for
 formed_if true line h = h
 formed_if false line h = refl
 
-formed_either : (b : Bool) (one other : Line) → is_formed one ≡ true → is_formed other ≡ true → is_formed (if b then one else other) ≡ true
+formed_either : (b : Bool) (one other : Line) → is_formed one ≡ true → is_formed other ≡ true
+    → is_formed (if b then one else other) ≡ true
 formed_either true one other h g = h
 formed_either false one other h g = g
 
@@ -112,8 +118,10 @@ head_is [] = refl
 head_is (name ∷ []) = refl
 head_is (name ∷ version ∷ []) = refl
 head_is (name ∷ version ∷ number ∷ []) =
-    formed_if (is_word (codes "VERSION") version) (lines.Head (record { name = upper name; version = count_in 1 999999 number }))
-    (and_from (is_upper (upper name)) (each (is_between 1 999999) (count_in 1 999999 number)) (upper_is name) (count_is 1 999999 number))
+    formed_if (is_word (codes "VERSION") version)
+    (lines.Head (record { name = upper name; version = count_in 1 999999 number }))
+    (and_from (is_upper (upper name)) (each (is_between 1 999999) (count_in 1 999999 number)) (upper_is name)
+    (count_is 1 999999 number))
 head_is (name ∷ version ∷ number ∷ other ∷ ws) = refl
 
 char_is : (ws : List (List ℕ)) → each is_formed (forms.char_line ws) ≡ true
@@ -124,26 +132,46 @@ char_is (name ∷ size ∷ flags) =
     let required = has_word (codes "REQUIRED") flags in
     let multiple = has_word (codes "MULTIPLE") flags in
     formed_if (length flags == forms.one_if restrictable + forms.one_if required + forms.one_if multiple)
-    (lines.Char (record { name = upper name; length = count_in 1 30 size; restrictable = restrictable; required = required; multiple = multiple }))
-    (and_from (is_upper (upper name)) (each (is_between 1 30) (count_in 1 30 size)) (upper_is name) (count_is 1 30 size))
+    (lines.Char (record {
+      name = upper name;
+      length = count_in 1 30 size;
+      restrictable = restrictable;
+      required =
+          required;
+      multiple = multiple;
+    }))
+    (and_from (is_upper (upper name)) (each (is_between 1 30) (count_in 1 30 size)) (upper_is name)
+    (count_is 1 30 size))
 
-flagged_is : (name decimals : List ℕ) (flags : List (List ℕ)) (unit : Option (List ℕ)) → each is_formed (forms.num_with_flags name decimals flags unit) ≡ true
+flagged_is : (name decimals : List ℕ) (flags : List (List ℕ)) (unit : Option (List ℕ))
+    → each is_formed (forms.num_with_flags name decimals flags unit) ≡ true
 flagged_is name decimals flags unit =
     let restrictable = has_word (codes "RESTRICTABLE") flags in
     let required = has_word (codes "REQUIRED") flags in
     let unit_upper : each is_upper (option_map upper unit) ≡ true = each_map is_upper upper unit upper_is in
     let rest : (each (is_between 0 6) (count_in 0 6 decimals) && each is_upper (option_map upper unit)) ≡ true =
-    and_from (each (is_between 0 6) (count_in 0 6 decimals)) (each is_upper (option_map upper unit)) (count_is 0 6 decimals) unit_upper in
+    and_from (each (is_between 0 6) (count_in 0 6 decimals)) (each is_upper (option_map upper unit))
+    (count_is 0 6 decimals) unit_upper in
     formed_if (length flags == forms.one_if restrictable + forms.one_if required)
-    (lines.Num (record { name = upper name; decimals = count_in 0 6 decimals; restrictable = restrictable; required = required; unit = option_map upper unit }))
-    (and_from (is_upper (upper name)) (each (is_between 0 6) (count_in 0 6 decimals) && each is_upper (option_map upper unit)) (upper_is name) rest)
+    (lines.Num (record {
+      name = upper name;
+      decimals = count_in 0 6 decimals;
+      restrictable = restrictable;
+      required =
+          required;
+      unit = option_map upper unit;
+    }))
+    (and_from (is_upper (upper name)) (each (is_between 0 6) (count_in 0 6 decimals) && each is_upper
+    (option_map upper unit)) (upper_is name) rest)
 
-with_unit_is : (name decimals : List ℕ) (flags ws : List (List ℕ)) → each is_formed (forms.num_with_unit name decimals flags ws) ≡ true
+with_unit_is : (name decimals : List ℕ) (flags ws : List (List ℕ))
+    → each is_formed (forms.num_with_unit name decimals flags ws) ≡ true
 with_unit_is name decimals flags [] = refl
 with_unit_is name decimals flags (unit ∷ []) = flagged_is name decimals flags (Some unit)
 with_unit_is name decimals flags (unit ∷ other ∷ ws) = refl
 
-num_at_is : (name decimals : List ℕ) (ws : List (List ℕ)) (place : Option ℕ) → each is_formed (forms.num_at name decimals ws place) ≡ true
+num_at_is : (name decimals : List ℕ) (ws : List (List ℕ)) (place : Option ℕ)
+    → each is_formed (forms.num_at name decimals ws place) ≡ true
 num_at_is name decimals ws None = flagged_is name decimals ws None
 num_at_is name decimals ws (Some place) = with_unit_is name decimals (take place ws) (drop (place + 1) ws)
 
@@ -157,7 +185,8 @@ between_is [] = refl
 between_is (low ∷ []) = refl
 between_is (low ∷ dots ∷ []) = refl
 between_is (low ∷ dots ∷ high ∷ []) =
-    formed_if (is_word (codes "..") dots) (lines.Interval (record { low = forms.number_in low; high = forms.number_in high })) refl
+    formed_if (is_word (codes "..") dots) (lines.Interval
+    (record { low = forms.number_in low; high = forms.number_in high })) refl
 between_is (low ∷ dots ∷ high ∷ other ∷ ws) = refl
 
 interval_is : (ws : List (List ℕ)) → each is_formed (forms.interval_line ws) ≡ true
@@ -172,7 +201,8 @@ text_is (Some text) h = h
 value_is : (rest : List ℕ) (ws : List (List ℕ)) → IsUtf8 rest → each is_formed (forms.value_line rest ws) ≡ true
 value_is rest ws h = by (begins_with_quote rest)
   where
-    by : (b : Bool) → each is_formed (if b then option_map lines.Text (quoted_text rest) else forms.interval_line ws) ≡ true
+    by : (b : Bool) → each is_formed (if b then option_map lines.Text (quoted_text rest) else forms.interval_line ws)
+        ≡ true
     by true = text_is (quoted_text rest) (quoted_is rest h)
     by false = interval_is ws
 
@@ -180,7 +210,8 @@ table_is : (ws : List (List ℕ)) → each is_formed (forms.table_line ws) ≡ t
 table_is [] = refl
 table_is (name ∷ []) = refl
 table_is (name ∷ fixed ∷ []) = refl
-table_is (name ∷ fixed ∷ file ∷ []) = formed_if (is_word (codes "FILE") fixed) (lines.Table (record { name = upper name; file = file })) (upper_is name)
+table_is (name ∷ fixed ∷ file ∷ []) = formed_if (is_word (codes "FILE") fixed)
+    (lines.Table (record { name = upper name; file = file })) (upper_is name)
 table_is (name ∷ fixed ∷ file ∷ other ∷ ws) = refl
 
 column_is : (ws : List (List ℕ)) → each is_formed (forms.column_line ws) ≡ true
@@ -212,7 +243,8 @@ bill_is term (item ∷ material ∷ unit ∷ colon ∷ ws) =
     and_from (is_upper (upper unit)) (each (is_between 0 9999) (item_number item)) (upper_is unit) (item_is item) in
     formed_if (is_word (codes ":") colon)
     (lines.Bill (record { item = item_number item; material = upper material; unit = upper unit; quantity = term }))
-    (and_from (is_upper (upper material)) (is_upper (upper unit) && each (is_between 0 9999) (item_number item)) (upper_is material) rest)
+    (and_from (is_upper (upper material)) (is_upper (upper unit) && each (is_between 0 9999) (item_number item))
+    (upper_is material) rest)
 
 operation_is : (term : List ℕ) (ws : List (List ℕ)) → each is_formed (forms.operation_line term ws) ≡ true
 operation_is term [] = refl
@@ -224,9 +256,11 @@ operation_is term (number ∷ centre ∷ unit ∷ colon ∷ ws) =
     and_from (is_upper (upper unit)) (each (is_between 0 9999) (item_number number)) (upper_is unit) (item_is number) in
     formed_if (is_word (codes ":") colon)
     (lines.Operation (record { number = item_number number; centre = upper centre; unit = upper unit; time = term }))
-    (and_from (is_upper (upper centre)) (is_upper (upper unit) && each (is_between 0 9999) (item_number number)) (upper_is centre) rest)
+    (and_from (is_upper (upper centre)) (is_upper (upper unit) && each (is_between 0 9999) (item_number number))
+    (upper_is centre) rest)
 
-block_is : (kind : Kind) (ws : List (List ℕ)) → is_block_kind kind ≡ true → each is_formed (forms.block_line kind ws) ≡ true
+block_is : (kind : Kind) (ws : List (List ℕ)) → is_block_kind kind ≡ true
+    → each is_formed (forms.block_line kind ws) ≡ true
 block_is kind ws h =
     one_named (λ name. lines.Block (record { kind = kind; name = name }))
     (λ name. and_from (is_upper (upper name)) (is_block_kind kind) (upper_is name) h) ws
@@ -258,7 +292,8 @@ form_is keyword.Root text ws h = one_named lines.Root upper_is ws
 form_is keyword.Action text ws h = action_is ws
 
 -- so is each line of a text
-formed_or : (o : Option Line) (k : Keyword) → each is_formed o ≡ true → is_formed (unwrap_or o (lines.NoForm (Some k))) ≡ true
+formed_or : (o : Option Line) (k : Keyword) → each is_formed o ≡ true
+    → is_formed (unwrap_or o (lines.NoForm (Some k))) ≡ true
 formed_or None k h = refl
 formed_or (Some line) k h = h
 
@@ -269,7 +304,8 @@ keyed_is text (Some k) h = formed_or (form_of k text (drop 1 (words text))) k (f
 counted_is : (raw text : List ℕ) → IsUtf8 raw → is_formed (counted raw text) ≡ true
 counted_is raw text h =
     let rest = keyed_line (trimmed raw) (keyword_of (first_word text)) in
-    formed_either (is_skipped text) lines.Skipped (if is_long raw then lines.TooLong (keyword_of (first_word text)) else rest) refl
+    formed_either (is_skipped text) lines.Skipped
+    (if is_long raw then lines.TooLong (keyword_of (first_word text)) else rest) refl
     (formed_either (is_long raw) (lines.TooLong (keyword_of (first_word text))) rest refl
     (keyed_is (trimmed raw) (keyword_of (first_word text)) (trimmed_is raw h)))
 
@@ -287,7 +323,8 @@ lines_are : (inside : Bool) (raws : List (List ℕ)) → EachText raws → list_
 lines_are inside [] h = refl
 lines_are inside (raw ∷ raws) h =
     let first = line_of inside raw in
-    and_from (is_formed first) (list_all is_formed (lines_from (is_in_block first) raws)) (line_is inside raw h.0) (lines_are (is_in_block first) raws h.1)
+    and_from (is_formed first) (list_all is_formed (lines_from (is_in_block first) raws)) (line_is inside raw h.0)
+    (lines_are (is_in_block first) raws h.1)
 
 pub lines_formed : (text : List ℕ) → IsUtf8 text → list_all is_formed (lines_of text) ≡ true
 lines_formed text h = lines_are false (raw_lines text) (lines_texts text h)

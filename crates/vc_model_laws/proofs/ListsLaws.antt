@@ -1,10 +1,12 @@
 -- In the lists of a model that a text spells nothing stands twice, and what has an order ascends.
-use Rattle.std.proofs.Common.{◌≡◌, ℕ, zero, suc, ◌+◌, ◌-◌, ◌<◌, Bool, true, false, cond, not, ◌&&◌, nat_lt, List, [], ◌∷◌, ◌++◌, length, map, get_or, option_to_list, Option, Some, None, if◌then◌else◌}
+use Rattle.std.proofs.Common.{◌≡◌, ℕ, zero, suc, ◌+◌, ◌-◌, ◌<◌, Bool, true, false, cond, not, ◌&&◌, nat_lt, List, []}
+use Rattle.std.proofs.Common.{◌∷◌, ◌++◌, length, map, get_or, option_to_list, Option, Some, None, if◌then◌else◌}
 use Rattle.std.proofs.Common.{refl, sym, ap, subst, ◌∙◌, append-nil, arith}
 use Rattle.std.specs.Prelude.{is_none, is_some, option_map, slice_get, unwrap_or, ◌==◌}
 use Rattle.std.specs.List.{cons_option, filter_map, list_all, list_any, position_or_len}
 use Rattle.std.specs.Int.Signed.{le_z}
-use Rattle.std.proofs.lemmas.Bool.{and_parts, and_from, or_parts, or_from, not_from_false, not-true, not-false, false_from_ne_true, ltb-true, lt-ltb, eqb-true}
+use Rattle.std.proofs.lemmas.Bool.{and_parts, and_from, or_parts, or_from, not_from_false, not-true, not-false}
+use Rattle.std.proofs.lemmas.Bool.{false_from_ne_true, ltb-true, lt-ltb, eqb-true}
 use Rattle.std.proofs.lemmas.List.{map-append, map-id, length-map}
 use Rattle.std.proofs.lemmas.List.Folds.{list_all-append}
 use Rattle.std.specs.Cmp.Lexicographic.{bytes_decides}
@@ -21,7 +23,8 @@ use Rattle.vc_model_lines.specs.declared.line.CharLine.{CharLine}
 use Rattle.vc_model_lines.specs.declared.line.IntervalLine.{IntervalLine}
 use Rattle.vc_model_lines.specs.declared.line.NumLine.{NumLine}
 use Rattle.vc_model_lines.specs.declared.line.OperationLine.{OperationLine}
-use Rattle.vc_model_scope.specs.Contents.{characteristic_of, text_of, entry_of, entry_within, member_of, column_of, use_of, item_of, operation_of}
+use Rattle.vc_model_scope.specs.Contents.{characteristic_of, text_of, entry_of, entry_within, member_of, column_of}
+use Rattle.vc_model_scope.specs.Contents.{use_of, item_of, operation_of}
 use Rattle.vc_model_scope.specs.Entries.{last_entry, with_entry}
 use Rattle.vc_model_scope.specs.LookAhead.{has_value}
 use Rattle.vc_model_scope.specs.Names.{is_among, place_of, with_name}
@@ -35,18 +38,24 @@ use Rattle.vc_model_scope.specs.declared.stands.Under.TheVariants as unders
 use Rattle.vc_model_faults.specs.First.{backwards}
 use Rattle.vc_model_faults.specs.Kinds.{is_too_long, is_no_form, is_mixed, lacks_values}
 use Rattle.vc_model_faults.specs.Misplaced.{is_misplaced, takes_texts, takes_intervals}
-use Rattle.vc_model_faults.specs.Values.{ends_have_decimals, entry_ascends, entry_fits, exceeds, follows, interval_fits, is_bad, last_of, lies_above}
+use Rattle.vc_model_faults.specs.Values.{ends_have_decimals, entry_ascends, entry_fits, exceeds, follows, interval_fits}
+use Rattle.vc_model_faults.specs.Values.{is_bad, last_of, lies_above}
 use Rattle.vc_model_parts.specs.Headers.{grain_of}
 use Rattle.vc_model_parts.specs.declared.parts.NumberValue.{NumberValue}
-use Rattle.vc_model_drafts.specs.Models.{until, number_of, uses_below, nets_below, use_at, net_use_at, text_at, number_at, member_at, column_at, item_at, operation_at, characteristic_at, class_at, table_at, net_at, object_at, model_of}
+use Rattle.vc_model_drafts.specs.Models.{until, number_of, uses_below, nets_below, use_at, net_use_at, text_at}
+use Rattle.vc_model_drafts.specs.Models.{number_at, member_at, column_at, item_at, operation_at, characteristic_at}
+use Rattle.vc_model_drafts.specs.Models.{class_at, table_at, net_at, object_at, model_of}
 use Rattle.vc_plan.specs.Orders.{are_apart, are_in_order}
 use Rattle.vc_model_laws.specs.Limits.{count_of}
 use Rattle.vc_model_laws.specs.Lists.{are_different, are_proper, are_uses_different, is_multiple, KeepsLists}
-use Rattle.vc_model_laws.proofs.IndicesLaws.{among_later, among_all, own_name, known_has, known_column, scope_characteristics, scope_texts}
-use Rattle.vc_model_laws.proofs.LineCases.{number_with, num_made, at_characteristic, at_class, at_table, at_net, at_object, at_item, at_operation, at_text, at_number}
+use Rattle.vc_model_laws.proofs.IndicesLaws.{among_later, among_all, own_name, known_has, known_column}
+use Rattle.vc_model_laws.proofs.IndicesLaws.{scope_characteristics, scope_texts}
+use Rattle.vc_model_laws.proofs.LineCases.{number_with, num_made, at_characteristic, at_class, at_table, at_net}
+use Rattle.vc_model_laws.proofs.LineCases.{at_object, at_item, at_operation, at_text, at_number}
 use Rattle.vc_model_laws.proofs.LineForms.{each, each_map}
 use Rattle.vc_model_laws.proofs.ListingLaws.{text_add, member_add, column_add, use_add, entry_add, last_added}
-use Rattle.vc_model_laws.proofs.MadeLaws.{ends_of, texts_made, members_made, columns_made, numbers_made, items_made, operations_made}
+use Rattle.vc_model_laws.proofs.MadeLaws.{ends_of, texts_made, members_made, columns_made, numbers_made, items_made}
+use Rattle.vc_model_laws.proofs.MadeLaws.{operations_made}
 use Rattle.vc_model_laws.proofs.NameCases.{by_entry, by_item, by_operation}
 use Rattle.vc_model_laws.proofs.NameLemmas.{one_and, has_number, listed_apart, apart_map}
 use Rattle.vc_model_laws.proofs.NamesLaws.{made}
@@ -56,7 +65,8 @@ use Rattle.vc_model_laws.proofs.Walks.{Passes, Sound, Stands, said, each_said, u
 same_some : (a b : List ℕ) → Some a ≡ Some b → a ≡ b
 same_some a b e = cc
 
-one_number : (names : List (List ℕ)) (a b : List ℕ) → is_among names a ≡ true → is_among names b ≡ true → number_of names a ≡ number_of names b → a ≡ b
+one_number : (names : List (List ℕ)) (a b : List ℕ) → is_among names a ≡ true → is_among names b ≡ true
+    → number_of names a ≡ number_of names b → a ≡ b
 one_number names a b ha hb e =
     let fa = has_number names a ha in
     let fb = has_number names b hb in
@@ -64,61 +74,77 @@ one_number names a b ha hb e =
     same_some a b (sym fa.here ∙ ap (slice_get names) same ∙ fb.here)
 
 -- different names have different numbers
-none_numbered : (names : List (List ℕ)) (name : List ℕ) (others : List (List ℕ)) → is_among names name ≡ true → list_all (is_among names) others ≡ true
-    → list_any (same_bytes name) others ≡ false → list_any (λ k. number_of names name == k) (map (number_of names) others) ≡ false
+none_numbered : (names : List (List ℕ)) (name : List ℕ) (others : List (List ℕ)) → is_among names name ≡ true
+    → list_all (is_among names) others ≡ true
+    → list_any (same_bytes name) others ≡ false
+    → list_any (λ k. number_of names name == k) (map (number_of names) others) ≡ false
 none_numbered names name [] h all none = refl
 none_numbered names name (other ∷ others) h all none =
     let there = and_parts (is_among names other) (list_all (is_among names) others) all in
     let apart = or_parts (same_bytes name other) (list_any (same_bytes name) others) none in
-    or_from (number_of names name == number_of names other) (list_any (λ k. number_of names name == k) (map (number_of names) others))
+    or_from (number_of names name == number_of names other)
+    (list_any (λ k. number_of names name == k) (map (number_of names) others))
     (false_from_ne_true (number_of names name == number_of names other) (λ e.
     let same = one_number names name other h there.0 (eqb-true (number_of names name) (number_of names other) e) in
     let is = (bytes_decides name other).1 same in cc))
     (none_numbered names name others h there.1 apart.1)
 
-different : (names xs : List (List ℕ)) → are_apart same_bytes xs ≡ true → list_all (is_among names) xs ≡ true → are_different (map (number_of names) xs) ≡ true
+different : (names xs : List (List ℕ)) → are_apart same_bytes xs ≡ true → list_all (is_among names) xs ≡ true
+    → are_different (map (number_of names) xs) ≡ true
 different names [] apart all = refl
 different names (x ∷ xs) apart all =
     let parts = and_parts (not (list_any (same_bytes x) xs)) (are_apart same_bytes xs) apart in
     let there = and_parts (is_among names x) (list_all (is_among names) xs) all in
-    and_from (not (list_any (λ k. number_of names x == k) (map (number_of names) xs))) (are_different (map (number_of names) xs))
+    and_from (not (list_any (λ k. number_of names x == k) (map (number_of names) xs)))
+    (are_different (map (number_of names) xs))
     (not_from_false (list_any (λ k. number_of names x == k) (map (number_of names) xs))
     (none_numbered names x xs there.0 there.1 (not-true (list_any (same_bytes x) xs) parts.0)))
     (different names xs parts.1 there.1)
 
 -- what lines list passes a test where each does
 pub said_passes : {K : Type 0} (ends : Line → Bool) (f : Line → Option K) (test : K → Bool) (all : List Line)
-    → ((earlier : List Line) (line : Line) (below : List Line) → Stands all earlier line below → each test (f line) ≡ true)
+    → ((earlier : List Line) (line : Line) (below : List Line) → Stands all earlier line below
+    → each test (f line) ≡ true)
     → (earlier ls : List Line) → Sound earlier ls → backwards earlier ls ≡ all → list_all test (said ends f ls) ≡ true
 said_passes ends f test all holds earlier [] s e = refl
-said_passes {K = K} ends f test all holds earlier (line ∷ below) s e = by (ends line) (said_passes ends f test all holds (line ∷ earlier) below s.1 e)
+said_passes {K = K} ends f test all holds earlier (line ∷ below) s e =
+    by (ends line) (said_passes ends f test all holds (line ∷ earlier) below s.1 e)
   where
-    with_front : (o : Option K) → each test o ≡ true → list_all test (said ends f below) ≡ true → list_all test (cons_option o (said ends f below)) ≡ true
+    with_front : (o : Option K) → each test o ≡ true → list_all test (said ends f below) ≡ true
+        → list_all test (cons_option o (said ends f below)) ≡ true
     with_front None h rest = rest
     with_front (Some x) h rest = and_from (test x) (list_all test (said ends f below)) h rest
 
-    by : (b : Bool) → list_all test (said ends f below) ≡ true → list_all test (if b then [] else cons_option (f line) (said ends f below)) ≡ true
+    by : (b : Bool) → list_all test (said ends f below) ≡ true
+        → list_all test (if b then [] else cons_option (f line) (said ends f below)) ≡ true
     by true rest = refl
-    by false rest = with_front (f line) (holds earlier line below (record { passes = s.0; after = s.1; all_are = e })) rest
+    by false rest = with_front (f line) (holds earlier line below (record { passes = s.0; after = s.1; all_are = e }))
+        rest
 
 -- names that lines list are apart
 abbrev Adding : (Line → Bool) → (Line → Option (List ℕ)) → Type 0
 Adding ends f = (earlier : List Line) (line : Line) (below : List Line) → Passes (scope_of earlier) line below
-    → with_option with_name (listed with_name ends f earlier) (f line) ≡ listed with_name ends f earlier ++ option_to_list (f line)
+    → with_option with_name (listed with_name ends f earlier) (f line) ≡ listed with_name ends f
+    earlier ++ option_to_list (f line)
 
 said_apart : (ends : Line → Bool) (f : Line → Option (List ℕ)) → Adding ends f
-    → (earlier ls : List Line) → Sound earlier ls → listed with_name ends f earlier ≡ [] → are_apart same_bytes (said ends f ls) ≡ true
+    → (earlier ls : List Line) → Sound earlier ls → listed with_name ends f earlier ≡ []
+    → are_apart same_bytes (said ends f ls) ≡ true
 said_apart ends f adds earlier ls s e =
-    let kept = until_keeps with_name ends f (λ earlier. Unit {0}) (λ earlier line below p going h. tt) (λ earlier line below p going h. adds earlier line below p) earlier ls s tt in
-    subst (λ xs. are_apart same_bytes xs ≡ true) (kept.2 ∙ ap (λ xs. xs ++ said ends f ls) e) (listed_apart ends f kept.0)
+    let kept = until_keeps with_name ends f (λ earlier. Unit {0}) (λ earlier line below p going h. tt)
+    (λ earlier line below p going h. adds earlier line below p) earlier ls s tt in
+    subst (λ xs. are_apart same_bytes xs ≡ true) (kept.2 ∙ ap (λ xs. xs ++ said ends f ls) e)
+    (listed_apart ends f kept.0)
 
 -- the numbers of what is listed below a line are different
 numbers_different : (names : List (List ℕ)) (f : Line → Option (List ℕ)) (all : List Line) → Adding opens f
-    → ((earlier : List Line) (line : Line) (below : List Line) → Stands all earlier line below → each (is_among names) (f line) ≡ true)
+    → ((earlier : List Line) (line : Line) (below : List Line) → Stands all earlier line below
+    → each (is_among names) (f line) ≡ true)
     → (earlier ls : List Line) → Sound earlier ls → backwards earlier ls ≡ all → listed with_name opens f earlier ≡ []
     → are_different (map (number_of names) (said opens f ls)) ≡ true
 numbers_different names f all adds there earlier ls s e l =
-    different names (said opens f ls) (said_apart opens f adds earlier ls s l) (said_passes opens f (is_among names) all there earlier ls s e)
+    different names (said opens f ls) (said_apart opens f adds earlier ls s l)
+    (said_passes opens f (is_among names) all there earlier ls s e)
 
 member_there : (all earlier : List Line) (line : Line) (below : List Line) → Stands all earlier line below
     → each (is_among (scope_of all).declared.characteristics) (member_of line) ≡ true
@@ -135,7 +161,9 @@ member_there all earlier (lines.Text x) below s = refl
 member_there all earlier (lines.Interval x) below s = refl
 member_there all earlier (lines.Uses x) below s = refl
 member_there all earlier (lines.Class x) below s = refl
-member_there all earlier (lines.Has x) below s = subst (λ names. is_among names x ≡ true) (sym (scope_characteristics all)) (among_all characteristic_of all earlier (lines.Has x) below x s (known_has earlier x s.passes.known))
+member_there all earlier (lines.Has x) below s =
+    subst (λ names. is_among names x ≡ true) (sym (scope_characteristics all))
+    (among_all characteristic_of all earlier (lines.Has x) below x s (known_has earlier x s.passes.known))
 member_there all earlier (lines.Table x) below s = refl
 member_there all earlier (lines.Column x) below s = refl
 member_there all earlier (lines.Net x) below s = refl
@@ -163,7 +191,10 @@ column_there all earlier (lines.Uses x) below s = refl
 column_there all earlier (lines.Class x) below s = refl
 column_there all earlier (lines.Has x) below s = refl
 column_there all earlier (lines.Table x) below s = refl
-column_there all earlier (lines.Column x) below s = subst (λ names. is_among names x.characteristic ≡ true) (sym (scope_characteristics all)) (among_all characteristic_of all earlier (lines.Column x) below x.characteristic s (known_column earlier x s.passes.known))
+column_there all earlier (lines.Column x) below s =
+    subst (λ names. is_among names x.characteristic ≡ true) (sym (scope_characteristics all))
+    (among_all characteristic_of all earlier (lines.Column x) below x.characteristic s
+    (known_column earlier x s.passes.known))
 column_there all earlier (lines.Net x) below s = refl
 column_there all earlier (lines.Object x) below s = refl
 column_there all earlier (lines.Bill x) below s = refl
@@ -183,7 +214,10 @@ text_there all earlier (lines.NoForm x) below s = refl
 text_there all earlier (lines.Head x) below s = refl
 text_there all earlier (lines.Char x) below s = refl
 text_there all earlier (lines.Num x) below s = refl
-text_there all earlier (lines.Text x) below s = subst (λ names. is_among names x ≡ true) (sym (scope_texts all)) (subst (λ ls. is_among (declared text_of ls) x ≡ true) s.all_are (among_later text_of (lines.Text x ∷ earlier) below x (own_name (declared text_of earlier) x)))
+text_there all earlier (lines.Text x) below s =
+    subst (λ names. is_among names x ≡ true) (sym (scope_texts all))
+    (subst (λ ls. is_among (declared text_of ls) x ≡ true) s.all_are
+    (among_later text_of (lines.Text x ∷ earlier) below x (own_name (declared text_of earlier) x)))
 text_there all earlier (lines.Interval x) below s = refl
 text_there all earlier (lines.Uses x) below s = refl
 text_there all earlier (lines.Class x) below s = refl
@@ -204,13 +238,17 @@ place_here : (names : List (List ℕ)) (name : List ℕ) → position_or_len (sa
 place_here [] name h = absurd (omega arith)
 place_here (first ∷ names) name h = by (same_bytes name first) refl h (λ inside. place_here names name inside)
   where
-    by : (b : Bool) → same_bytes name first ≡ b → cond (not b) (1 + position_or_len (same_bytes name) names) 0 < suc (length names)
-        → (position_or_len (same_bytes name) names < length names → slice_get names (position_or_len (same_bytes name) names) ≡ Some name)
+    by : (b : Bool) → same_bytes name first ≡ b
+        → cond (not b) (1 + position_or_len (same_bytes name) names) 0 < suc (length names)
+        → (position_or_len (same_bytes name) names < length names
+        → slice_get names (position_or_len (same_bytes name) names) ≡ Some name)
         → slice_get (first ∷ names) (cond (not b) (1 + position_or_len (same_bytes name) names) 0) ≡ Some name
     by true is inside on = ap Some (sym ((bytes_decides name first).0 is))
-    by false is inside on = ap (slice_get (first ∷ names)) (one_and (position_or_len (same_bytes name) names)) ∙ on (omega (arith, inside))
+    by false is inside on = ap (slice_get (first ∷ names)) (one_and (position_or_len (same_bytes name) names))
+        ∙ on (omega (arith, inside))
 
-pub here_at : (names : List (List ℕ)) (name : List ℕ) (k : ℕ) → place_of names name ≡ Some k → slice_get names k ≡ Some name
+pub here_at : (names : List (List ℕ)) (name : List ℕ) (k : ℕ) → place_of names name ≡ Some k
+    → slice_get names k ≡ Some name
 here_at names name k e = by (nat_lt (position_or_len (same_bytes name) names) (length names)) refl e
   where
     by : (b : Bool) → nat_lt (position_or_len (same_bytes name) names) (length names) ≡ b
@@ -225,7 +263,8 @@ none_placed : (names : List (List ℕ)) (name : List ℕ) (k : ℕ) (others : Li
     → list_any (same_bytes name) others ≡ false → list_any (λ j. k == j) (filter_map (place_of names) others) ≡ false
 none_placed names name k [] e none = refl
 none_placed names name k (other ∷ others) e none =
-    by (place_of names other) refl (none_placed names name k others e (or_parts (same_bytes name other) (list_any (same_bytes name) others) none).1)
+    by (place_of names other) refl (none_placed names name k others e
+    (or_parts (same_bytes name other) (list_any (same_bytes name) others) none).1)
   where
     apart : (same_bytes name other ≡ false) × (list_any (same_bytes name) others ≡ false)
     apart = or_parts (same_bytes name other) (list_any (same_bytes name) others) none
@@ -235,21 +274,26 @@ none_placed names name k (other ∷ others) e none =
     by None is rest = rest
     by (Some j) is rest = or_from (k == j) (list_any (λ j. k == j) (filter_map (place_of names) others))
         (false_from_ne_true (k == j) (λ t.
-        let same : name ≡ other = same_some name other (sym (here_at names name k e) ∙ ap (slice_get names) (eqb-true k j t) ∙ here_at names other j is) in
+        let same : name ≡ other = same_some name other
+        (sym (here_at names name k e) ∙ ap (slice_get names) (eqb-true k j t) ∙ here_at names other j is) in
         let tells = (bytes_decides name other).1 same in
         let no = apart.0 in cc)) rest
 
-placed_different : (names xs : List (List ℕ)) → are_apart same_bytes xs ≡ true → are_different (filter_map (place_of names) xs) ≡ true
+placed_different : (names xs : List (List ℕ)) → are_apart same_bytes xs ≡ true
+    → are_different (filter_map (place_of names) xs) ≡ true
 placed_different names [] apart = refl
 placed_different names (x ∷ xs) apart =
-    by (place_of names x) refl (placed_different names xs (and_parts (not (list_any (same_bytes x) xs)) (are_apart same_bytes xs) apart).1)
+    by (place_of names x) refl (placed_different names xs
+    (and_parts (not (list_any (same_bytes x) xs)) (are_apart same_bytes xs) apart).1)
   where
     parts : (not (list_any (same_bytes x) xs) ≡ true) × (are_apart same_bytes xs ≡ true)
     parts = and_parts (not (list_any (same_bytes x) xs)) (are_apart same_bytes xs) apart
 
-    by : (o : Option ℕ) → place_of names x ≡ o → are_different (filter_map (place_of names) xs) ≡ true → are_different (cons_option o (filter_map (place_of names) xs)) ≡ true
+    by : (o : Option ℕ) → place_of names x ≡ o → are_different (filter_map (place_of names) xs) ≡ true
+        → are_different (cons_option o (filter_map (place_of names) xs)) ≡ true
     by None is rest = rest
-    by (Some k) is rest = and_from (not (list_any (λ j. k == j) (filter_map (place_of names) xs))) (are_different (filter_map (place_of names) xs))
+    by (Some k) is rest = and_from (not (list_any (λ j. k == j) (filter_map (place_of names) xs)))
+        (are_different (filter_map (place_of names) xs))
         (not_from_false (list_any (λ j. k == j) (filter_map (place_of names) xs))
         (none_placed names x k xs is (not-true (list_any (same_bytes x) xs) parts.0))) rest
 
@@ -258,13 +302,15 @@ abbrev chosen : {K : Type 0} → (K → Option ℕ) → Option K → Option ℕ
 chosen g None = None
 chosen g (Some x) = g x
 
-until_chooses : (ends : Line → Bool) (say : ℕ → Line → List Line → Option ℕ) (f : Line → Option (List ℕ)) (g : List ℕ → Option ℕ)
+until_chooses : (ends : Line → Bool) (say : ℕ → Line → List Line → Option ℕ) (f : Line → Option (List ℕ))
+    (g : List ℕ → Option ℕ)
     → ((n : ℕ) (line : Line) (below : List Line) → say n line below ≡ chosen g (f line))
     → (n : ℕ) (ls : List Line) → until ends say n ls ≡ filter_map g (said ends f ls)
 until_chooses ends say f g same n [] = refl
 until_chooses ends say f g same n (line ∷ below) = by (ends line) (until_chooses ends say f g same (n + 1) below)
   where
-    front : (o : Option (List ℕ)) → cons_option (chosen g o) (filter_map g (said ends f below)) ≡ filter_map g (cons_option o (said ends f below))
+    front : (o : Option (List ℕ)) → cons_option (chosen g o) (filter_map g (said ends f below)) ≡ filter_map g
+        (cons_option o (said ends f below))
     front None = refl
     front (Some x) = refl
 
@@ -272,9 +318,11 @@ until_chooses ends say f g same n (line ∷ below) = by (ends line) (until_choos
         → (if b then [] else cons_option (say n line below) (until ends say (n + 1) below))
         ≡ filter_map g (if b then [] else cons_option (f line) (said ends f below))
     by true rest = refl
-    by false rest = ap (λ o. cons_option o (until ends say (n + 1) below)) (same n line below) ∙ ap (cons_option (chosen g (f line))) rest ∙ front (f line)
+    by false rest = ap (λ o. cons_option o (until ends say (n + 1) below)) (same n line below)
+        ∙ ap (cons_option (chosen g (f line))) rest ∙ front (f line)
 
-use_chosen : (a : Scope) (n : ℕ) (line : Line) (below : List Line) → use_at a n line below ≡ chosen (place_of a.dependencies.all) (use_of line)
+use_chosen : (a : Scope) (n : ℕ) (line : Line) (below : List Line)
+    → use_at a n line below ≡ chosen (place_of a.dependencies.all) (use_of line)
 use_chosen a n lines.Skipped below = refl
 use_chosen a n (lines.Inner x) below = refl
 use_chosen a n lines.LongInner below = refl
@@ -299,7 +347,8 @@ use_chosen a n (lines.Block x) below = refl
 use_chosen a n (lines.Root x) below = refl
 use_chosen a n lines.Action below = refl
 
-net_use_chosen : (a : Scope) (n : ℕ) (line : Line) (below : List Line) → net_use_at a n line below ≡ chosen (place_of a.dependencies.nets) (use_of line)
+net_use_chosen : (a : Scope) (n : ℕ) (line : Line) (below : List Line)
+    → net_use_at a n line below ≡ chosen (place_of a.dependencies.nets) (use_of line)
 net_use_chosen a n lines.Skipped below = refl
 net_use_chosen a n (lines.Inner x) below = refl
 net_use_chosen a n lines.LongInner below = refl
@@ -324,17 +373,23 @@ net_use_chosen a n (lines.Block x) below = refl
 net_use_chosen a n (lines.Root x) below = refl
 net_use_chosen a n lines.Action below = refl
 
-uses_different : (a : Scope) (earlier : List Line) (n : ℕ) (ls : List Line) → Sound earlier ls → listed with_name ends_uses use_of earlier ≡ []
+uses_different : (a : Scope) (earlier : List Line) (n : ℕ) (ls : List Line) → Sound earlier ls
+    → listed with_name ends_uses use_of earlier ≡ []
     → are_different (uses_below a n ls) ≡ true
 uses_different a earlier n ls s e =
-    subst (λ xs. are_different xs ≡ true) (sym (until_chooses ends_uses (use_at a) use_of (place_of a.dependencies.all) (use_chosen a) n ls))
-    (placed_different a.dependencies.all (said ends_uses use_of ls) (said_apart ends_uses use_of use_add earlier ls s e))
+    subst (λ xs. are_different xs ≡ true) (sym
+    (until_chooses ends_uses (use_at a) use_of (place_of a.dependencies.all) (use_chosen a) n ls))
+    (placed_different a.dependencies.all (said ends_uses use_of ls)
+    (said_apart ends_uses use_of use_add earlier ls s e))
 
-nets_different : (a : Scope) (earlier : List Line) (n : ℕ) (ls : List Line) → Sound earlier ls → listed with_name ends_uses use_of earlier ≡ []
+nets_different : (a : Scope) (earlier : List Line) (n : ℕ) (ls : List Line) → Sound earlier ls
+    → listed with_name ends_uses use_of earlier ≡ []
     → are_different (nets_below a n ls) ≡ true
 nets_different a earlier n ls s e =
-    subst (λ xs. are_different xs ≡ true) (sym (until_chooses ends_uses (net_use_at a) use_of (place_of a.dependencies.nets) (net_use_chosen a) n ls))
-    (placed_different a.dependencies.nets (said ends_uses use_of ls) (said_apart ends_uses use_of use_add earlier ls s e))
+    subst (λ xs. are_different xs ≡ true) (sym
+    (until_chooses ends_uses (net_use_at a) use_of (place_of a.dependencies.nets) (net_use_chosen a) n ls))
+    (placed_different a.dependencies.nets (said ends_uses use_of ls)
+    (said_apart ends_uses use_of use_add earlier ls s e))
 
 minus_one : (n : ℕ) → suc n - 1 ≡ n
 minus_one n = omega arith
@@ -343,7 +398,8 @@ minus_one n = omega arith
 abbrev Ascends : List ℕ → Type 0
 Ascends numbers = are_in_order nat_lt numbers ≡ true
 
-all_below : (numbers : List ℕ) (n : ℕ) → Ascends numbers → exceeds (last_of numbers) n ≡ true → list_all (λ k. nat_lt k n) numbers ≡ true
+all_below : (numbers : List ℕ) (n : ℕ) → Ascends numbers → exceeds (last_of numbers) n ≡ true
+    → list_all (λ k. nat_lt k n) numbers ≡ true
 all_below [] n h e = refl
 all_below (first ∷ []) n h e = and_from (nat_lt first n) true e refl
 all_below (first ∷ second ∷ numbers) n h e =
@@ -353,24 +409,29 @@ all_below (first ∷ second ∷ numbers) n h e =
     let rest = all_below (second ∷ numbers) n parts.1 last in
     let one = ltb-true first second (and_parts (nat_lt first second) (list_all (nat_lt first) numbers) parts.0).0 in
     let two = ltb-true second n (and_parts (nat_lt second n) (list_all (λ k. nat_lt k n) numbers) rest).0 in
-    and_from (nat_lt first n) (list_all (λ k. nat_lt k n) (second ∷ numbers)) (lt-ltb first n (omega (arith, one, two))) rest
+    and_from (nat_lt first n) (list_all (λ k. nat_lt k n) (second ∷ numbers))
+    (lt-ltb first n (omega (arith, one, two))) rest
 
-order_push : (numbers : List ℕ) (n : ℕ) → Ascends numbers → list_all (λ k. nat_lt k n) numbers ≡ true → Ascends (numbers ++ n ∷ [])
+order_push : (numbers : List ℕ) (n : ℕ) → Ascends numbers → list_all (λ k. nat_lt k n) numbers ≡ true
+    → Ascends (numbers ++ n ∷ [])
 order_push [] n h b = refl
 order_push (first ∷ numbers) n h b =
     let parts = and_parts (list_all (nat_lt first) numbers) (are_in_order nat_lt numbers) h in
     let below = and_parts (nat_lt first n) (list_all (λ k. nat_lt k n) numbers) b in
     and_from (list_all (nat_lt first) (numbers ++ n ∷ [])) (are_in_order nat_lt (numbers ++ n ∷ []))
     (list_all-append (nat_lt first) numbers (n ∷ [])
-    ∙ and_from (list_all (nat_lt first) numbers) (nat_lt first n && true) parts.0 (and_from (nat_lt first n) true below.0 refl))
+    ∙ and_from (list_all (nat_lt first) numbers) (nat_lt first n && true) parts.0
+    (and_from (nat_lt first n) true below.0 refl))
     (order_push numbers n parts.1 below.1)
 
-follows_on : (numbers : List ℕ) (o : Option ℕ) → Ascends numbers → follows numbers o ≡ true → Ascends (numbers ++ option_to_list o)
+follows_on : (numbers : List ℕ) (o : Option ℕ) → Ascends numbers → follows numbers o ≡ true
+    → Ascends (numbers ++ option_to_list o)
 follows_on numbers None h f = absurd (cc)
 follows_on numbers (Some n) h f = order_push numbers n h (all_below numbers n h f)
 
 -- things are in order where their numbers are
-order_map : {X : Type 0} (f : X → ℕ) (xs : List X) → are_in_order (λ a b. nat_lt (f a) (f b)) xs ≡ are_in_order nat_lt (map f xs)
+order_map : {X : Type 0} (f : X → ℕ) (xs : List X)
+    → are_in_order (λ a b. nat_lt (f a) (f b)) xs ≡ are_in_order nat_lt (map f xs)
 order_map f [] = refl
 order_map {X = X} f (x ∷ xs) =
     ap (λ b. b && are_in_order (λ a b. nat_lt (f a) (f b)) xs) (all_map xs)
@@ -380,40 +441,55 @@ order_map {X = X} f (x ∷ xs) =
     all_map [] = refl
     all_map (y ∷ ys) = ap (λ b. nat_lt (f x) (f y) && b) (all_map ys)
 
-item_follows : (earlier : List Line) (x : BillLine) → is_bad (scope_of earlier) (lines.Bill x) ≡ false → follows (listed with_last opens item_of earlier) x.item ≡ true
+item_follows : (earlier : List Line) (x : BillLine) → is_bad (scope_of earlier) (lines.Bill x) ≡ false
+    → follows (listed with_last opens item_of earlier) x.item ≡ true
 unfolding is_bad scope_of
 item_follows earlier x fit = not-false (follows (listed with_last opens item_of earlier) x.item) fit
 
-item_ascends : (earlier : List Line) (line : Line) (below : List Line) → Passes (scope_of earlier) line below → opens line ≡ false
+item_ascends : (earlier : List Line) (line : Line) (below : List Line) → Passes (scope_of earlier) line below
+    → opens line ≡ false
     → Ascends (listed with_last opens item_of earlier) → Ascends (listed with_last opens item_of (line ∷ earlier))
 item_ascends earlier line below p going h =
     let xs = listed with_last opens item_of earlier in
-    subst Ascends (sym (ap (λ b. if b then [] else with_option with_last xs (item_of line)) going ∙ last_added xs (item_of line)))
-    (by_item (scope_of earlier) line below (λ o. Ascends (xs ++ option_to_list o)) (subst Ascends (sym (append-nil xs)) h)
+    subst Ascends (sym (ap (λ b. if b then [] else with_option with_last xs (item_of line)) going
+    ∙ last_added xs (item_of line)))
+    (by_item (scope_of earlier) line below (λ o. Ascends (xs ++ option_to_list o))
+    (subst Ascends (sym (append-nil xs)) h)
     (λ x q. follows_on xs x.item h (item_follows earlier x q.fit)) p)
 
-items_ascend : (earlier ls : List Line) → Sound earlier ls → listed with_last opens item_of earlier ≡ [] → Ascends (said opens item_of ls)
+items_ascend : (earlier ls : List Line) → Sound earlier ls → listed with_last opens item_of earlier ≡ []
+    → Ascends (said opens item_of ls)
 items_ascend earlier ls s e =
-    let kept = until_keeps with_last opens item_of (λ earlier. Ascends (listed with_last opens item_of earlier)) item_ascends
-    (λ earlier line below p going h. last_added (listed with_last opens item_of earlier) (item_of line)) earlier ls s (subst Ascends (sym e) refl) in
+    let kept = until_keeps with_last opens item_of (λ earlier. Ascends (listed with_last opens item_of earlier))
+    item_ascends
+    (λ earlier line below p going h. last_added (listed with_last opens item_of earlier) (item_of line)) earlier ls s
+    (subst Ascends (sym e) refl) in
     subst Ascends (kept.2 ∙ ap (λ xs. xs ++ said opens item_of ls) e) kept.1
 
-operation_follows : (earlier : List Line) (x : OperationLine) → is_bad (scope_of earlier) (lines.Operation x) ≡ false → follows (listed with_last opens operation_of earlier) x.number ≡ true
+operation_follows : (earlier : List Line) (x : OperationLine) → is_bad (scope_of earlier) (lines.Operation x) ≡ false
+    → follows (listed with_last opens operation_of earlier) x.number ≡ true
 unfolding is_bad scope_of
 operation_follows earlier x fit = not-false (follows (listed with_last opens operation_of earlier) x.number) fit
 
-operation_ascends : (earlier : List Line) (line : Line) (below : List Line) → Passes (scope_of earlier) line below → opens line ≡ false
-    → Ascends (listed with_last opens operation_of earlier) → Ascends (listed with_last opens operation_of (line ∷ earlier))
+operation_ascends : (earlier : List Line) (line : Line) (below : List Line) → Passes (scope_of earlier) line below
+    → opens line ≡ false
+    → Ascends (listed with_last opens operation_of earlier)
+    → Ascends (listed with_last opens operation_of (line ∷ earlier))
 operation_ascends earlier line below p going h =
     let xs = listed with_last opens operation_of earlier in
-    subst Ascends (sym (ap (λ b. if b then [] else with_option with_last xs (operation_of line)) going ∙ last_added xs (operation_of line)))
-    (by_operation (scope_of earlier) line below (λ o. Ascends (xs ++ option_to_list o)) (subst Ascends (sym (append-nil xs)) h)
+    subst Ascends (sym (ap (λ b. if b then [] else with_option with_last xs (operation_of line)) going
+    ∙ last_added xs (operation_of line)))
+    (by_operation (scope_of earlier) line below (λ o. Ascends (xs ++ option_to_list o))
+    (subst Ascends (sym (append-nil xs)) h)
     (λ x q. follows_on xs x.number h (operation_follows earlier x q.fit)) p)
 
-operations_ascend : (earlier ls : List Line) → Sound earlier ls → listed with_last opens operation_of earlier ≡ [] → Ascends (said opens operation_of ls)
+operations_ascend : (earlier ls : List Line) → Sound earlier ls → listed with_last opens operation_of earlier ≡ []
+    → Ascends (said opens operation_of ls)
 operations_ascend earlier ls s e =
-    let kept = until_keeps with_last opens operation_of (λ earlier. Ascends (listed with_last opens operation_of earlier)) operation_ascends
-    (λ earlier line below p going h. last_added (listed with_last opens operation_of earlier) (operation_of line)) earlier ls s (subst Ascends (sym e) refl) in
+    let kept = until_keeps with_last opens operation_of
+    (λ earlier. Ascends (listed with_last opens operation_of earlier)) operation_ascends
+    (λ earlier line below p going h. last_added (listed with_last opens operation_of earlier) (operation_of line))
+    earlier ls s (subst Ascends (sym e) refl) in
     subst Ascends (kept.2 ∙ ap (λ xs. xs ++ said opens operation_of ls) e) kept.1
 
 -- entries ascend, and have the decimals of their line
@@ -424,22 +500,26 @@ abbrev pub has_ends : ℕ → Grain → Bool
 has_ends decimals grain = has_decimals decimals grain.low && has_decimals decimals grain.high
 
 abbrev IsProper : ℕ → List Interval → Type 0
-IsProper decimals entries = (is_ascending (map grain_at entries) ≡ true) × (list_all (has_ends decimals) (map grain_at entries) ≡ true)
+IsProper decimals entries = (is_ascending (map grain_at entries) ≡ true)
+    × (list_all (has_ends decimals) (map grain_at entries) ≡ true)
 
-last_at : (entries : List Interval) (k : ℕ) (entry : Interval) (d : Grain) → slice_get entries k ≡ Some entry → get_or (map grain_at entries) k d ≡ grain_at entry
+last_at : (entries : List Interval) (k : ℕ) (entry : Interval) (d : Grain) → slice_get entries k ≡ Some entry
+    → get_or (map grain_at entries) k d ≡ grain_at entry
 last_at [] k entry d e = absurd (cc)
 last_at (first ∷ entries) zero entry d e = let same : first ≡ entry = cc in ap grain_at same
 last_at (first ∷ entries) (suc k) entry d e = last_at entries k entry d e
 
 last_missing : (entries : List Interval) → last_entry entries ≡ None → entries ≡ []
 last_missing [] e = refl
-last_missing (first ∷ entries) e = absurd (gone first entries (sym (ap (slice_get (first ∷ entries)) (minus_one (length entries))) ∙ e))
+last_missing (first ∷ entries) e = absurd
+    (gone first entries (sym (ap (slice_get (first ∷ entries)) (minus_one (length entries))) ∙ e))
   where
     gone : (first : Interval) (entries : List Interval) → slice_get (first ∷ entries) (length entries) ≡ None → ⊥
     gone first [] e = cc
     gone first (second ∷ entries) e = gone second entries e
 
-lies_last : (entries : List Interval) (low : Dec) → is_ascending (map grain_at entries) ≡ true → lies_above (last_entry entries) low ≡ true
+lies_last : (entries : List Interval) (low : Dec) → is_ascending (map grain_at entries) ≡ true
+    → lies_above (last_entry entries) low ≡ true
     → list_all (is_below low) (map grain_at entries) ≡ true
 lies_last [] low h l = refl
 lies_last (first ∷ entries) low h l = by (last_entry (first ∷ entries)) refl l
@@ -450,7 +530,8 @@ lies_last (first ∷ entries) low h l = by (last_entry (first ∷ entries)) refl
     same_end : length (map grain_at all) - 1 ≡ length all - 1
     same_end = ap (λ n. n - 1) (length-map all grain_at)
 
-    by : (o : Option Interval) → last_entry all ≡ o → lies_above o low ≡ true → list_all (is_below low) (map grain_at all) ≡ true
+    by : (o : Option Interval) → last_entry all ≡ o → lies_above o low ≡ true
+        → list_all (is_below low) (map grain_at all) ≡ true
     by None is l = absurd (let none : first ∷ entries ≡ [] = last_missing all is in cc)
     by (Some entry) is l =
         let d : Grain = grain_at first in
@@ -468,13 +549,16 @@ entry_more : (decimals : ℕ) (entries : List Interval) (o : Option Interval) �
 entry_more decimals entries None p f = absurd (cc)
 entry_more decimals entries (Some entry) p f =
     let parts = and_parts (ends_have_decimals decimals entry) (entry_ascends (last_entry entries) entry) f in
-    let order = and_parts (le_z entry.low.millionths entry.high.millionths) (lies_above (last_entry entries) entry.low) parts.1 in
+    let order = and_parts (le_z entry.low.millionths entry.high.millionths) (lies_above (last_entry entries) entry.low)
+    parts.1 in
     let joined = sym (map-append grain_at entries (entry ∷ [])) in (
       subst (λ gs. is_ascending gs ≡ true) joined
-          (ascending_more (map grain_at entries) (grain_at entry) p.0 (lies_last entries entry.low p.0 order.1) order.0),
+          (ascending_more (map grain_at entries) (grain_at entry) p.0 (lies_last entries entry.low p.0 order.1)
+          order.0),
       subst (λ gs. list_all (has_ends decimals) gs ≡ true) joined
           (list_all-append (has_ends decimals) (map grain_at entries) (grain_at entry ∷ [])
-          ∙ and_from (list_all (has_ends decimals) (map grain_at entries)) (has_ends decimals (grain_at entry) && true) p.1
+          ∙ and_from (list_all (has_ends decimals) (map grain_at entries)) (has_ends decimals (grain_at entry) && true)
+          p.1
           (and_from (has_ends decimals (grain_at entry)) true parts.0 refl)),
     )
 
@@ -482,46 +566,59 @@ entry_more decimals entries (Some entry) p f =
 abbrev pub Stood : List Line → Under
 Stood earlier = last_said unders.Nothing under_at earlier
 
-pub under_stays : (earlier : List Line) (line : Line) (under : Under) → opens line ≡ false → Stood earlier ≡ under → Stood (line ∷ earlier) ≡ under
+pub under_stays : (earlier : List Line) (line : Line) (under : Under) → opens line ≡ false → Stood earlier ≡ under
+    → Stood (line ∷ earlier) ≡ under
 under_stays earlier line under going h = by (under_at line) refl
   where
     by : (o : Option Under) → under_at line ≡ o → unwrap_or o (Stood earlier) ≡ under
     by None is = h
     by (Some other) is = absurd (let told : true ≡ false = ap (λ o. is_some o) (sym is) ∙ going in cc)
 
-interval_is : (earlier : List Line) (x : IntervalLine) (decimals : ℕ) → is_bad (scope_of earlier) (lines.Interval x) ≡ false
-    → Stood earlier ≡ unders.Num (Some decimals) → fits_at decimals (listed with_entry opens entry_of earlier) (entry_of (lines.Interval x)) ≡ true
+interval_is : (earlier : List Line) (x : IntervalLine) (decimals : ℕ)
+    → is_bad (scope_of earlier) (lines.Interval x) ≡ false
+    → Stood earlier ≡ unders.Num (Some decimals)
+    → fits_at decimals (listed with_entry opens entry_of earlier) (entry_of (lines.Interval x)) ≡ true
 unfolding is_bad scope_of
 interval_is earlier x decimals fit under =
-    by (entry_of (lines.Interval x)) (not-false (interval_fits (scope_of earlier).standing (entry_of (lines.Interval x))) fit)
+    by (entry_of (lines.Interval x)) (not-false
+    (interval_fits (scope_of earlier).standing (entry_of (lines.Interval x))) fit)
   where
-    by : (o : Option Interval) → interval_fits (scope_of earlier).standing o ≡ true → fits_at decimals (listed with_entry opens entry_of earlier) o ≡ true
+    by : (o : Option Interval) → interval_fits (scope_of earlier).standing o ≡ true
+        → fits_at decimals (listed with_entry opens entry_of earlier) o ≡ true
     by None h = h
-    by (Some entry) h = ap (λ u. entry_fits u (last_entry (listed with_entry opens entry_of earlier)) entry) (sym under) ∙ h
+    by (Some entry) h = ap (λ u. entry_fits u (last_entry (listed with_entry opens entry_of earlier)) entry)
+        (sym under) ∙ h
 
 abbrev Fits : ℕ → List Line → Type 0
-Fits decimals earlier = (Stood earlier ≡ unders.Num (Some decimals)) × IsProper decimals (listed with_entry opens entry_of earlier)
+Fits decimals earlier = (Stood earlier ≡ unders.Num (Some decimals)) × IsProper decimals
+    (listed with_entry opens entry_of earlier)
 
-entries_fit : (decimals : ℕ) (earlier : List Line) (line : Line) (below : List Line) → Passes (scope_of earlier) line below → opens line ≡ false
+entries_fit : (decimals : ℕ) (earlier : List Line) (line : Line) (below : List Line)
+    → Passes (scope_of earlier) line below → opens line ≡ false
     → Fits decimals earlier → Fits decimals (line ∷ earlier)
 entries_fit decimals earlier line below p going h =
     let xs = listed with_entry opens entry_of earlier in
-    let here = ap (λ b. if b then [] else with_option with_entry xs (entry_of line)) going ∙ entry_add earlier line below p in (
+    let here = ap (λ b. if b then [] else with_option with_entry xs (entry_of line)) going
+    ∙ entry_add earlier line below p in (
       under_stays earlier line (unders.Num (Some decimals)) going h.0,
       subst (IsProper decimals) (sym here)
-          (by_entry (scope_of earlier) line below (λ o. IsProper decimals (xs ++ option_to_list o)) (subst (IsProper decimals) (sym (append-nil xs)) h.1)
-          (λ x q. entry_more decimals xs (entry_of (lines.Interval x)) h.1 (interval_is earlier x decimals q.fit h.0)) p),
+          (by_entry (scope_of earlier) line below (λ o. IsProper decimals (xs ++ option_to_list o))
+          (subst (IsProper decimals) (sym (append-nil xs)) h.1)
+          (λ x q. entry_more decimals xs (entry_of (lines.Interval x)) h.1 (interval_is earlier x decimals q.fit h.0))
+          p),
     )
 
 said_proper : (decimals : ℕ) (earlier ls : List Line) → Sound earlier ls → Stood earlier ≡ unders.Num (Some decimals)
     → listed with_entry opens entry_of earlier ≡ [] → IsProper decimals (said opens entry_of ls)
 said_proper decimals earlier ls s u e =
     let kept = until_keeps with_entry opens entry_of (Fits decimals) (entries_fit decimals)
-    (λ earlier line below p going h. entry_add earlier line below p) earlier ls s (u, subst (IsProper decimals) (sym e) (refl, refl)) in
+    (λ earlier line below p going h. entry_add earlier line below p) earlier ls s
+    (u, subst (IsProper decimals) (sym e) (refl, refl)) in
     subst (IsProper decimals) (kept.2 ∙ ap (λ xs. xs ++ said opens entry_of ls) e) kept.1.1
 
 -- the values of a NUM
-same_grains : (entries : List Interval) (values : List NumberValue) → map ends_of values ≡ map (λ e. e) entries → map grain_of values ≡ map grain_at entries
+same_grains : (entries : List Interval) (values : List NumberValue) → map ends_of values ≡ map (λ e. e) entries
+    → map grain_of values ≡ map grain_at entries
 same_grains entries values e =
     turned values ∙ ap (map grain_at) (e ∙ map-id entries)
   where
@@ -533,7 +630,8 @@ decimals_there : (scope : Scope) (x : NumLine) → is_bad scope (lines.Num x) �
 unfolding is_bad
 decimals_there scope x fit = fit
 
-numbers_proper : (a : Scope) (all earlier : List Line) (n : ℕ) (x : NumLine) (below : List Line) → Stands all earlier (lines.Num x) below
+numbers_proper : (a : Scope) (all earlier : List Line) (n : ℕ) (x : NumLine) (below : List Line)
+    → Stands all earlier (lines.Num x) below
     → are_proper (num_made a n x below).values ≡ true
 numbers_proper a all earlier n x below s = by x.decimals refl (decimals_there (scope_of earlier) x s.passes.fit)
   where
@@ -542,15 +640,18 @@ numbers_proper a all earlier n x below s = by x.decimals refl (decimals_there (s
 
     grains : map grain_of values ≡ map grain_at (said opens entry_of below)
     grains = same_grains (said opens entry_of below) values
-        (until_maps opens (number_at a) ends_of entry_of (λ e. e) (λ e n l b p. numbers_made a n l b) (lines.Num x ∷ earlier) (n + 1) below s.after)
+        (until_maps opens (number_at a) ends_of entry_of (λ e. e) (λ e n l b p. numbers_made a n l b)
+        (lines.Num x ∷ earlier) (n + 1) below s.after)
 
     by : (o : Option ℕ) → x.decimals ≡ o → is_none o ≡ false
-        → (is_ascending (map grain_of values) && list_all (has_ends (unwrap_or x.decimals 0)) (map grain_of values)) ≡ true
+        → (is_ascending (map grain_of values) && list_all (has_ends (unwrap_or x.decimals 0)) (map grain_of values))
+        ≡ true
     by None is none = absurd (cc)
     by (Some decimals) is none =
         let proper = said_proper decimals (lines.Num x ∷ earlier) below s.after (ap unders.Num is) refl in
         let of : unwrap_or x.decimals 0 ≡ decimals = ap (λ o. unwrap_or o 0) is in
-        and_from (is_ascending (map grain_of values)) (list_all (has_ends (unwrap_or x.decimals 0)) (map grain_of values))
+        and_from (is_ascending (map grain_of values))
+        (list_all (has_ends (unwrap_or x.decimals 0)) (map grain_of values))
         (ap is_ascending grains ∙ proper.0)
         (ap (λ k. list_all (has_ends k) (map grain_of values)) of ∙ ap (list_all (has_ends decimals)) grains ∙ proper.1)
 
@@ -563,29 +664,37 @@ no_form : (keyword : Option Keyword) → is_no_form (lines.NoForm keyword) ≡ f
 unfolding is_no_form
 no_form keyword h = cc
 
-text_misplaced : (earlier : List Line) (x : IntervalLine) (below : List Line) (o : Option ℕ) → is_misplaced (scope_of earlier) (lines.Interval x) below ≡ false
+text_misplaced : (earlier : List Line) (x : IntervalLine) (below : List Line) (o : Option ℕ)
+    → is_misplaced (scope_of earlier) (lines.Interval x) below ≡ false
     → Stood earlier ≡ unders.Char o → ⊥
 unfolding is_misplaced scope_of
-text_misplaced earlier x below o placed u = let no : not (takes_intervals (unders.Char o)) ≡ false = ap (λ u. not (takes_intervals u)) (sym u) ∙ placed in cc
+text_misplaced earlier x below o placed u = let no : not (takes_intervals (unders.Char o)) ≡ false =
+    ap (λ u. not (takes_intervals u)) (sym u) ∙ placed in cc
 
-number_misplaced : (earlier : List Line) (x : List ℕ) (below : List Line) (o : Option ℕ) → is_misplaced (scope_of earlier) (lines.Text x) below ≡ false
+number_misplaced : (earlier : List Line) (x : List ℕ) (below : List Line) (o : Option ℕ)
+    → is_misplaced (scope_of earlier) (lines.Text x) below ≡ false
     → Stood earlier ≡ unders.Num o → ⊥
 unfolding is_misplaced scope_of
-number_misplaced earlier x below o placed u = let no : not (takes_texts (unders.Num o)) ≡ false = ap (λ u. not (takes_texts u)) (sym u) ∙ placed in cc
+number_misplaced earlier x below o placed u = let no : not (takes_texts (unders.Num o)) ≡ false =
+    ap (λ u. not (takes_texts u)) (sym u) ∙ placed in cc
 
-interval_there : (scope : Scope) (x : IntervalLine) → is_bad scope (lines.Interval x) ≡ false → is_none (entry_within x.low x.high) ≡ false
+interval_there : (scope : Scope) (x : IntervalLine) → is_bad scope (lines.Interval x) ≡ false
+    → is_none (entry_within x.low x.high) ≡ false
 unfolding is_bad
-interval_there scope x fit = by (entry_within x.low x.high) (not-false (interval_fits scope.standing (entry_of (lines.Interval x))) fit)
+interval_there scope x fit = by (entry_within x.low x.high)
+    (not-false (interval_fits scope.standing (entry_of (lines.Interval x))) fit)
   where
     by : (o : Option Interval) → interval_fits scope.standing o ≡ true → is_none o ≡ false
     by None h = absurd (cc)
     by (Some entry) h = refl
 
-one_there : (uses : List ℕ) (o : Option Interval) (rest : List NumberValue) → is_none o ≡ false → 0 < length (cons_option (option_map (number_with uses) o) rest)
+one_there : (uses : List ℕ) (o : Option Interval) (rest : List NumberValue) → is_none o ≡ false
+    → 0 < length (cons_option (option_map (number_with uses) o) rest)
 one_there uses None rest h = absurd (cc)
 one_there uses (Some entry) rest h = omega arith
 
-text_first : (a : Scope) (earlier : List Line) (n : ℕ) (ls : List Line) (o : Option ℕ) → Sound earlier ls → Stood earlier ≡ unders.Char o
+text_first : (a : Scope) (earlier : List Line) (n : ℕ) (ls : List Line) (o : Option ℕ) → Sound earlier ls
+    → Stood earlier ≡ unders.Char o
     → has_value ls ≡ true → 0 < length (until opens (text_at a) n ls)
 text_first a earlier n [] o s u h = absurd (cc)
 text_first a earlier n (lines.Skipped ∷ below) o s u h = text_first a (lines.Skipped ∷ earlier) (n + 1) below o s.1 u h
@@ -599,23 +708,29 @@ text_first a earlier n ((lines.Char x) ∷ below) o s u h = absurd (cc)
 text_first a earlier n ((lines.Num x) ∷ below) o s u h = absurd (cc)
 text_first a earlier n ((lines.Text x) ∷ below) o s u h = omega arith
 text_first a earlier n ((lines.Interval x) ∷ below) o s u h = absurd (text_misplaced earlier x below o s.0.placed u)
-text_first a earlier n ((lines.Uses x) ∷ below) o s u h = text_first a ((lines.Uses x) ∷ earlier) (n + 1) below o s.1 u h
+text_first a earlier n ((lines.Uses x) ∷ below) o s u h =
+    text_first a ((lines.Uses x) ∷ earlier) (n + 1) below o s.1 u h
 text_first a earlier n ((lines.Class x) ∷ below) o s u h = absurd (cc)
 text_first a earlier n ((lines.Has x) ∷ below) o s u h = text_first a ((lines.Has x) ∷ earlier) (n + 1) below o s.1 u h
 text_first a earlier n ((lines.Table x) ∷ below) o s u h = absurd (cc)
-text_first a earlier n ((lines.Column x) ∷ below) o s u h = text_first a ((lines.Column x) ∷ earlier) (n + 1) below o s.1 u h
+text_first a earlier n ((lines.Column x) ∷ below) o s u h =
+    text_first a ((lines.Column x) ∷ earlier) (n + 1) below o s.1 u h
 text_first a earlier n ((lines.Net x) ∷ below) o s u h = absurd (cc)
 text_first a earlier n ((lines.Object x) ∷ below) o s u h = absurd (cc)
-text_first a earlier n ((lines.Bill x) ∷ below) o s u h = text_first a ((lines.Bill x) ∷ earlier) (n + 1) below o s.1 u h
-text_first a earlier n ((lines.Operation x) ∷ below) o s u h = text_first a ((lines.Operation x) ∷ earlier) (n + 1) below o s.1 u h
+text_first a earlier n ((lines.Bill x) ∷ below) o s u h =
+    text_first a ((lines.Bill x) ∷ earlier) (n + 1) below o s.1 u h
+text_first a earlier n ((lines.Operation x) ∷ below) o s u h =
+    text_first a ((lines.Operation x) ∷ earlier) (n + 1) below o s.1 u h
 text_first a earlier n ((lines.Block x) ∷ below) o s u h = absurd (cc)
 text_first a earlier n ((lines.Root x) ∷ below) o s u h = absurd (cc)
 text_first a earlier n (lines.Action ∷ below) o s u h = absurd (cc)
 
-number_first : (a : Scope) (earlier : List Line) (n : ℕ) (ls : List Line) (o : Option ℕ) → Sound earlier ls → Stood earlier ≡ unders.Num o
+number_first : (a : Scope) (earlier : List Line) (n : ℕ) (ls : List Line) (o : Option ℕ) → Sound earlier ls
+    → Stood earlier ≡ unders.Num o
     → has_value ls ≡ true → 0 < length (until opens (number_at a) n ls)
 number_first a earlier n [] o s u h = absurd (cc)
-number_first a earlier n (lines.Skipped ∷ below) o s u h = number_first a (lines.Skipped ∷ earlier) (n + 1) below o s.1 u h
+number_first a earlier n (lines.Skipped ∷ below) o s u h =
+    number_first a (lines.Skipped ∷ earlier) (n + 1) below o s.1 u h
 number_first a earlier n ((lines.Inner x) ∷ below) o s u h = absurd (cc)
 number_first a earlier n (lines.LongInner ∷ below) o s u h = absurd (cc)
 number_first a earlier n (lines.End ∷ below) o s u h = absurd (cc)
@@ -625,16 +740,23 @@ number_first a earlier n ((lines.Head x) ∷ below) o s u h = absurd (cc)
 number_first a earlier n ((lines.Char x) ∷ below) o s u h = absurd (cc)
 number_first a earlier n ((lines.Num x) ∷ below) o s u h = absurd (cc)
 number_first a earlier n ((lines.Text x) ∷ below) o s u h = absurd (number_misplaced earlier x below o s.0.placed u)
-number_first a earlier n ((lines.Interval x) ∷ below) o s u h = one_there (uses_below a (n + 1) below) (entry_within x.low x.high) (until opens (number_at a) (n + 1) below) (interval_there (scope_of earlier) x s.0.fit)
-number_first a earlier n ((lines.Uses x) ∷ below) o s u h = number_first a ((lines.Uses x) ∷ earlier) (n + 1) below o s.1 u h
+number_first a earlier n ((lines.Interval x) ∷ below) o s u h =
+    one_there (uses_below a (n + 1) below) (entry_within x.low x.high) (until opens (number_at a) (n + 1) below)
+    (interval_there (scope_of earlier) x s.0.fit)
+number_first a earlier n ((lines.Uses x) ∷ below) o s u h =
+    number_first a ((lines.Uses x) ∷ earlier) (n + 1) below o s.1 u h
 number_first a earlier n ((lines.Class x) ∷ below) o s u h = absurd (cc)
-number_first a earlier n ((lines.Has x) ∷ below) o s u h = number_first a ((lines.Has x) ∷ earlier) (n + 1) below o s.1 u h
+number_first a earlier n ((lines.Has x) ∷ below) o s u h =
+    number_first a ((lines.Has x) ∷ earlier) (n + 1) below o s.1 u h
 number_first a earlier n ((lines.Table x) ∷ below) o s u h = absurd (cc)
-number_first a earlier n ((lines.Column x) ∷ below) o s u h = number_first a ((lines.Column x) ∷ earlier) (n + 1) below o s.1 u h
+number_first a earlier n ((lines.Column x) ∷ below) o s u h =
+    number_first a ((lines.Column x) ∷ earlier) (n + 1) below o s.1 u h
 number_first a earlier n ((lines.Net x) ∷ below) o s u h = absurd (cc)
 number_first a earlier n ((lines.Object x) ∷ below) o s u h = absurd (cc)
-number_first a earlier n ((lines.Bill x) ∷ below) o s u h = number_first a ((lines.Bill x) ∷ earlier) (n + 1) below o s.1 u h
-number_first a earlier n ((lines.Operation x) ∷ below) o s u h = number_first a ((lines.Operation x) ∷ earlier) (n + 1) below o s.1 u h
+number_first a earlier n ((lines.Bill x) ∷ below) o s u h =
+    number_first a ((lines.Bill x) ∷ earlier) (n + 1) below o s.1 u h
+number_first a earlier n ((lines.Operation x) ∷ below) o s u h =
+    number_first a ((lines.Operation x) ∷ earlier) (n + 1) below o s.1 u h
 number_first a earlier n ((lines.Block x) ∷ below) o s u h = absurd (cc)
 number_first a earlier n ((lines.Root x) ∷ below) o s u h = absurd (cc)
 number_first a earlier n (lines.Action ∷ below) o s u h = absurd (cc)
@@ -659,8 +781,10 @@ keeps_lists ls s =
       values = made (characteristic_at a) (λ c. are_proper c.values) ls s
           (λ e n l b p. at_characteristic all e a n l b (λ c. are_proper c.values)
           (λ x q. subst (λ ks. are_different ks ≡ true)
-          (sym (until_maps opens (text_at a) (λ v. v.text) text_of (number_of a.declared.texts) (λ e n l b p. texts_made a n l b) (lines.Char x ∷ e) (n + 1) b q.after))
-          (numbers_different a.declared.texts text_of all text_add (text_there all) (lines.Char x ∷ e) b q.after q.all_are refl))
+          (sym (until_maps opens (text_at a) (λ v. v.text) text_of (number_of a.declared.texts)
+          (λ e n l b p. texts_made a n l b) (lines.Char x ∷ e) (n + 1) b q.after))
+          (numbers_different a.declared.texts text_of all text_add (text_there all) (lines.Char x ∷ e) b q.after
+          q.all_are refl))
           (λ x q. numbers_proper a all e n x b q) p);
       some_values = made (characteristic_at a) (λ c. nat_lt 0 (count_of c.values)) ls s
           (λ e n l b p. at_characteristic all e a n l b (λ c. nat_lt 0 (count_of c.values))
@@ -674,54 +798,68 @@ keeps_lists ls s =
       members = made (class_at a) (λ c. are_different c.members) ls s
           (λ e n l b p. at_class all e a n l b (λ c. are_different c.members)
           (λ x q. subst (λ ks. are_different ks ≡ true)
-          (sym (until_maps opens (member_at a) (λ m. m) member_of (number_of a.declared.characteristics) (λ e n l b p. members_made a n l b) (lines.Class x ∷ e) (n + 1) b q.after)
+          (sym (until_maps opens (member_at a) (λ m. m) member_of (number_of a.declared.characteristics)
+          (λ e n l b p. members_made a n l b) (lines.Class x ∷ e) (n + 1) b q.after)
           ∙ map-id (until opens (member_at a) (n + 1) b))
-          (numbers_different a.declared.characteristics member_of all member_add (member_there all) (lines.Class x ∷ e) b q.after q.all_are refl)) p);
+          (numbers_different a.declared.characteristics member_of all member_add (member_there all) (lines.Class x ∷ e)
+          b q.after q.all_are refl)) p);
       columns = made (table_at a) (λ t. are_apart (λ a b. a.characteristic == b.characteristic) t.columns) ls s
           (λ e n l b p. at_table all e a n l b (λ t. are_apart (λ a b. a.characteristic == b.characteristic) t.columns)
           (λ x q. apart_map (λ c. c.characteristic) (λ j k. j == k) (until opens (column_at a) (n + 1) b)
           ∙ subst (λ ks. are_different ks ≡ true)
-          (sym (until_maps opens (column_at a) (λ c. c.characteristic) column_of (number_of a.declared.characteristics) (λ e n l b p. columns_made a n l b) (lines.Table x ∷ e) (n + 1) b q.after))
-          (numbers_different a.declared.characteristics column_of all column_add (column_there all) (lines.Table x ∷ e) b q.after q.all_are refl)) p);
+          (sym (until_maps opens (column_at a) (λ c. c.characteristic) column_of (number_of a.declared.characteristics)
+          (λ e n l b p. columns_made a n l b) (lines.Table x ∷ e) (n + 1) b q.after))
+          (numbers_different a.declared.characteristics column_of all column_add (column_there all) (lines.Table x ∷ e)
+          b q.after q.all_are refl)) p);
       items = made (object_at a) (λ o. are_in_order (λ a b. nat_lt a.item b.item) o.bill) ls s
           (λ e n l b p. at_object all e a n l b (λ o. are_in_order (λ a b. nat_lt a.item b.item) o.bill)
           (λ x q. order_map (λ i. i.item) (until opens (item_at a) (n + 1) b)
-          ∙ subst Ascends (sym (until_maps opens (item_at a) (λ i. i.item) item_of (λ k. k) (λ e n l b p. items_made a (scope_of e) n l b p) (lines.Object x ∷ e) (n + 1) b q.after
+          ∙ subst Ascends (sym (until_maps opens (item_at a) (λ i. i.item) item_of (λ k. k)
+          (λ e n l b p. items_made a (scope_of e) n l b p) (lines.Object x ∷ e) (n + 1) b q.after
           ∙ map-id (said opens item_of b)))
           (items_ascend (lines.Object x ∷ e) b q.after refl)) p);
       operations = made (object_at a) (λ o. are_in_order (λ a b. nat_lt a.number b.number) o.operations) ls s
           (λ e n l b p. at_object all e a n l b (λ o. are_in_order (λ a b. nat_lt a.number b.number) o.operations)
           (λ x q. order_map (λ i. i.number) (until opens (operation_at a) (n + 1) b)
-          ∙ subst Ascends (sym (until_maps opens (operation_at a) (λ i. i.number) operation_of (λ k. k) (λ e n l b p. operations_made a (scope_of e) n l b p) (lines.Object x ∷ e) (n + 1) b q.after
+          ∙ subst Ascends (sym (until_maps opens (operation_at a) (λ i. i.number) operation_of (λ k. k)
+          (λ e n l b p. operations_made a (scope_of e) n l b p) (lines.Object x ∷ e) (n + 1) b q.after
           ∙ map-id (said opens operation_of b)))
           (operations_ascend (lines.Object x ∷ e) b q.after refl)) p);
       uses = made (characteristic_at a) (λ c. are_different c.uses) ls s
           (λ e n l b p. at_characteristic all e a n l b (λ c. are_different c.uses)
-          (λ x q. uses_different a (lines.Char x ∷ e) (n + 1) b q.after refl) (λ x q. uses_different a (lines.Num x ∷ e) (n + 1) b q.after refl) p);
+          (λ x q. uses_different a (lines.Char x ∷ e) (n + 1) b q.after refl)
+          (λ x q. uses_different a (lines.Num x ∷ e) (n + 1) b q.after refl) p);
       value_uses = made (characteristic_at a) (λ c. are_uses_different c.values) ls s
           (λ e n l b p. at_characteristic all e a n l b (λ c. are_uses_different c.values)
           (λ x q. each_said opens (text_at a) (λ v. are_different v.uses) all
-          (λ e n l b p. at_text all e a n l b (λ v. are_different v.uses) (λ x q. uses_different a (lines.Text x ∷ e) (n + 1) b q.after refl) p)
+          (λ e n l b p. at_text all e a n l b (λ v. are_different v.uses)
+          (λ x q. uses_different a (lines.Text x ∷ e) (n + 1) b q.after refl) p)
           (lines.Char x ∷ e) (n + 1) b q.after q.all_are)
           (λ x q. each_said opens (number_at a) (λ v. are_different v.uses) all
           (λ e n l b p. at_number all e a n l b (λ v. are_different v.uses)
-          (λ x q. each_map (λ v. are_different v.uses) (number_with (uses_below a (n + 1) b)) (entry_within x.low x.high)
+          (λ x q. each_map (λ v. are_different v.uses) (number_with (uses_below a (n + 1) b))
+          (entry_within x.low x.high)
           (λ entry. uses_different a (lines.Interval x ∷ e) (n + 1) b q.after refl)) p)
           (lines.Num x ∷ e) (n + 1) b q.after q.all_are) p);
       constraints = made (net_at a) (λ m. are_different m.constraints) ls s
-          (λ e n l b p. at_net all e a n l b (λ m. are_different m.constraints) (λ x q. uses_different a (lines.Net x ∷ e) (n + 1) b q.after refl) p);
+          (λ e n l b p. at_net all e a n l b (λ m. are_different m.constraints)
+          (λ x q. uses_different a (lines.Net x ∷ e) (n + 1) b q.after refl) p);
       nets = made (object_at a) (λ o. are_different o.nets) ls s
-          (λ e n l b p. at_object all e a n l b (λ o. are_different o.nets) (λ x q. nets_different a (lines.Object x ∷ e) (n + 1) b q.after refl) p);
+          (λ e n l b p. at_object all e a n l b (λ o. are_different o.nets)
+          (λ x q. nets_different a (lines.Object x ∷ e) (n + 1) b q.after refl) p);
       procedures = made (object_at a) (λ o. are_different o.procedures) ls s
-          (λ e n l b p. at_object all e a n l b (λ o. are_different o.procedures) (λ x q. uses_different a (lines.Object x ∷ e) (n + 1) b q.after refl) p);
+          (λ e n l b p. at_object all e a n l b (λ o. are_different o.procedures)
+          (λ x q. uses_different a (lines.Object x ∷ e) (n + 1) b q.after refl) p);
       item_uses = made (object_at a) (λ o. list_all (λ i. are_different i.uses) o.bill) ls s
           (λ e n l b p. at_object all e a n l b (λ o. list_all (λ i. are_different i.uses) o.bill)
           (λ x q. each_said opens (item_at a) (λ i. are_different i.uses) all
-          (λ e n l b p. at_item all e a n l b (λ i. are_different i.uses) (λ x q t. uses_different a (lines.Bill x ∷ e) (n + 1) b q.after refl) p)
+          (λ e n l b p. at_item all e a n l b (λ i. are_different i.uses)
+          (λ x q t. uses_different a (lines.Bill x ∷ e) (n + 1) b q.after refl) p)
           (lines.Object x ∷ e) (n + 1) b q.after q.all_are) p);
       operation_uses = made (object_at a) (λ o. list_all (λ i. are_different i.uses) o.operations) ls s
           (λ e n l b p. at_object all e a n l b (λ o. list_all (λ i. are_different i.uses) o.operations)
           (λ x q. each_said opens (operation_at a) (λ i. are_different i.uses) all
-          (λ e n l b p. at_operation all e a n l b (λ i. are_different i.uses) (λ x q t. uses_different a (lines.Operation x ∷ e) (n + 1) b q.after refl) p)
+          (λ e n l b p. at_operation all e a n l b (λ i. are_different i.uses)
+          (λ x q t. uses_different a (lines.Operation x ∷ e) (n + 1) b q.after refl) p)
           (lines.Object x ∷ e) (n + 1) b q.after q.all_are) p);
     }

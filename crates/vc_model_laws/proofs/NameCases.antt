@@ -13,7 +13,8 @@ use Rattle.vc_model_lines.specs.declared.line.OperationLine.{OperationLine}
 use Rattle.vc_model_lines.specs.declared.line.TableLine.{TableLine}
 use Rattle.vc_model_scope.specs.declared.entries.Interval.{Interval}
 use Rattle.vc_model_scope.specs.declared.scope.Scope.{Scope}
-use Rattle.vc_model_scope.specs.Contents.{characteristic_of, class_of, table_of, object_of, text_of, net_of, dependency_of, entry_of, member_of, column_of, use_of, item_of, operation_of}
+use Rattle.vc_model_scope.specs.Contents.{characteristic_of, class_of, table_of, object_of, text_of, net_of}
+use Rattle.vc_model_scope.specs.Contents.{dependency_of, entry_of, member_of, column_of, use_of, item_of, operation_of}
 use Rattle.vc_model_laws.proofs.Walks.{Passes}
 
 pub by_characteristic : (a : Scope) (line : Line) (below : List Line) (P : Option (List ℕ) → Type 0) → P None

@@ -81,7 +81,8 @@ HasTexts (Texts numbers) entries = map (λ e. e.number) entries ≡ numbers
 HasTexts (Nums decimals grains) entries = Unit {0}
 
 -- so what a field writes is a value of the domain
-text_listed : (numbers : List ℕ) (entries : List Entry) (value : Value) (o : Option ℕ) → map (λ e. e.number) entries ≡ numbers
+text_listed : (numbers : List ℕ) (entries : List Entry) (value : Value) (o : Option ℕ)
+    → map (λ e. e.number) entries ≡ numbers
     → ((n : ℕ) → o ≡ Some n → list_any (λ s. s == n) (map (λ e. e.number) entries) ≡ true)
     → option_map Text o ≡ Some value → is_listed (Some (Texts numbers)) value ≡ true
 text_listed numbers entries value None same listed h = absurd (cc)
@@ -111,18 +112,22 @@ value_listed (Texts numbers) entries field value same h =
 value_listed (Nums decimals grains) entries field value same h = number_held decimals grains value (read_number field) h
 
 -- the header's column of a characteristic
-column_texts : (texts : List (List ℕ)) (listed : parts.Values) → map (λ e. e.number) (texts_of texts listed) ≡ text_numbers listed
+column_texts : (texts : List (List ℕ)) (listed : parts.Values)
+    → map (λ e. e.number) (texts_of texts listed) ≡ text_numbers listed
     → HasTexts (domain_of listed) (texts_of texts listed)
 column_texts texts (values.Texts length multiple listed) h = h
 column_texts texts (values.Numbers decimals unit listed) h = tt
 
 -- the cells of a row are values of the lists of a model's columns
-cells_kept : (model : SeenModel) → KeepsHeaders model → (columns : List TableColumn) (fields : Fields) (cells : List Value)
+cells_kept : (model : SeenModel) → KeepsHeaders model
+    → (columns : List TableColumn) (fields : Fields) (cells : List Value)
     → list_all (λ c. nat_lt c.characteristic (length model.characteristics)) columns ≡ true
-    → values_of (columns_of model.texts model.characteristics columns) fields ≡ Some cells → are_cells model columns cells ≡ true
+    → values_of (columns_of model.texts model.characteristics columns) fields ≡ Some cells
+    → are_cells model columns cells ≡ true
 cells_kept model keeps [] fields cells inside h = let same : [] ≡ cells = cc in ap (are_cells model []) (sym same)
 cells_kept model keeps (column ∷ columns) fields cells inside h =
-    by fields (λ rest more. cells_kept model keeps columns rest more parts.1) (ap (λ cs. values_of cs fields) (sym first) ∙ h)
+    by fields (λ rest more. cells_kept model keeps columns rest more parts.1)
+    (ap (λ cs. values_of cs fields) (sym first) ∙ h)
   where
     parts : (nat_lt column.characteristic (length model.characteristics) ≡ true)
         × (list_all (λ c. nat_lt c.characteristic (length model.characteristics)) columns ≡ true)
@@ -144,7 +149,8 @@ cells_kept model keeps (column ∷ columns) fields cells inside h =
     list : list_at (slice_get model.characteristics column.characteristic) ≡ Some (domain_of at.0.values)
     list = ap list_at at.1 ∙ ap Some (sym (keeps.domains column.characteristic at.0 at.1))
 
-    listed : (field : List ℕ) (value : Value) → value_of head field ≡ Some value → is_listed (Some (domain_of at.0.values)) value ≡ true
+    listed : (field : List ℕ) (value : Value) → value_of head field ≡ Some value
+        → is_listed (Some (domain_of at.0.values)) value ≡ true
     listed field value e =
         value_listed (domain_of at.0.values) (texts_of model.texts at.0.values) field value
         (column_texts model.texts at.0.values (keeps.entries column.characteristic at.0 at.1)) e
@@ -156,10 +162,12 @@ cells_kept model keeps (column ∷ columns) fields cells inside h =
     joined value (Some more) l on e =
         let same : value ∷ more ≡ cells = cc in
         ap (are_cells model (column ∷ columns)) (sym same)
-        ∙ and_from (is_listed (list_at (slice_get model.characteristics column.characteristic)) value) (are_cells model columns more)
-          (ap (λ o. is_listed o value) list ∙ l) (on more refl)
+        ∙ and_from (is_listed (list_at (slice_get model.characteristics column.characteristic)) value)
+        (are_cells model columns more)
+        (ap (λ o. is_listed o value) list ∙ l) (on more refl)
 
-    by : (fields : Fields) → ((others : Fields) (more : List Value) → values_of rest others ≡ Some more → are_cells model columns more ≡ true)
+    by : (fields : Fields) → ((others : Fields) (more : List Value) → values_of rest others ≡ Some more
+        → are_cells model columns more ≡ true)
         → values_of (head ∷ rest) fields ≡ Some cells → are_cells model (column ∷ columns) cells ≡ true
     by [] on e = absurd (cc)
     by (field ∷ others) on e = valued (value_of head field) refl e
@@ -168,7 +176,8 @@ cells_kept model keeps (column ∷ columns) fields cells inside h =
             → option_and_then (λ value. option_map (λ vs. value ∷ vs) (values_of rest others)) o ≡ Some cells
             → are_cells model (column ∷ columns) cells ≡ true
         valued None is e = absurd (cc)
-        valued (Some value) is e = joined value (values_of rest others) (listed field value is) (λ more is. on others more is) e
+        valued (Some value) is e = joined value (values_of rest others) (listed field value is)
+            (λ more is. on others more is) e
 
 -- what is kept from each record to the next
 pub record Rows (Good : List Value → Type 0) (columns : List Column) (rows : List Row) : Type 0 where
@@ -192,7 +201,7 @@ key_push same (first ∷ rows) row apart none =
     let free : list_any (same first) (rows ++ row ∷ []) ≡ false =
     list_any-append (same first) rows (row ∷ [])
     ∙ or_from (list_any (same first) rows) (same first row || false) (not-true (list_any (same first) rows) parts.0)
-      (or_from (same first row) false here.0 refl) in
+    (or_from (same first row) false here.0 refl) in
     and_from (not (list_any (same first) (rows ++ row ∷ []))) (are_apart same (rows ++ row ∷ []))
     (not_from_false (list_any (same first) (rows ++ row ∷ [])) free) (key_push same rows row parts.1 here.1)
 
@@ -203,21 +212,25 @@ key_among columns [] cells = refl
 key_among columns (row ∷ rows) cells =
     ap (λ b. pointwise same_value (key_of columns cells) (key_of columns row.cells) || b) (key_among columns rows cells)
 
-key_kept : (columns : List Column) (rows : List Row) (cells : List Value) → (not (has_keys columns) || are_apart (has_key_of columns) rows) ≡ true
+key_kept : (columns : List Column) (rows : List Row) (cells : List Value)
+    → (not (has_keys columns) || are_apart (has_key_of columns) rows) ≡ true
     → repeats columns rows cells ≡ false
     → (not (has_keys columns) || are_apart (has_key_of columns) (rows ++ record { cells = cells } ∷ [])) ≡ true
 key_kept columns rows cells apart once = by (has_keys columns) apart once
   where
     by : (b : Bool) → (not b || are_apart (has_key_of columns) rows) ≡ true
-        → (b && list_any (pointwise same_value (key_of columns cells)) (map (λ row. key_of columns row.cells) rows)) ≡ false
+        → (b && list_any (pointwise same_value (key_of columns cells)) (map (λ row. key_of columns row.cells) rows))
+        ≡ false
         → (not b || are_apart (has_key_of columns) (rows ++ record { cells = cells } ∷ [])) ≡ true
     by false apart once = refl
-    by true apart once = key_push (has_key_of columns) rows (record { cells = cells }) apart (key_among columns rows cells ∙ once)
+    by true apart once = key_push (has_key_of columns) rows (record { cells = cells }) apart
+        (key_among columns rows cells ∙ once)
 
 rows_kept : (Good : List Value → Type 0) (columns : List Column)
     → ((fields : Fields) (cells : List Value) → values_of columns fields ≡ Some cells → Good cells)
     → (number : ℕ) (earlier : List Row) (records : List Fields) (rows : List Row) → Rows Good columns earlier
-    → rows_from columns number earlier records ≡ Ok rows → Rows Good columns rows × (length rows ≡ length earlier + length records)
+    → rows_from columns number earlier records ≡ Ok rows
+    → Rows Good columns rows × (length rows ≡ length earlier + length records)
 rows_kept Good columns reads number earlier [] rows kept h =
     let same : earlier ≡ rows = cc in
     (subst (Rows Good columns) same kept, ap length (sym same) ∙ plus_none (length earlier))
@@ -228,13 +241,15 @@ rows_kept Good columns reads number earlier (fields ∷ records) rows kept h =
     by (length fields == length columns) (values_of columns fields) refl h
     (λ more k e. rows_kept Good columns reads (number + 1) more records rows k e)
   where
-    counted : (row : Row) (n : ℕ) → n ≡ length (earlier ++ row ∷ []) + length records → n ≡ length earlier + suc (length records)
+    counted : (row : Row) (n : ℕ) → n ≡ length (earlier ++ row ∷ []) + length records
+        → n ≡ length earlier + suc (length records)
     counted row n e = omega (arith, e, length-append earlier (row ∷ []))
 
     once : (cells : List Value) (b : Bool) → repeats columns earlier cells ≡ b → Good cells
-        → (if b then Err (DoubleKey number) else rows_from columns (number + 1) (earlier ++ record { cells = cells } ∷ []) records) ≡ Ok rows
+        → (if b then Err (DoubleKey number) else rows_from columns (number + 1)
+        (earlier ++ record { cells = cells } ∷ []) records) ≡ Ok rows
         → ((more : List Row) → Rows Good columns more → rows_from columns (number + 1) more records ≡ Ok rows
-          → Rows Good columns rows × (length rows ≡ length more + length records))
+        → Rows Good columns rows × (length rows ≡ length more + length records))
         → Rows Good columns rows × (length rows ≡ length earlier + suc (length records))
     once cells true is good e on = absurd (cc)
     once cells false is good e on =
@@ -247,10 +262,10 @@ rows_kept Good columns reads number earlier (fields ∷ records) rows kept h =
 
     by : (b : Bool) (o : Option (List Value)) → values_of columns fields ≡ o
         → if_cells (if b then ok_or o (Cell number) else Err (Columns number)) (λ cells.
-          if repeats columns earlier cells then Err (DoubleKey number)
-          else rows_from columns (number + 1) (earlier ++ record { cells = cells } ∷ []) records) ≡ Ok rows
+        if repeats columns earlier cells then Err (DoubleKey number)
+        else rows_from columns (number + 1) (earlier ++ record { cells = cells } ∷ []) records) ≡ Ok rows
         → ((more : List Row) → Rows Good columns more → rows_from columns (number + 1) more records ≡ Ok rows
-          → Rows Good columns rows × (length rows ≡ length more + length records))
+        → Rows Good columns rows × (length rows ≡ length more + length records))
         → Rows Good columns rows × (length rows ≡ length earlier + suc (length records))
     by false o is e on = absurd (cc)
     by true None is e on = absurd (cc)
@@ -259,7 +274,8 @@ rows_kept Good columns reads number earlier (fields ∷ records) rows kept h =
 -- all records but the first are rows
 table_kept : (Good : List Value → Type 0) (columns : List Column)
     → ((fields : Fields) (cells : List Value) → values_of columns fields ≡ Some cells → Good cells)
-    → (records : List Fields) (rows : List Row) → rows_of columns records ≡ Ok rows → Rows Good columns rows × (length rows ≤ 10_000)
+    → (records : List Fields) (rows : List Row) → rows_of columns records ≡ Ok rows
+    → Rows Good columns rows × (length rows ≤ 10_000)
 table_kept Good columns reads [] rows h = absurd (cc)
 table_kept Good columns reads (names ∷ records) rows h =
     by (nat_lt 10001 (suc (length records))) refl (are_names columns names) h
@@ -278,17 +294,21 @@ table_kept Good columns reads (names ∷ records) rows h =
         (kept.0, omega (arith, kept.1, few))
 
 -- each passes where each one does
-from_each : {X : Type 0} (p : X → Bool) (xs : List X) → ((k : ℕ) (x : X) → slice_get xs k ≡ Some x → p x ≡ true) → list_all p xs ≡ true
+from_each : {X : Type 0} (p : X → Bool) (xs : List X) → ((k : ℕ) (x : X) → slice_get xs k ≡ Some x → p x ≡ true)
+    → list_all p xs ≡ true
 from_each p [] h = refl
 from_each p (x ∷ xs) h = and_from (p x) (list_all p xs) (h zero x refl) (from_each p xs (λ k y e. h (suc k) y e))
 
-pub keeps_rows : (model : SeenModel) (t : ℕ) (table : Table) (records : List Fields) (rows : List Row) → KeepsIndices model → KeepsHeaders model
-    → slice_get model.tables t ≡ Some table → rows_of (header_of model.texts model.characteristics table).columns records ≡ Ok rows
+pub keeps_rows : (model : SeenModel) (t : ℕ) (table : Table) (records : List Fields) (rows : List Row)
+    → KeepsIndices model → KeepsHeaders model
+    → slice_get model.tables t ≡ Some table → rows_of (header_of model.texts model.characteristics table).columns
+    records ≡ Ok rows
     → KeepsRows model table (header_of model.texts model.characteristics table).columns rows
 keeps_rows model t table records rows indices headers at h =
     let columns = columns_of model.texts model.characteristics table.columns in
     let inside : list_all (λ c. nat_lt c.characteristic (length model.characteristics)) table.columns ≡ true =
-    passes_at (λ table. list_all (λ c. nat_lt c.characteristic (length model.characteristics)) table.columns) model.tables t table indices.columns at in
+    passes_at (λ table. list_all (λ c. nat_lt c.characteristic (length model.characteristics)) table.columns)
+    model.tables t table indices.columns at in
     let kept = table_kept (λ cells. are_cells model table.columns cells ≡ true) columns
     (λ fields cells e. cells_kept model headers table.columns fields cells inside e) records rows h in
     record {

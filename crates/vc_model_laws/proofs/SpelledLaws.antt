@@ -54,4 +54,5 @@ spelled_keeps_headers text model spells =
 
 pub read_rows_are_kept : ReadRowsAreKept
 read_rows_are_kept text model t table records rows spells at h =
-    keeps_rows model t table records rows (spelled_keeps_indices text model spells) (spelled_keeps_headers text model spells) at h
+    keeps_rows model t table records rows (spelled_keeps_indices text model spells)
+    (spelled_keeps_headers text model spells) at h

@@ -1,5 +1,6 @@
 -- Lines without a fault, gone over from the first to the last, each with those before it and those below it.
-use Rattle.std.proofs.Common.{◌≡◌, ℕ, suc, ◌+◌, ◌≤◌, Bool, true, false, cond, List, [], ◌∷◌, ◌++◌, length, map, take, drop, option_to_list, Option, Some, None, if◌then◌else◌}
+use Rattle.std.proofs.Common.{◌≡◌, ℕ, suc, ◌+◌, ◌≤◌, Bool, true, false, cond, List, [], ◌∷◌, ◌++◌, length, map, take}
+use Rattle.std.proofs.Common.{drop, option_to_list, Option, Some, None, if◌then◌else◌}
 use Rattle.std.proofs.Common.{refl, sym, ap, ◌∙◌, append_assoc, append-nil, arith}
 use Rattle.std.specs.Prelude.{option_map, find}
 use Rattle.std.specs.List.{cons_option, list_all}
@@ -43,7 +44,8 @@ abbrev NonePass : {X : Type 0} → (X → Bool) → List X → Type 0
 NonePass p [] = Unit {0}
 NonePass p (x ∷ xs) = (p x ≡ false) × NonePass p xs
 
-none_found : {X : Type 0} (p : X → Bool) (x : X) (xs : List X) → find p (x ∷ xs) ≡ None → (p x ≡ false) × (find p xs ≡ None)
+none_found : {X : Type 0} (p : X → Bool) (x : X) (xs : List X) → find p (x ∷ xs) ≡ None
+    → (p x ≡ false) × (find p xs ≡ None)
 none_found p x xs e = by (p x) refl e
   where
     by : (b : Bool) → p x ≡ b → cond b (Some x) (find p xs) ≡ None → (p x ≡ false) × (find p xs ≡ None)
@@ -54,7 +56,8 @@ none_pass : {X : Type 0} (p : X → Bool) (xs : List X) → find p xs ≡ None �
 none_pass p [] e = tt
 none_pass p (x ∷ xs) e = let here = none_found p x xs e in (here.0, none_pass p xs here.1)
 
-passes_tests : (scope : Scope) (line : Line) (below : List Line) → is_formed line ≡ true → NonePass (stands scope line below) kinds → Passes scope line below
+passes_tests : (scope : Scope) (line : Line) (below : List Line) → is_formed line ≡ true
+    → NonePass (stands scope line below) kinds → Passes scope line below
 passes_tests scope line below formed none = record {
   formed = formed;
   short = none.1.0;
@@ -71,9 +74,11 @@ passes_tests scope line below formed none = record {
   unmixed = none.1.1.1.1.1.1.1.1.1.1.1.1.1.1.0;
 }
 
-passes : (scope : Scope) (line : Line) (below : List Line) → is_formed line ≡ true → kind_at scope line below ≡ None → Passes scope line below
+passes : (scope : Scope) (line : Line) (below : List Line) → is_formed line ≡ true → kind_at scope line below ≡ None
+    → Passes scope line below
 unfolding kind_at
-passes scope line below formed none = passes_tests scope line below formed (none_pass (stands scope line below) kinds none)
+passes scope line below formed none = passes_tests scope line below formed
+    (none_pass (stands scope line below) kinds none)
 
 -- no line behind others has a fault, and a ROOT stands above the end
 abbrev pub Sound : List Line → List Line → Type 0
@@ -85,11 +90,15 @@ rooted true e = refl
 rooted false e = absurd (cc)
 
 sound_behind : (earlier lines : List Line) → list_all is_formed lines ≡ true
-    → ((place : ℕ) → place ≤ length lines → kind_by (backwards earlier (take place lines)) (drop place lines) ≡ None) → Sound earlier lines
+    → ((place : ℕ) → place ≤ length lines → kind_by (backwards earlier (take place lines)) (drop place lines) ≡ None)
+    → Sound earlier lines
 sound_behind earlier [] formed none = rooted (scope_of earlier).root (none 0 (omega arith))
 sound_behind earlier (line ∷ below) formed none =
-    let f = and_parts (is_formed line) (list_all is_formed below) formed in
-    (passes (scope_of earlier) line below f.0 (none 0 (omega arith)), sound_behind (line ∷ earlier) below f.1 (λ place h. none (suc place) (omega (arith, h))))
+    let f = and_parts (is_formed line) (list_all is_formed below) formed in (
+      passes (scope_of earlier) line below f.0 (none 0 (omega arith)),
+      sound_behind (line ∷ earlier) below f.1
+          (λ place h. none (suc place) (omega (arith, h))),
+    )
 
 pub sound : (lines : List Line) → list_all is_formed lines ≡ true → HasNoFault lines → Sound [] lines
 unfolding HasNoFault
@@ -102,7 +111,8 @@ pub record Stands (all earlier : List Line) (line : Line) (below : List Line) : 
   pub all_are : backwards (line ∷ earlier) below ≡ all
 
 -- what is kept from each line to the next is kept to the end
-pub all_keep : (C : List Line → Type 0) → ((earlier : List Line) (line : Line) (below : List Line) → Passes (scope_of earlier) line below → C earlier → C (line ∷ earlier))
+pub all_keep : (C : List Line → Type 0) → ((earlier : List Line) (line : Line) (below : List Line)
+    → Passes (scope_of earlier) line below → C earlier → C (line ∷ earlier))
     → (earlier lines : List Line) → Sound earlier lines → C earlier → C (backwards earlier lines)
 all_keep C step earlier [] s c = c
 all_keep C step earlier (line ∷ below) s c = all_keep C step (line ∷ earlier) below s.1 (step earlier line below s.0 c)
@@ -117,50 +127,64 @@ one_more xs ys None = ap (λ l. l ++ ys) (append-nil xs)
 one_more xs ys (Some x) = append_assoc xs (x ∷ []) ys
 
 -- what is kept from each line to the next is kept to the one that ends a list, and the list is what these lines say
-pub until_keeps : {K : Type 0} (add : List K → K → List K) (ends : Line → Bool) (f : Line → Option K) (C : List Line → Type 0)
-    → ((earlier : List Line) (line : Line) (below : List Line) → Passes (scope_of earlier) line below → ends line ≡ false → C earlier → C (line ∷ earlier))
-    → ((earlier : List Line) (line : Line) (below : List Line) → Passes (scope_of earlier) line below → ends line ≡ false → C earlier
+pub until_keeps : {K : Type 0} (add : List K → K → List K) (ends : Line → Bool) (f : Line → Option K)
+    (C : List Line → Type 0)
+    → ((earlier : List Line) (line : Line) (below : List Line) → Passes (scope_of earlier) line below
+    → ends line ≡ false → C earlier → C (line ∷ earlier))
+    → ((earlier : List Line) (line : Line) (below : List Line) → Passes (scope_of earlier) line below
+    → ends line ≡ false → C earlier
     → with_option add (listed add ends f earlier) (f line) ≡ listed add ends f earlier ++ option_to_list (f line))
     → (earlier lines : List Line) → Sound earlier lines → C earlier
     → (last : List Line) × C last × (listed add ends f last ≡ listed add ends f earlier ++ said ends f lines)
 until_keeps add ends f C step adds earlier [] s c = (earlier, c, sym (append-nil (listed add ends f earlier)))
 until_keeps {K = K} add ends f C step adds earlier (line ∷ below) s c =
-    by (ends line) refl (λ going. until_keeps add ends f C step adds (line ∷ earlier) below s.1 (step earlier line below s.0 going c))
+    by (ends line) refl (λ going. until_keeps add ends f C step adds (line ∷ earlier) below s.1
+    (step earlier line below s.0 going c))
   where
     by : (b : Bool) → ends line ≡ b
-        → (ends line ≡ false → (last : List Line) × C last × (listed add ends f last ≡ listed add ends f (line ∷ earlier) ++ said ends f below))
-        → (last : List Line) × C last × (listed add ends f last ≡ listed add ends f earlier ++ (if b then [] else cons_option (f line) (said ends f below)))
+        → (ends line ≡ false → (last : List Line) × C
+        last × (listed add ends f last ≡ listed add ends f (line ∷ earlier) ++ said ends f below))
+        → (last : List Line) × C last × (listed add ends f last ≡ listed add ends f
+        earlier ++ (if b then [] else cons_option (f line) (said ends f below)))
     by true is more = (earlier, c, sym (append-nil (listed add ends f earlier)))
     by false is more =
         let found = more is in
         let here : listed add ends f (line ∷ earlier) ≡ listed add ends f earlier ++ option_to_list (f line) =
-        ap (λ b. if b then [] else with_option add (listed add ends f earlier) (f line)) is ∙ adds earlier line below s.0 is c in (
+        ap (λ b. if b then [] else with_option add (listed add ends f earlier) (f line)) is
+        ∙ adds earlier line below s.0 is c in (
           found.0,
           found.1,
-          found.2 ∙ ap (λ l. l ++ said ends f below) here ∙ one_more (listed add ends f earlier) (said ends f below) (f line),
+          found.2 ∙ ap (λ l. l ++ said ends f below) here
+              ∙ one_more (listed add ends f earlier) (said ends f below) (f line),
         )
 
 -- the names that all lines declare, where none declares one again
 pub declared_is : (f : Line → Option (List ℕ))
     → ((earlier : List Line) (line : Line) (below : List Line) → Passes (scope_of earlier) line below
     → with_option with_name (declared f earlier) (f line) ≡ declared f earlier ++ option_to_list (f line))
-    → (earlier lines : List Line) → Sound earlier lines → declared f (backwards earlier lines) ≡ declared f earlier ++ said never f lines
+    → (earlier lines : List Line) → Sound earlier lines
+    → declared f (backwards earlier lines) ≡ declared f earlier ++ said never f lines
 declared_is f adds earlier [] s = sym (append-nil (declared f earlier))
 declared_is f adds earlier (line ∷ below) s =
     declared_is f adds (line ∷ earlier) below s.1
-    ∙ ap (λ l. l ++ said never f below) (adds earlier line below s.0) ∙ one_more (declared f earlier) (said never f below) (f line)
+    ∙ ap (λ l. l ++ said never f below) (adds earlier line below s.0)
+    ∙ one_more (declared f earlier) (said never f below) (f line)
 
 -- what lines say, seen by a part of it
-map_option : {X K : Type 0} (key : X → K) (o : Option X) (xs : List X) → map key (cons_option o xs) ≡ cons_option (option_map key o) (map key xs)
+map_option : {X K : Type 0} (key : X → K) (o : Option X) (xs : List X)
+    → map key (cons_option o xs) ≡ cons_option (option_map key o) (map key xs)
 map_option key None xs = refl
 map_option key (Some x) xs = refl
 
-pub until_maps : {X K N : Type 0} (ends : Line → Bool) (say : ℕ → Line → List Line → Option X) (key : X → N) (f : Line → Option K) (g : K → N)
+pub until_maps : {X K N : Type 0} (ends : Line → Bool) (say : ℕ → Line → List Line → Option X) (key : X → N)
+    (f : Line → Option K) (g : K → N)
     → ((earlier : List Line) (number : ℕ) (line : Line) (below : List Line) → Passes (scope_of earlier) line below
     → option_map key (say number line below) ≡ option_map g (f line))
-    → (earlier : List Line) (number : ℕ) (lines : List Line) → Sound earlier lines → map key (until ends say number lines) ≡ map g (said ends f lines)
+    → (earlier : List Line) (number : ℕ) (lines : List Line) → Sound earlier lines
+    → map key (until ends say number lines) ≡ map g (said ends f lines)
 until_maps ends say key f g same earlier number [] s = refl
-until_maps {N = N} ends say key f g same earlier number (line ∷ below) s = by (ends line) (until_maps ends say key f g same (line ∷ earlier) (number + 1) below s.1)
+until_maps {N = N} ends say key f g same earlier number (line ∷ below) s =
+    by (ends line) (until_maps ends say key f g same (line ∷ earlier) (number + 1) below s.1)
   where
     by : (b : Bool) → map key (until ends say (number + 1) below) ≡ map g (said ends f below)
         → map key (if b then [] else cons_option (say number line below) (until ends say (number + 1) below))
@@ -172,35 +196,47 @@ until_maps {N = N} ends say key f g same earlier number (line ∷ below) s = by 
         ∙ ap (cons_option (option_map g (f line))) rest ∙ sym (map_option g (f line) (said ends f below))
 
 -- what passes a test where lines say it passes it in the list
-with_passing : {X : Type 0} (test : X → Bool) (o : Option X) (xs : List X) → each test o ≡ true → list_all test xs ≡ true → list_all test (cons_option o xs) ≡ true
+with_passing : {X : Type 0} (test : X → Bool) (o : Option X) (xs : List X) → each test o ≡ true
+    → list_all test xs ≡ true → list_all test (cons_option o xs) ≡ true
 with_passing test None xs h g = g
 with_passing test (Some x) xs h g = and_from (test x) (list_all test xs) h g
 
-pub each_said : {X : Type 0} (ends : Line → Bool) (say : ℕ → Line → List Line → Option X) (test : X → Bool) (all : List Line)
-    → ((earlier : List Line) (number : ℕ) (line : Line) (below : List Line) → Stands all earlier line below → each test (say number line below) ≡ true)
-    → (earlier : List Line) (number : ℕ) (lines : List Line) → Sound earlier lines → backwards earlier lines ≡ all → list_all test (until ends say number lines) ≡ true
+pub each_said : {X : Type 0} (ends : Line → Bool) (say : ℕ → Line → List Line → Option X) (test : X → Bool)
+    (all : List Line)
+    → ((earlier : List Line) (number : ℕ) (line : Line) (below : List Line) → Stands all earlier line below
+    → each test (say number line below) ≡ true)
+    → (earlier : List Line) (number : ℕ) (lines : List Line) → Sound earlier lines → backwards earlier lines ≡ all
+    → list_all test (until ends say number lines) ≡ true
 each_said ends say test all holds earlier number [] s a = refl
-each_said ends say test all holds earlier number (line ∷ below) s a = by (ends line) (each_said ends say test all holds (line ∷ earlier) (number + 1) below s.1 a)
+each_said ends say test all holds earlier number (line ∷ below) s a =
+    by (ends line) (each_said ends say test all holds (line ∷ earlier) (number + 1) below s.1 a)
   where
     by : (b : Bool) → list_all test (until ends say (number + 1) below) ≡ true
-        → list_all test (if b then [] else cons_option (say number line below) (until ends say (number + 1) below)) ≡ true
+        → list_all test (if b then [] else cons_option (say number line below) (until ends say (number + 1) below))
+        ≡ true
     by true rest = refl
     by false rest =
         with_passing test (say number line below) (until ends say (number + 1) below)
         (holds earlier number line below (record { passes = s.0; after = s.1; all_are = a })) rest
 
 -- the same, where something is kept from each line to the next
-pub each_under : {X : Type 0} (ends : Line → Bool) (say : ℕ → Line → List Line → Option X) (test : X → Bool) (all : List Line) (C : List Line → Type 0)
-    → ((earlier : List Line) (line : Line) (below : List Line) → Passes (scope_of earlier) line below → ends line ≡ false → C earlier → C (line ∷ earlier))
-    → ((earlier : List Line) (number : ℕ) (line : Line) (below : List Line) → Stands all earlier line below → C earlier → each test (say number line below) ≡ true)
-    → (earlier : List Line) (number : ℕ) (lines : List Line) → Sound earlier lines → backwards earlier lines ≡ all → C earlier
+pub each_under : {X : Type 0} (ends : Line → Bool) (say : ℕ → Line → List Line → Option X) (test : X → Bool)
+    (all : List Line) (C : List Line → Type 0)
+    → ((earlier : List Line) (line : Line) (below : List Line) → Passes (scope_of earlier) line below
+    → ends line ≡ false → C earlier → C (line ∷ earlier))
+    → ((earlier : List Line) (number : ℕ) (line : Line) (below : List Line) → Stands all earlier line below → C earlier
+    → each test (say number line below) ≡ true)
+    → (earlier : List Line) (number : ℕ) (lines : List Line) → Sound earlier lines → backwards earlier lines ≡ all
+    → C earlier
     → list_all test (until ends say number lines) ≡ true
 each_under ends say test all C step holds earlier number [] s a c = refl
 each_under ends say test all C step holds earlier number (line ∷ below) s a c =
-    by (ends line) refl (λ going. each_under ends say test all C step holds (line ∷ earlier) (number + 1) below s.1 a (step earlier line below s.0 going c))
+    by (ends line) refl (λ going. each_under ends say test all C step holds (line ∷ earlier) (number + 1) below s.1 a
+    (step earlier line below s.0 going c))
   where
     by : (b : Bool) → ends line ≡ b → (ends line ≡ false → list_all test (until ends say (number + 1) below) ≡ true)
-        → list_all test (if b then [] else cons_option (say number line below) (until ends say (number + 1) below)) ≡ true
+        → list_all test (if b then [] else cons_option (say number line below) (until ends say (number + 1) below))
+        ≡ true
     by true is rest = refl
     by false is rest =
         with_passing test (say number line below) (until ends say (number + 1) below)

@@ -21,7 +21,8 @@ text_numbers (Numbers decimals unit values) = []
 
 -- each column of a table is one of its header, and a column's domain and texts are those of its characteristic's values
 pub record KeepsHeaders (model : SeenModel) : Type 0 where
-  pub columns : list_all (λ table. length (columns_of model.texts model.characteristics table.columns) == length table.columns) model.tables ≡ true
+  pub columns : list_all (λ table. length (columns_of model.texts model.characteristics table.columns) == length
+      table.columns) model.tables ≡ true
   pub domains : (k : ℕ) (characteristic : Characteristic) → slice_get model.characteristics k ≡ Some characteristic
       → domain_of characteristic.values ≡ whole_domain characteristic.values
   pub entries : (k : ℕ) (characteristic : Characteristic) → slice_get model.characteristics k ≡ Some characteristic

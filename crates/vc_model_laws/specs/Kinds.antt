@@ -44,8 +44,10 @@ abbrev pub are_used_as : SeenModel → (Dependency → Bool) → List ℕ → Bo
 are_used_as model test uses = list_all (λ number. is_used_as test (slice_get model.dependencies number)) uses
 
 abbrev pub are_values_used_as : SeenModel → (Dependency → Bool) → Values → Bool
-are_values_used_as model test (Texts length multiple values) = list_all (λ value. are_used_as model test value.uses) values
-are_values_used_as model test (Numbers decimals unit values) = list_all (λ value. are_used_as model test value.uses) values
+are_values_used_as model test (Texts length multiple values) =
+    list_all (λ value. are_used_as model test value.uses) values
+are_values_used_as model test (Numbers decimals unit values) =
+    list_all (λ value. are_used_as model test value.uses) values
 
 -- whether a characteristic is there and has one value at most
 abbrev pub is_single : Option Characteristic → Bool
@@ -54,10 +56,15 @@ is_single (Some characteristic) = not (is_multiple characteristic.values)
 
 pub record KeepsKinds (model : SeenModel) : Type 0 where
   pub dependencies : list_all (λ dependency. is_dependency dependency.tree) model.dependencies ≡ true
-  pub characteristics : list_all (λ characteristic. are_used_as model is_for_characteristic characteristic.uses) model.characteristics ≡ true
-  pub values : list_all (λ characteristic. are_values_used_as model is_for_value characteristic.values) model.characteristics ≡ true
+  pub characteristics : list_all (λ characteristic. are_used_as model is_for_characteristic characteristic.uses)
+      model.characteristics ≡ true
+  pub values : list_all (λ characteristic. are_values_used_as model is_for_value characteristic.values)
+      model.characteristics ≡ true
   pub constraints : list_all (λ net. are_used_as model is_constraint net.constraints) model.nets ≡ true
   pub procedures : list_all (λ object. are_used_as model is_procedure object.procedures) model.objects ≡ true
-  pub items : list_all (λ object. list_all (λ item. are_used_as model is_selection item.uses) object.bill) model.objects ≡ true
-  pub operations : list_all (λ object. list_all (λ operation. are_used_as model is_selection operation.uses) object.operations) model.objects ≡ true
-  pub columns : list_all (λ table. list_all (λ column. is_single (slice_get model.characteristics column.characteristic)) table.columns) model.tables ≡ true
+  pub items : list_all (λ object. list_all (λ item. are_used_as model is_selection item.uses) object.bill)
+      model.objects ≡ true
+  pub operations : list_all (λ object. list_all (λ operation. are_used_as model is_selection operation.uses)
+      object.operations) model.objects ≡ true
+  pub columns : list_all (λ table. list_all
+      (λ column. is_single (slice_get model.characteristics column.characteristic)) table.columns) model.tables ≡ true

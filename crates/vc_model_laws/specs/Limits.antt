@@ -45,4 +45,5 @@ pub record KeepsLimits (model : SeenModel) : Type 0 where
   pub uses : list_all (λ characteristic. nat_le (length characteristic.uses) 100) model.characteristics ≡ true
   pub value_uses : list_all (λ characteristic. have_few_uses characteristic.values) model.characteristics ≡ true
   pub constraints : list_all (λ net. nat_le (length net.constraints) 100) model.nets ≡ true
-  pub profiles : list_all (λ object. nat_le (length object.nets) 100 && nat_le (length object.procedures) 100) model.objects ≡ true
+  pub profiles : list_all (λ object. nat_le (length object.nets) 100 && nat_le (length object.procedures) 100)
+      model.objects ≡ true

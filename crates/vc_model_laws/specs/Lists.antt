@@ -33,15 +33,19 @@ is_multiple (Numbers decimals unit values) = false
 pub record KeepsLists (model : SeenModel) : Type 0 where
   pub values : list_all (λ characteristic. are_proper characteristic.values) model.characteristics ≡ true
   pub some_values : list_all (λ characteristic. nat_lt 0 (count_of characteristic.values)) model.characteristics ≡ true
-  pub unmixed : list_all (λ characteristic. not (is_multiple characteristic.values && characteristic.restrictable)) model.characteristics ≡ true
+  pub unmixed : list_all (λ characteristic. not (is_multiple characteristic.values && characteristic.restrictable))
+      model.characteristics ≡ true
   pub members : list_all (λ class. are_different class.members) model.classes ≡ true
-  pub columns : list_all (λ table. are_apart (λ a b. a.characteristic == b.characteristic) table.columns) model.tables ≡ true
+  pub columns : list_all (λ table. are_apart (λ a b. a.characteristic == b.characteristic) table.columns)
+      model.tables ≡ true
   pub items : list_all (λ object. are_in_order (λ a b. nat_lt a.item b.item) object.bill) model.objects ≡ true
-  pub operations : list_all (λ object. are_in_order (λ a b. nat_lt a.number b.number) object.operations) model.objects ≡ true
+  pub operations : list_all (λ object. are_in_order (λ a b. nat_lt a.number b.number) object.operations)
+      model.objects ≡ true
   pub uses : list_all (λ characteristic. are_different characteristic.uses) model.characteristics ≡ true
   pub value_uses : list_all (λ characteristic. are_uses_different characteristic.values) model.characteristics ≡ true
   pub constraints : list_all (λ net. are_different net.constraints) model.nets ≡ true
   pub nets : list_all (λ object. are_different object.nets) model.objects ≡ true
   pub procedures : list_all (λ object. are_different object.procedures) model.objects ≡ true
   pub item_uses : list_all (λ object. list_all (λ item. are_different item.uses) object.bill) model.objects ≡ true
-  pub operation_uses : list_all (λ object. list_all (λ operation. are_different operation.uses) object.operations) model.objects ≡ true
+  pub operation_uses : list_all (λ object. list_all (λ operation. are_different operation.uses) object.operations)
+      model.objects ≡ true
