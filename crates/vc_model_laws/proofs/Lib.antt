@@ -1,4 +1,6 @@
 pub mod DeclaringLaws
+pub mod DifferentLaws
+pub mod FirstValueLaws
 pub mod HeadersLaws
 pub mod IndicesLaws
 pub mod KindsLaws
@@ -12,6 +14,7 @@ pub mod MarkedLaws
 pub mod NameCases
 pub mod NameLemmas
 pub mod NamesLaws
+pub mod OrderLaws
 pub mod RowsLaws
 pub mod SpelledLaws
 pub mod TextsLaws

@@ -1,6 +1,6 @@
 -- Rows that are read with a model's header are rows of its columns' lists.
 use Rattle.std.proofs.Common.{◌≡◌, ℕ, zero, suc, ◌+◌, ◌<◌, ◌≤◌, Bool, true, false, cond, not, ◌&&◌, ◌||◌}
-use Rattle.std.proofs.Common.{nat_lt, nat_le, List, [], ◌∷◌, ◌++◌, length, map, Option, Some, None, Result, Ok, Err}
+use Rattle.std.proofs.Common.{nat_lt, List, [], ◌∷◌, ◌++◌, length, map, Option, Some, None, Result, Ok, Err}
 use Rattle.std.proofs.Common.{if◌then◌else◌, refl, sym, ap, subst, ◌∙◌, length-append, arith}
 use Rattle.std.specs.Prelude.{◌==◌, is_some, ok_or, option_map, position, slice_get}
 use Rattle.std.specs.List.{cons_option, list_all, list_any, position_or_len}
@@ -8,7 +8,7 @@ use Rattle.std.specs.Option.{option_and_then}
 use Rattle.std.specs.Cmp.Lexicographic.{pointwise}
 use Rattle.std.proofs.lemmas.Bool.{and_parts, and_from, or_parts, or_from, or_left, or_right, not-true, not_from_false}
 use Rattle.std.proofs.lemmas.Bool.{ltb-true, ltb-false, le-leb, eq-eqb}
-use Rattle.std.proofs.lemmas.List.Folds.{list_all-append, list_any-append}
+use Rattle.std.proofs.lemmas.List.Folds.{list_any-append}
 use Rattle.vc_value.specs.Decimals.{read_number}
 use Rattle.vc_value.specs.Grains.{has_decimals, hold, holds}
 use Rattle.vc_value.specs.Words.{same_bytes}
@@ -22,11 +22,10 @@ use Rattle.vc_value.specs.declared.table_header.Entry.{Entry}
 use Rattle.vc_value.specs.declared.value.Value.{Value}
 use Rattle.vc_value.specs.declared.value.Value.TheVariants.{Text, Num}
 use Rattle.vc_table.specs.declared.table.Row.{Row}
-use Rattle.vc_table.specs.declared.table.TableFault.{TableFault}
 use Rattle.vc_table.specs.declared.table.TableFault.TheVariants.{Columns, Cell, DoubleKey, TooManyRows}
 use Rattle.vc_table.specs.Records.{Fields}
 use Rattle.vc_table.specs.Tables.{text_number, number_in, domain_value, value_of, values_of, are_names, key_of}
-use Rattle.vc_table.specs.Tables.{has_keys, repeats, cells_of, if_cells, rows_from, rows_below, rows_of, same_value}
+use Rattle.vc_table.specs.Tables.{has_keys, repeats, if_cells, rows_from, rows_of, same_value}
 use Rattle.vc_model_parts.specs.Headers.{domain_of, texts_of, column_from, columns_of, header_of}
 use Rattle.vc_model_parts.specs.declared.parts.Characteristic.{Characteristic}
 use Rattle.vc_model_parts.specs.declared.parts.Table.{Table}
@@ -36,7 +35,7 @@ use Rattle.vc_model_parts.specs.declared.parts.Values.TheVariants as values
 use Rattle.vc_model_drafts.specs.Seen.{SeenModel}
 use Rattle.vc_plan.specs.Lists.{is_listed}
 use Rattle.vc_plan.specs.Orders.{are_apart}
-use Rattle.vc_model_laws.specs.Headers.{text_numbers, whole_domain, KeepsHeaders}
+use Rattle.vc_model_laws.specs.Headers.{text_numbers, KeepsHeaders}
 use Rattle.vc_model_laws.specs.Indices.{KeepsIndices}
 use Rattle.vc_model_laws.specs.Rows.{are_cells, has_key_of, list_at, KeepsRows}
 use Rattle.vc_model_laws.proofs.HeadersLaws.{there}

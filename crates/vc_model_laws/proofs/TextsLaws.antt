@@ -39,7 +39,8 @@ use Rattle.vc_model_laws.proofs.IndicesLaws.{scope_texts}
 use Rattle.vc_model_laws.proofs.LineCases.{char_made, at_characteristic}
 use Rattle.vc_model_laws.proofs.LineForms.{each, is_formed}
 use Rattle.vc_model_laws.proofs.ListingLaws.{text_add}
-use Rattle.vc_model_laws.proofs.ListsLaws.{Stood, under_stays, said_passes, text_there}
+use Rattle.vc_model_laws.proofs.DifferentLaws.{said_passes, text_there}
+use Rattle.vc_model_laws.proofs.OrderLaws.{Stood, under_stays}
 use Rattle.vc_model_laws.proofs.MadeLaws.{texts_made}
 use Rattle.vc_model_laws.proofs.NameCases.{by_text}
 use Rattle.vc_model_laws.proofs.NameLemmas.{has_number}
