@@ -9,6 +9,7 @@ use Rattle.std.specs.Str.{is_utf8}
 use Rattle.std.proofs.lemmas.Bool.{and_from}
 use Rattle.std.proofs.lemmas.Bool.Decides.{nat_tests}
 use Rattle.std.specs.Cmp.Lexicographic.{bytes_decides}
+use Rattle.std.proofs.lemmas.Str.{is_utf8-from_IsUtf8}
 use Rattle.vc_value.specs.Decimals.{are_digits, number_of}
 use Rattle.vc_value.specs.Words.{same_ignoring_case}
 use Rattle.vc_syntax_tokens.specs.declared.fault.Kind.{Kind}
@@ -48,6 +49,7 @@ abbrev pub is_formed : Line → Bool
 is_formed (lines.Head head) = is_upper head.name && each (is_between 1 999999) head.version
 is_formed (lines.Char char) = is_upper char.name && each (is_between 1 30) char.length
 is_formed (lines.Num num) = is_upper num.name && (each (is_between 0 6) num.decimals && each is_upper num.unit)
+is_formed (lines.Inner text) = is_utf8 text
 is_formed (lines.Text text) = is_utf8 text
 is_formed (lines.Uses name) = is_upper name
 is_formed (lines.Class name) = is_upper name
@@ -309,14 +311,15 @@ counted_is raw text h =
     (formed_either (is_long raw) (lines.TooLong (keyword_of (first_word text))) rest refl
     (keyed_is (trimmed raw) (keyword_of (first_word text)) (trimmed_is raw h)))
 
-inside_is : (raw : List ℕ) → is_formed (inside_block raw) ≡ true
-inside_is raw =
+inside_is : (raw : List ℕ) → IsUtf8 raw → is_formed (inside_block raw) ≡ true
+inside_is raw h =
     let ends = same_ignoring_case (codes "END") (trimmed raw) in
     formed_either (is_long raw) lines.LongInner (if ends then lines.End else lines.Inner (trimmed raw)) refl
-    (formed_either ends lines.End (lines.Inner (trimmed raw)) refl refl)
+    (formed_either ends lines.End (lines.Inner (trimmed raw)) refl
+    (is_utf8-from_IsUtf8 (trimmed raw) (trimmed_is raw h)))
 
 line_is : (inside : Bool) (raw : List ℕ) → IsUtf8 raw → is_formed (line_of inside raw) ≡ true
-line_is true raw h = inside_is raw
+line_is true raw h = inside_is raw h
 line_is false raw h = counted_is raw (without_spaces_before raw) h
 
 lines_are : (inside : Bool) (raws : List (List ℕ)) → EachText raws → list_all is_formed (lines_from inside raws) ≡ true

@@ -51,7 +51,7 @@ use Rattle.vc_model_laws.proofs.Walks.{Passes, Sound, Stands, said, all_keep, un
 byte_begins : (b : ℕ) → plan.begins_character b ≡ words.begins_character b
 byte_begins b = grind (arith, nat_tests)
 
-counted : (text : List ℕ) → length (filter plan.begins_character text) ≡ character_count text
+pub counted : (text : List ℕ) → length (filter plan.begins_character text) ≡ character_count text
 counted text = is_count_by (λ bytes. length (filter plan.begins_character bytes)) words.begins_character refl step text
   where
     step : (b : ℕ) (bytes : List ℕ) → length (filter plan.begins_character (b ∷ bytes))
@@ -66,7 +66,7 @@ counted text = is_count_by (λ bytes. length (filter plan.begins_character bytes
         by true = omega arith
         by false = refl
 
-some_byte : (text : List ℕ) → 0 < length (filter plan.begins_character text) → 0 < length text
+pub some_byte : (text : List ℕ) → 0 < length (filter plan.begins_character text) → 0 < length text
 some_byte [] h = h
 some_byte (b ∷ text) h = omega arith
 

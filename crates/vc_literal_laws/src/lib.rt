@@ -1,0 +1,4 @@
+//! Laws of the texts that stand in dependencies. Definitions and laws alone.
+#![tactic(auto)]
+
+pub mod laws;
