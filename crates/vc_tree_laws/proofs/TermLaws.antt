@@ -15,12 +15,12 @@ use Rattle.vc_syntax_terms.specs.declared.tree.Operand.TheVariants as operands
 use Rattle.vc_syntax_terms.specs.declared.tree.Operator.{Operator}
 use Rattle.vc_syntax_terms.specs.Trees as trees
 use Rattle.vc_syntax_terms.specs.Reading.{Reader, then, made, closed, grouped}
-use Rattle.vc_literal_laws.specs.Literals.{is_literal}
-use Rattle.vc_literal_laws.proofs.TokenLaws.{is_good, Good}
-use Rattle.vc_literal_laws.proofs.ReadingLemmas.{Keeps, Leaves, Reads, Anything, Texts, texts_append}
-use Rattle.vc_literal_laws.proofs.ReadingLemmas.{then_rest, then_leaves, then_any, either_rest, made_keeps}
-use Rattle.vc_literal_laws.proofs.ReadingLemmas.{put_keeps, leaf_keeps, rest_good, first_good, some_if, sign_leaves}
-use Rattle.vc_literal_laws.proofs.ReadingLemmas.{closed_keeps, grouped_reads, chain_reads}
+use Rattle.vc_tree_laws.specs.Literals.{is_literal}
+use Rattle.vc_tree_laws.proofs.TokenLaws.{is_good, Good}
+use Rattle.vc_tree_laws.proofs.ReadingLemmas.{Keeps, Leaves, Reads, Anything, Texts, texts_append}
+use Rattle.vc_tree_laws.proofs.ReadingLemmas.{then_rest, then_leaves, then_any, either_rest, made_keeps}
+use Rattle.vc_tree_laws.proofs.ReadingLemmas.{put_keeps, leaf_keeps, rest_good, first_good, some_if, sign_leaves}
+use Rattle.vc_tree_laws.proofs.ReadingLemmas.{closed_keeps, grouped_reads, chain_reads}
 use Rattle.vc_syntax_terms.specs.Leaves.{name_of, any_name_of, any_named, variable_of, text_in, text_of, number_of}
 use Rattle.vc_syntax_terms.specs.Leaves.{is_self, after_sign, after_self, named}
 use Rattle.vc_syntax_terms.specs.Trees.{Term}

@@ -1,4 +1,5 @@
 -- The texts among the tokens of a text of UTF-8 are texts.
+use Rattle.std.proofs.Common.{◌≤◌}
 use Rattle.std.proofs.Common.{◌≡◌, ℕ, zero, suc, ◌+◌, ◌<◌, Bool, true, false, nat_lt, nat_le}
 use Rattle.std.proofs.Common.{List, [], ◌∷◌, ◌++◌}
 use Rattle.std.proofs.Common.{length, take, Option, Some, None, Result, Ok, Err, IsUtf8, if◌then◌else◌}
@@ -38,15 +39,19 @@ use Rattle.vc_syntax_tokens.specs.Tokens.{tokens_of}
 use Rattle.vc_plan.specs.Spelling.{begins_character, is_text}
 use Rattle.vc_model_laws.proofs.TextsLaws.{counted, some_byte}
 use Rattle.vc_model_laws.proofs.Utf8Lemmas.{cut_front, cut_back}
-use Rattle.vc_literal_laws.specs.Literals.{is_literal}
+use Rattle.vc_tree_laws.specs.Literals.{is_literal}
 
 -- whether a lexeme is no text, or a good one
 abbrev pub is_good : Lexeme → Bool
 is_good (lexemes.Text text) = is_literal text
 is_good lexeme = true
 
+abbrev pub AllGood : List Token → Type 0
+AllGood ts = list_all (λ t. is_good t.lexeme) ts ≡ true
+
+-- and no more tokens than a dependency may have
 abbrev pub Good : List Token → Type 0
-Good ts = list_all (λ t. is_good t.lexeme) ts ≡ true
+Good ts = AllGood ts × (length ts ≤ 4000)
 
 -- what stands before the quote that closes a text
 abbrev Quoted : List ℕ → Option (List ℕ) → Type 0
@@ -199,7 +204,7 @@ IsGoodToken (Ok token) = is_good token.lexeme ≡ true
 IsGoodToken (Err fault) = Unit {0}
 
 abbrev pub AreGood : Result (List Token) SyntaxFault → Type 0
-AreGood (Ok ts) = Good ts
+AreGood (Ok ts) = AllGood ts
 AreGood (Err fault) = Unit {0}
 
 token_good : (start : ℕ) (r : Result Lexed SyntaxKind) → Lexes r → IsGoodToken (token_of start r)

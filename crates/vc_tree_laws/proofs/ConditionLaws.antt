@@ -11,16 +11,16 @@ use Rattle.vc_syntax_tokens.specs.declared.token.Token.{Token}
 use Rattle.vc_syntax_terms.specs.Trees as trees
 use Rattle.vc_syntax_terms.specs.Reading.{Reader, then, either, made, leaving_as, closed, grouped}
 use Rattle.vc_syntax_terms.specs.Reading.{listed, word}
-use Rattle.vc_literal_laws.specs.Literals.{is_literal}
-use Rattle.vc_literal_laws.proofs.TokenLaws.{Good}
-use Rattle.vc_literal_laws.proofs.ReadingLemmas.{Keeps, Reads, Anything, Texts, texts_append, more_texts}
-use Rattle.vc_literal_laws.proofs.ReadingLemmas.{one_text}
-use Rattle.vc_literal_laws.proofs.ReadingLemmas.{then_keeps, then_rest, either_rest, made_keeps}
-use Rattle.vc_literal_laws.proofs.ReadingLemmas.{or_keeps}
-use Rattle.vc_literal_laws.proofs.ReadingLemmas.{put_keeps, leaf_keeps, rest_good, first_good, sign_leaves}
-use Rattle.vc_literal_laws.proofs.ReadingLemmas.{word_leaves}
-use Rattle.vc_literal_laws.proofs.ReadingLemmas.{word_reads, closed_keeps, grouped_reads, chain_reads}
-use Rattle.vc_literal_laws.proofs.ReadingLemmas.{listed_reads}
+use Rattle.vc_tree_laws.specs.Literals.{is_literal}
+use Rattle.vc_tree_laws.proofs.TokenLaws.{Good}
+use Rattle.vc_tree_laws.proofs.ReadingLemmas.{Keeps, Reads, Anything, Texts, texts_append, more_texts}
+use Rattle.vc_tree_laws.proofs.ReadingLemmas.{one_text}
+use Rattle.vc_tree_laws.proofs.ReadingLemmas.{then_keeps, then_rest, either_rest, made_keeps}
+use Rattle.vc_tree_laws.proofs.ReadingLemmas.{or_keeps}
+use Rattle.vc_tree_laws.proofs.ReadingLemmas.{put_keeps, leaf_keeps, rest_good, first_good, sign_leaves}
+use Rattle.vc_tree_laws.proofs.ReadingLemmas.{word_leaves}
+use Rattle.vc_tree_laws.proofs.ReadingLemmas.{word_reads, closed_keeps, grouped_reads, chain_reads}
+use Rattle.vc_tree_laws.proofs.ReadingLemmas.{listed_reads}
 use Rattle.vc_syntax_terms.specs.declared.tree.Item.{Item}
 use Rattle.vc_syntax_terms.specs.declared.tree.Item.TheVariants as items
 use Rattle.vc_syntax_terms.specs.Leaves.{variable_of, text_of, number_of, after_sign, after_word}
@@ -32,7 +32,7 @@ use Rattle.vc_syntax_terms.specs.ConditionReading.{comparison, within, relation,
 use Rattle.vc_syntax_terms.specs.ConditionReading.{plain_condition, negation_in, negation_by}
 use Rattle.vc_syntax_terms.specs.ConditionReading.{both, any, conjunction_by, condition_by, negation, condition}
 use Rattle.vc_compile_plan.specs.Texts.{texts_in_term, texts_in_item, texts_in_relation, texts_in_condition}
-use Rattle.vc_literal_laws.proofs.TermLaws.{GoodTerm, text_good, operand_reads, sum_reads}
+use Rattle.vc_tree_laws.proofs.TermLaws.{GoodTerm, text_good, operand_reads, sum_reads}
 
 relator_reads : Reads Anything relator
 relator_reads [] h = tt

@@ -13,15 +13,15 @@ use Rattle.vc_syntax_terms.specs.declared.tree.NameLeaf.{NameLeaf}
 use Rattle.vc_syntax_terms.specs.Trees as trees
 use Rattle.vc_syntax_terms.specs.Reading.{Reader, then, or_else, made, leaving_as, closed, grouped}
 use Rattle.vc_syntax_terms.specs.Reading.{listed}
-use Rattle.vc_literal_laws.specs.Literals.{is_literal}
-use Rattle.vc_literal_laws.proofs.TokenLaws.{Good}
-use Rattle.vc_literal_laws.proofs.ReadingLemmas.{Keeps, Leaves, Reads, Anything, Texts, texts_append, more_texts}
-use Rattle.vc_literal_laws.proofs.ReadingLemmas.{one_text}
-use Rattle.vc_literal_laws.proofs.ReadingLemmas.{then_keeps, then_rest, then_leaves, either_rest, made_keeps}
-use Rattle.vc_literal_laws.proofs.ReadingLemmas.{put_keeps, rest_good, some_if, sign_leaves}
-use Rattle.vc_literal_laws.proofs.ReadingLemmas.{word_leaves}
-use Rattle.vc_literal_laws.proofs.ReadingLemmas.{closed_keeps, grouped_reads}
-use Rattle.vc_literal_laws.proofs.ReadingLemmas.{listed_reads}
+use Rattle.vc_tree_laws.specs.Literals.{is_literal}
+use Rattle.vc_tree_laws.proofs.TokenLaws.{Good}
+use Rattle.vc_tree_laws.proofs.ReadingLemmas.{Keeps, Leaves, Reads, Anything, Texts, texts_append, more_texts}
+use Rattle.vc_tree_laws.proofs.ReadingLemmas.{one_text}
+use Rattle.vc_tree_laws.proofs.ReadingLemmas.{then_keeps, then_rest, then_leaves, either_rest, made_keeps}
+use Rattle.vc_tree_laws.proofs.ReadingLemmas.{put_keeps, rest_good, some_if, sign_leaves}
+use Rattle.vc_tree_laws.proofs.ReadingLemmas.{word_leaves}
+use Rattle.vc_tree_laws.proofs.ReadingLemmas.{closed_keeps, grouped_reads}
+use Rattle.vc_tree_laws.proofs.ReadingLemmas.{listed_reads}
 use Rattle.vc_syntax_terms.specs.declared.tree.ObjectKind.TheVariants as kinds
 use Rattle.vc_syntax_terms.specs.Leaves.{after_sign, after_word, named, any_named}
 use Rattle.vc_syntax_terms.specs.Trees.{Term, Relation, Condition, Binding, TableCall, Action, Statement, Demand}
@@ -40,10 +40,10 @@ use Rattle.vc_syntax.specs.ConstraintReading.{constraint}
 use Rattle.vc_types.specs.Occurrences.{if_there}
 use Rattle.vc_compile_plan.specs.Texts.{texts_in_term, texts_in_condition, texts_in_call}
 use Rattle.vc_compile_plan.specs.Texts.{texts_in_action, texts_in_statement, texts_in_demand, texts_in_restriction}
-use Rattle.vc_literal_laws.proofs.TermLaws.{GoodTerm, named_reads, any_named_reads, dotted_reads, operand_reads}
-use Rattle.vc_literal_laws.proofs.TermLaws.{self_and_name_reads, sum_reads}
-use Rattle.vc_literal_laws.proofs.ConditionLaws.{GoodRelation, GoodCondition, text_reads, variable_reads}
-use Rattle.vc_literal_laws.proofs.ConditionLaws.{relation_reads, condition_reads}
+use Rattle.vc_tree_laws.proofs.TermLaws.{GoodTerm, named_reads, any_named_reads, dotted_reads, operand_reads}
+use Rattle.vc_tree_laws.proofs.TermLaws.{self_and_name_reads, sum_reads}
+use Rattle.vc_tree_laws.proofs.ConditionLaws.{GoodRelation, GoodCondition, text_reads, variable_reads}
+use Rattle.vc_tree_laws.proofs.ConditionLaws.{relation_reads, condition_reads}
 
 -- calls of tables
 abbrev GoodBinding : Binding → Type 0

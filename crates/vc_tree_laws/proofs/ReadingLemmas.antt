@@ -1,7 +1,7 @@
 -- What readers keep: what they read has a property, and the tokens after it are still good.
-use Rattle.std.proofs.Common.{◌≡◌, ℕ, zero, suc, Bool, true, false, List, [], ◌∷◌, ◌++◌, length, Option, Some}
+use Rattle.std.proofs.Common.{◌≡◌, ℕ, zero, suc, ◌+◌, ◌≤◌, Bool, true, false, List, [], ◌∷◌, ◌++◌, length, Option, Some}
 use Rattle.std.proofs.Common.{None}
-use Rattle.std.proofs.Common.{cond, refl, sym, ◌∙◌}
+use Rattle.std.proofs.Common.{cond, refl, sym, ◌∙◌, length-append, arith}
 use Rattle.std.specs.Prelude.{flat_map, option_map}
 use Rattle.std.specs.List.{list_all}
 use Rattle.std.proofs.lemmas.Bool.{and_parts, and_from}
@@ -14,8 +14,8 @@ use Rattle.vc_syntax_terms.specs.Leaves.{is_sign, is_word, after_sign, after_wor
 use Rattle.vc_syntax_terms.specs.Reading.{Reader, then, either, or_else, made, closed, grouped}
 use Rattle.vc_syntax_terms.specs.Reading.{more_in, chained, chain}
 use Rattle.vc_syntax_terms.specs.Reading.{sign, word, append, single, listed}
-use Rattle.vc_literal_laws.specs.Literals.{is_literal}
-use Rattle.vc_literal_laws.proofs.TokenLaws.{is_good, Good}
+use Rattle.vc_tree_laws.specs.Literals.{is_literal}
+use Rattle.vc_tree_laws.proofs.TokenLaws.{is_good, Good}
 
 -- what was read, with the tokens after it; and tokens alone
 abbrev pub Keeps : {A : Type 0} → (A → Type 0) → Option (A × List Token) → Type 0
@@ -104,10 +104,13 @@ leaf_keeps P make (Some x) ts h g = (h x refl, g)
 
 -- signs and words
 pub rest_good : (t : Token) (ts : List Token) → Good (t ∷ ts) → Good ts
-rest_good t ts h = (and_parts (is_good t.lexeme) (list_all (λ t. is_good t.lexeme) ts) h).1
+rest_good t ts h = ((and_parts (is_good t.lexeme) (list_all (λ t. is_good t.lexeme) ts) h.0).1, less (length ts) h.1)
+  where
+    less : (n : ℕ) → suc n ≤ 4000 → n ≤ 4000
+    less n h = omega (arith, h)
 
 pub first_good : (t : Token) (ts : List Token) → Good (t ∷ ts) → is_good t.lexeme ≡ true
-first_good t ts h = (and_parts (is_good t.lexeme) (list_all (λ t. is_good t.lexeme) ts) h).0
+first_good t ts h = (and_parts (is_good t.lexeme) (list_all (λ t. is_good t.lexeme) ts) h.0).0
 
 pub some_if : (b : Bool) (ts : List Token) → Good ts → Leaves (cond b (Some ts) None)
 some_if true ts h = h
@@ -172,3 +175,53 @@ listed_reads P L separator read reads one joins =
     chain_reads L (sign separator) append (single read) (sign_reads separator)
     (λ ts h. made_keeps P L (λ x. x ∷ []) (read ts) (reads ts h) one)
     (λ u xs ys p q. joins xs ys p q)
+
+-- no more things are listed than steps are taken
+abbrev pub Counts : {A : Type 0} → ℕ → Option (List A × List Token) → Type 0
+Counts n None = Unit {0}
+Counts n (Some found) = length found.0 ≤ n
+
+few_more : {A : Type 0} (separator : Sign) (read : Reader A) (n : ℕ) (left : List A) (ts : List Token)
+    → Counts (length left + n) (more_in (sign separator) append (single read) n left ts)
+few_more separator read zero left ts = omega arith
+few_more {A = A} separator read (suc n) left ts =
+    by (sign separator ts) (λ x rest. few_more separator read n (left ++ x ∷ []) rest)
+  where
+    longer : (x : A) (o : Option (List A × List Token)) → Counts (length (left ++ x ∷ []) + n) o
+        → Counts (length left + suc n) o
+    longer x None c = tt
+    longer x (Some found) c = omega (arith, c, length-append left (x ∷ []))
+
+    step : (o : Option (A × List Token)) → ((x : A) (rest : List Token)
+        → Counts (length (left ++ x ∷ []) + n) (more_in (sign separator) append (single read) n (left ++ x ∷ []) rest))
+        → Counts (length left + suc n) (then (made (λ x. x ∷ []) o)
+        (λ right. more_in (sign separator) append (single read) n (left ++ right.0) right.1))
+    step None on = tt
+    step (Some found) on =
+        longer found.0 (more_in (sign separator) append (single read) n (left ++ found.0 ∷ []) found.1)
+        (on found.0 found.1)
+
+    by : (o : Option (Unit {0} × List Token)) → ((x : A) (rest : List Token)
+        → Counts (length (left ++ x ∷ []) + n) (more_in (sign separator) append (single read) n (left ++ x ∷ []) rest))
+        → Counts (length left + suc n) (either o (Some (left, ts)) (λ found. then (single read found.1)
+        (λ right. more_in (sign separator) append (single read) n (append found.0 left right.0) right.1)))
+    by None on = omega arith
+    by (Some found) on = step (read found.1) on
+
+-- nor than there are tokens, with one more
+pub listed_few : {A : Type 0} (P : A → Type 0) (separator : Sign) (read : Reader A) → Reads P read → (ts : List Token)
+    → Good ts
+    → Counts 4001 (listed separator read ts)
+listed_few {A = A} P separator read reads ts h = by (read ts) (reads ts h)
+  where
+    by : (o : Option (A × List Token)) → Keeps P o
+        → Counts 4001 (then (made (λ x. x ∷ []) o)
+        (λ found. more_in (sign separator) append (single read) (length found.1) found.0 found.1))
+    by None k = tt
+    by (Some found) k =
+        few (more_in (sign separator) append (single read) (length found.1) (found.0 ∷ []) found.1)
+        (few_more separator read (length found.1) (found.0 ∷ []) found.1)
+      where
+        few : (o : Option (List A × List Token)) → Counts (1 + length found.1) o → Counts 4001 o
+        few None c = tt
+        few (Some got) c = let most = k.1.1 in omega (arith, c, most)

@@ -1,4 +1,0 @@
-//! Laws of the texts that stand in dependencies. Definitions and laws alone.
-#![tactic(auto)]
-
-pub mod laws;
