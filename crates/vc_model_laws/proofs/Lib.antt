@@ -3,6 +3,7 @@ pub mod DifferentLaws
 pub mod FirstValueLaws
 pub mod HeadersLaws
 pub mod IndicesLaws
+pub mod KeysLaws
 pub mod KindsLaws
 pub mod LimitsLaws
 pub mod LineCases

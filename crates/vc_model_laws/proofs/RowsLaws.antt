@@ -39,6 +39,7 @@ use Rattle.vc_model_laws.specs.Headers.{text_numbers, KeepsHeaders}
 use Rattle.vc_model_laws.specs.Indices.{KeepsIndices}
 use Rattle.vc_model_laws.specs.Rows.{are_cells, has_key_of, list_at, KeepsRows}
 use Rattle.vc_model_laws.proofs.HeadersLaws.{there}
+use Rattle.vc_model_laws.proofs.KeysLaws.{header_keys, planned_apart}
 use Rattle.vc_model_laws.proofs.TextsLaws.{passes_at}
 
 -- the number of a text is one of the entries'
@@ -314,4 +315,7 @@ keeps_rows model t table records rows indices headers at h =
       cells = from_each (λ row. are_cells model table.columns row.cells) rows kept.0.good;
       few = le-leb (length rows) 10_000 kept.1;
       keys = kept.0.apart;
+      planned_keys =
+          planned_apart model table columns rows (header_keys model.texts model.characteristics table.columns inside)
+          (from_each (λ row. are_cells model table.columns row.cells) rows kept.0.good) kept.0.apart;
     }

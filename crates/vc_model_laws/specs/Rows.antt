@@ -1,5 +1,5 @@
 -- What the rows of a model's tables keep, where a table's text is read with the model's header.
-use Rattle.std.specs.Prelude.{◌≡◌, ℕ, Bool, true, false, not, ◌&&◌, ◌||◌, nat_le, List, [], ◌∷◌, length, slice_get}
+use Rattle.std.specs.Prelude.{◌≡◌, ℕ, Bool, true, false, not, ◌&&◌, ◌||◌, nat_le, List, [], ◌∷◌, length, map, slice_get}
 use Rattle.std.specs.Prelude.{Option, None, Some, Ok}
 use Rattle.std.specs.List.{list_all}
 use Rattle.std.specs.Cmp.Lexicographic.{pointwise}
@@ -16,6 +16,8 @@ use Rattle.vc_model_parts.specs.declared.parts.Table.{Table}
 use Rattle.vc_model_parts.specs.declared.parts.TableColumn.{TableColumn}
 use Rattle.vc_model_drafts.specs.Seen.{SeenModel}
 use Rattle.vc_plan.specs.Lists.{is_listed}
+use Rattle.vc_plan.specs.LookUps.{keys_apart}
+use Rattle.vc_plan.specs.declared.plans.Table as plans
 use Rattle.vc_plan.specs.Orders.{are_apart}
 use Rattle.vc_model_laws.specs.Headers.{whole_domain}
 
@@ -36,11 +38,20 @@ are_cells model (column ∷ columns) (value ∷ cells) =
 abbrev pub has_key_of : List Column → Row → Row → Bool
 has_key_of columns earlier row = pointwise same_value (key_of columns row.cells) (key_of columns earlier.cells)
 
+-- a table with its rows, as a plan has it
+abbrev pub planned : Table → List Row → plans.Table
+planned table rows = record {
+  name = table.name;
+  columns = map (λ column. record { characteristic = column.characteristic; key = column.key }) table.columns;
+  rows = map (λ row. row.cells) rows;
+}
+
 -- the rows of a table, read with the columns of its header
 pub record KeepsRows (model : SeenModel) (table : Table) (columns : List Column) (rows : List Row) : Type 0 where
   pub cells : list_all (λ row. are_cells model table.columns row.cells) rows ≡ true
   pub few : nat_le (length rows) 10_000 ≡ true
   pub keys : (not (has_keys columns) || are_apart (has_key_of columns) rows) ≡ true
+  pub planned_keys : keys_apart (planned table rows) ≡ true
 
 -- whatever is read as a table of a model that some text spells
 abbrev pub ReadRowsAreKept : Type 0
