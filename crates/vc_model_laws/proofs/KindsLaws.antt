@@ -431,7 +431,7 @@ among_at (first ∷ names) zero name e =
 among_at (first ∷ names) (suc k) name e =
     or_right (same_bytes name first) (is_among names name) (among_at names k name e)
 
-not_placed : (names : List (List ℕ)) (name : List ℕ) → is_among names name ≡ false → place_of names name ≡ None
+pub not_placed : (names : List (List ℕ)) (name : List ℕ) → is_among names name ≡ false → place_of names name ≡ None
 not_placed names name none = by (place_of names name) refl
   where
     by : (o : Option ℕ) → place_of names name ≡ o → o ≡ None

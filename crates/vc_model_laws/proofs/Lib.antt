@@ -1,3 +1,4 @@
+pub mod ComponentsLaws
 pub mod DeclaringLaws
 pub mod DifferentLaws
 pub mod FirstValueLaws

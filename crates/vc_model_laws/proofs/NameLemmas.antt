@@ -70,7 +70,8 @@ pub put_last : (names : List (List ℕ)) (name : List ℕ) → is_among names na
 put_last names name new = ap (λ b. if b then names else names ++ name ∷ []) new
 
 -- things are apart where what they are known by is
-any_map : {X K : Type 0} (f : X → K) (p : K → Bool) (xs : List X) → list_any (λ x. p (f x)) xs ≡ list_any p (map f xs)
+pub any_map : {X K : Type 0} (f : X → K) (p : K → Bool) (xs : List X)
+    → list_any (λ x. p (f x)) xs ≡ list_any p (map f xs)
 any_map f p [] = refl
 any_map f p (x ∷ xs) = ap (λ b. p (f x) || b) (any_map f p xs)
 
@@ -109,7 +110,7 @@ pub one_and : (n : ℕ) → 1 + n ≡ suc n
 one_and n = omega arith
 
 -- where it is there, the name stands at its number
-found_at : (names : List (List ℕ)) (name : List ℕ) → is_among names name ≡ true
+pub found_at : (names : List (List ℕ)) (name : List ℕ) → is_among names name ≡ true
     → (position_or_len (same_bytes name) names < length names)
     × (slice_get names (position_or_len (same_bytes name) names) ≡ Some name)
 found_at [] name there = absurd (cc)

@@ -4,6 +4,7 @@ use Rattle.vc_model_lines.specs.Classified.{lines_of}
 use Rattle.vc_model_lines.specs.declared.line.Line.{Line}
 use Rattle.vc_model_drafts.specs.Models.{model_of}
 use Rattle.vc_model_drafts.specs.Seen.{SeenModel}
+use Rattle.vc_model_laws.specs.Components.{KeepsComponents}
 use Rattle.vc_model_laws.specs.Headers.{KeepsHeaders}
 use Rattle.vc_model_laws.specs.Indices.{KeepsIndices}
 use Rattle.vc_model_laws.specs.Kinds.{KeepsKinds}
@@ -13,6 +14,7 @@ use Rattle.vc_model_laws.specs.Lists.{KeepsLists}
 use Rattle.vc_model_laws.specs.Names.{KeepsNames}
 use Rattle.vc_model_laws.specs.Rows.{ReadRowsAreKept}
 use Rattle.vc_model_laws.specs.Texts.{KeepsTexts}
+use Rattle.vc_model_laws.proofs.ComponentsLaws.{keeps_components}
 use Rattle.vc_model_laws.proofs.HeadersLaws.{keeps_headers}
 use Rattle.vc_model_laws.proofs.IndicesLaws.{keeps_indices}
 use Rattle.vc_model_laws.proofs.KindsLaws.{keeps_kinds}
@@ -56,3 +58,6 @@ pub read_rows_are_kept : ReadRowsAreKept
 read_rows_are_kept text model t table records rows spells at h =
     keeps_rows model t table records rows (spelled_keeps_indices text model spells)
     (spelled_keeps_headers text model spells) at h
+
+pub spelled_keeps_components : SpelledKeeps KeepsComponents
+spelled_keeps_components = spelled KeepsComponents keeps_components

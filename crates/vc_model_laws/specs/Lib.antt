@@ -1,3 +1,4 @@
+pub mod Components
 pub mod Headers
 pub mod Indices
 pub mod Kinds

@@ -1,5 +1,6 @@
 //! Laws of the models that texts spell, each the contract of a function that does nothing.
 
+ghost use Rattle.vc_model_laws.specs.Components.{KeepsComponents};
 ghost use Rattle.vc_model_laws.specs.Headers.{KeepsHeaders};
 ghost use Rattle.vc_model_laws.specs.Indices.{KeepsIndices};
 ghost use Rattle.vc_model_laws.specs.Kinds.{KeepsKinds};
@@ -39,6 +40,12 @@ pub fn spelled_models_keep_texts()
 /// What is used at a place is of a kind that may be used there.
 pub fn spelled_models_keep_kinds()
     ensures { SpelledKeeps KeepsKinds }
+{}
+
+/// A plain component is the material of no object, and an object that a line of a bill has is the bill's own or stands
+/// above it.
+pub fn spelled_models_keep_components()
+    ensures { SpelledKeeps KeepsComponents }
 {}
 
 /// The headers of its tables leave nothing out of it.
