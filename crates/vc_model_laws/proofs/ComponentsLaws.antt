@@ -28,7 +28,7 @@ use Rattle.vc_model_laws.proofs.DeclaringLaws.{object_add, objects_are}
 use Rattle.vc_model_laws.proofs.IndicesLaws.{among_with, own_name, scope_objects}
 use Rattle.vc_model_laws.proofs.KindsLaws.{not_placed}
 use Rattle.vc_model_laws.proofs.LineCases.{object_made, at_item, at_object}
-use Rattle.vc_model_laws.proofs.LineForms.{each}
+use Rattle.vc_model_laws.proofs.Holding.{each}
 use Rattle.vc_model_laws.proofs.MarkedLaws.{among_cases}
 use Rattle.vc_model_laws.proofs.NameCases.{by_object}
 use Rattle.vc_model_laws.proofs.NameLemmas.{has_number, found_at, any_map}

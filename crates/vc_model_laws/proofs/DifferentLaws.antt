@@ -23,7 +23,7 @@ use Rattle.vc_plan.specs.Orders.{are_apart}
 use Rattle.vc_model_laws.specs.Lists.{are_different}
 use Rattle.vc_model_laws.proofs.IndicesLaws.{among_later, among_all, own_name, known_has, known_column}
 use Rattle.vc_model_laws.proofs.IndicesLaws.{scope_characteristics, scope_texts}
-use Rattle.vc_model_laws.proofs.LineForms.{each}
+use Rattle.vc_model_laws.proofs.Holding.{each}
 use Rattle.vc_model_laws.proofs.ListingLaws.{use_add}
 use Rattle.vc_model_laws.proofs.NameLemmas.{one_and, has_number, listed_apart}
 use Rattle.vc_model_laws.proofs.Walks.{Passes, Sound, Stands, said, until_keeps}

@@ -30,7 +30,7 @@ use Rattle.vc_model_laws.proofs.DeclaringLaws.{dependencies_are}
 use Rattle.vc_model_laws.proofs.LineCases.{number_with, at_characteristic, at_class, at_table, at_net, at_object}
 use Rattle.vc_model_laws.proofs.LineCases.{at_item, at_operation, at_text, at_number, at_member, at_column, at_use}
 use Rattle.vc_model_laws.proofs.LineCases.{at_net_use}
-use Rattle.vc_model_laws.proofs.LineForms.{each, each_map}
+use Rattle.vc_model_laws.proofs.Holding.{each, each_map}
 use Rattle.vc_model_laws.proofs.NameLemmas.{among_front, number_inside, has_number}
 use Rattle.vc_model_laws.proofs.NamesLaws.{made, root_above}
 use Rattle.vc_model_laws.proofs.Walks.{Sound, Stands, each_said}

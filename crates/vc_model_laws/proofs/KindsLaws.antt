@@ -60,7 +60,8 @@ use Rattle.vc_model_laws.proofs.IndicesLaws.{among_later, among_all, own_name, k
 use Rattle.vc_model_laws.proofs.IndicesLaws.{scope_dependencies}
 use Rattle.vc_model_laws.proofs.LineCases.{number_with, dependency_made, at_characteristic, at_table, at_net, at_object}
 use Rattle.vc_model_laws.proofs.LineCases.{at_item, at_operation, at_text, at_number, at_column, at_use}
-use Rattle.vc_model_laws.proofs.LineForms.{each, each_map, is_formed, is_block_kind}
+use Rattle.vc_model_laws.proofs.Holding.{each, each_map}
+use Rattle.vc_model_laws.proofs.LineForms.{is_formed, is_block_kind}
 use Rattle.vc_model_laws.proofs.DifferentLaws.{here_at}
 use Rattle.vc_model_laws.proofs.MarkedLaws.{among_cases, Marks, line_unmarked, thing_at, unmarked_all}
 use Rattle.vc_model_laws.proofs.NameLemmas.{HasNumber, has_number}

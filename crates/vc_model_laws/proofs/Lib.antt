@@ -3,6 +3,7 @@ pub mod DeclaringLaws
 pub mod DifferentLaws
 pub mod FirstValueLaws
 pub mod HeadersLaws
+pub mod Holding
 pub mod IndicesLaws
 pub mod KeysLaws
 pub mod KindsLaws
@@ -16,6 +17,8 @@ pub mod MarkedLaws
 pub mod NameCases
 pub mod NameLemmas
 pub mod NamesLaws
+pub mod NumberLemmas
+pub mod NumbersLaws
 pub mod OrderLaws
 pub mod RowsLaws
 pub mod SpelledLaws

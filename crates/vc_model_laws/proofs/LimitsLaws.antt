@@ -34,7 +34,8 @@ use Rattle.vc_model_laws.proofs.DeclaringLaws.{dependencies_are}
 use Rattle.vc_model_laws.proofs.LineCases.{number_with, char_made, num_made, item_made, operation_made}
 use Rattle.vc_model_laws.proofs.LineCases.{at_characteristic, at_class, at_table, at_net, at_object, at_item}
 use Rattle.vc_model_laws.proofs.LineCases.{at_operation, at_text, at_number}
-use Rattle.vc_model_laws.proofs.LineForms.{each, each_map, is_formed}
+use Rattle.vc_model_laws.proofs.Holding.{each, each_map}
+use Rattle.vc_model_laws.proofs.LineForms.{is_formed}
 use Rattle.vc_model_laws.proofs.ListingLaws.{texts_few, entrys_few, members_few, columns_few, items_few, operations_few}
 use Rattle.vc_model_laws.proofs.ListingLaws.{uses_few, characteristics_few, classes_few, tables_few, objects_few}
 use Rattle.vc_model_laws.proofs.ListingLaws.{nets_few, dependencies_few, same_length, until_fewer, use_fewer}

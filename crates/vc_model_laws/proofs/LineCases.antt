@@ -30,7 +30,7 @@ use Rattle.vc_model_drafts.specs.Models.{text_at, number_at, member_at, column_a
 use Rattle.vc_model_drafts.specs.Models.{characteristic_at, class_at, table_at, dependency_at, net_at, object_at}
 use Rattle.vc_model_drafts.specs.Seen.{SeenDependency, SeenItem, SeenOperation, SeenObject}
 use Rattle.vc_syntax_terms.specs.Trees.{Dependency, Term}
-use Rattle.vc_model_laws.proofs.LineForms.{each, each_map}
+use Rattle.vc_model_laws.proofs.Holding.{each, each_map}
 use Rattle.vc_model_laws.proofs.Walks.{Stands}
 
 -- what lines make

@@ -28,17 +28,10 @@ use Rattle.vc_model_lines.specs.LineWords.{upper, words, after_words, has_word, 
 use Rattle.vc_model_lines.specs.LineWords.{first_word}
 use Rattle.vc_model_lines.specs.Quoted.{begins_with_quote, quoted_text}
 use Rattle.vc_plan.specs.Spelling.{is_upper}
+use Rattle.vc_model_laws.specs.Numbers.{is_small}
+use Rattle.vc_model_laws.proofs.Holding.{each, each_map}
+use Rattle.vc_model_laws.proofs.NumberLemmas.{read_small}
 use Rattle.vc_model_laws.proofs.Utf8Lemmas.{each_utf8, EachText, after_words_is, lines_texts, quoted_is, trimmed_is}
-
--- whether what is there passes a test
-abbrev pub each : {X : Type 0} → (X → Bool) → Option X → Bool
-each test None = true
-each test (Some x) = test x
-
-pub each_map : {X Y : Type 0} (test : Y → Bool) (f : X → Y) (o : Option X) → ((x : X) → test (f x) ≡ true)
-    → each test (option_map f o) ≡ true
-each_map test f None h = refl
-each_map test f (Some x) h = h x
 
 -- no block holds a term
 abbrev pub is_block_kind : Kind → Bool
@@ -51,6 +44,7 @@ is_formed (lines.Char char) = is_upper char.name && each (is_between 1 30) char.
 is_formed (lines.Num num) = is_upper num.name && (each (is_between 0 6) num.decimals && each is_upper num.unit)
 is_formed (lines.Inner text) = is_utf8 text
 is_formed (lines.Text text) = is_utf8 text
+is_formed (lines.Interval interval) = each is_small interval.low && each is_small interval.high
 is_formed (lines.Uses name) = is_upper name
 is_formed (lines.Class name) = is_upper name
 is_formed (lines.Has name) = is_upper name
@@ -182,18 +176,24 @@ num_is [] = refl
 num_is (name ∷ []) = refl
 num_is (name ∷ decimals ∷ ws) = num_at_is name decimals ws (forms.unit_at ws)
 
+interval_formed : (low high : List ℕ)
+    → is_formed (lines.Interval (record { low = forms.number_in low; high = forms.number_in high })) ≡ true
+interval_formed low high =
+    and_from (each is_small (forms.number_in low)) (each is_small (forms.number_in high)) (read_small low)
+    (read_small high)
+
 between_is : (ws : List (List ℕ)) → each is_formed (forms.between_line ws) ≡ true
 between_is [] = refl
 between_is (low ∷ []) = refl
 between_is (low ∷ dots ∷ []) = refl
 between_is (low ∷ dots ∷ high ∷ []) =
-    formed_if (is_word (codes "..") dots) (lines.Interval
-    (record { low = forms.number_in low; high = forms.number_in high })) refl
+    formed_if (is_word (codes "..") dots)
+    (lines.Interval (record { low = forms.number_in low; high = forms.number_in high })) (interval_formed low high)
 between_is (low ∷ dots ∷ high ∷ other ∷ ws) = refl
 
 interval_is : (ws : List (List ℕ)) → each is_formed (forms.interval_line ws) ≡ true
 interval_is [] = refl
-interval_is (number ∷ []) = refl
+interval_is (number ∷ []) = interval_formed number number
 interval_is (low ∷ dots ∷ ws) = between_is (low ∷ dots ∷ ws)
 
 text_is : (o : Option (List ℕ)) → each_utf8 o ≡ true → each is_formed (option_map lines.Text o) ≡ true

@@ -31,7 +31,7 @@ use Rattle.vc_model_faults.specs.Twice.{is_listed, is_twice}
 use Rattle.vc_model_drafts.specs.Models.{until, use_at, net_use_at}
 use Rattle.vc_model_laws.proofs.DeclaringLaws.{Adds, characteristic_add, class_add, table_add, object_add, net_add}
 use Rattle.vc_model_laws.proofs.DeclaringLaws.{dependency_add}
-use Rattle.vc_model_laws.proofs.LineForms.{each}
+use Rattle.vc_model_laws.proofs.Holding.{each}
 use Rattle.vc_model_laws.proofs.NameCases.{by_characteristic, by_class, by_table, by_object, by_net, by_dependency}
 use Rattle.vc_model_laws.proofs.NameCases.{by_text, by_entry, by_member, by_column, by_use, by_item, by_operation}
 use Rattle.vc_model_laws.proofs.NameLemmas.{put_last}

@@ -26,7 +26,7 @@ use Rattle.vc_model_laws.specs.Limits.{count_of}
 use Rattle.vc_model_laws.specs.Lists.{are_different, are_proper, are_uses_different, is_multiple, KeepsLists}
 use Rattle.vc_model_laws.proofs.LineCases.{number_with, at_characteristic, at_class, at_table, at_net}
 use Rattle.vc_model_laws.proofs.LineCases.{at_object, at_item, at_operation, at_text, at_number}
-use Rattle.vc_model_laws.proofs.LineForms.{each_map}
+use Rattle.vc_model_laws.proofs.Holding.{each_map}
 use Rattle.vc_model_laws.proofs.ListingLaws.{text_add, member_add, column_add}
 use Rattle.vc_model_laws.proofs.MadeLaws.{texts_made, members_made, columns_made, items_made}
 use Rattle.vc_model_laws.proofs.MadeLaws.{operations_made}

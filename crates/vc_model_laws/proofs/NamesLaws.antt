@@ -43,7 +43,8 @@ use Rattle.vc_model_laws.proofs.DeclaringLaws.{characteristics_are, classes_are,
 use Rattle.vc_model_laws.proofs.DeclaringLaws.{dependencies_are}
 use Rattle.vc_model_laws.proofs.LineCases.{char_made, num_made, item_made, operation_made, at_characteristic, at_class}
 use Rattle.vc_model_laws.proofs.LineCases.{at_table, at_net, at_object, at_dependency, at_item, at_operation}
-use Rattle.vc_model_laws.proofs.LineForms.{each, is_block_kind, is_formed}
+use Rattle.vc_model_laws.proofs.Holding.{each}
+use Rattle.vc_model_laws.proofs.LineForms.{is_block_kind, is_formed}
 use Rattle.vc_model_laws.proofs.NameLemmas.{declared_apart, apart_map}
 use Rattle.vc_model_laws.proofs.Walks.{Passes, Sound, Stands, all_keep, each_said}
 

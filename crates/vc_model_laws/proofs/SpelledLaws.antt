@@ -12,6 +12,7 @@ use Rattle.vc_model_laws.specs.Laws.{SpelledKeeps}
 use Rattle.vc_model_laws.specs.Limits.{KeepsLimits}
 use Rattle.vc_model_laws.specs.Lists.{KeepsLists}
 use Rattle.vc_model_laws.specs.Names.{KeepsNames}
+use Rattle.vc_model_laws.specs.Numbers.{KeepsNumbers}
 use Rattle.vc_model_laws.specs.Rows.{ReadRowsAreKept}
 use Rattle.vc_model_laws.specs.Texts.{KeepsTexts}
 use Rattle.vc_model_laws.proofs.ComponentsLaws.{keeps_components}
@@ -22,6 +23,7 @@ use Rattle.vc_model_laws.proofs.LimitsLaws.{keeps_limits}
 use Rattle.vc_model_laws.proofs.LineForms.{lines_formed}
 use Rattle.vc_model_laws.proofs.ListsLaws.{keeps_lists}
 use Rattle.vc_model_laws.proofs.NamesLaws.{keeps_names}
+use Rattle.vc_model_laws.proofs.NumbersLaws.{keeps_numbers}
 use Rattle.vc_model_laws.proofs.RowsLaws.{keeps_rows}
 use Rattle.vc_model_laws.proofs.TextsLaws.{keeps_texts}
 use Rattle.vc_model_laws.proofs.Walks.{Sound, sound}
@@ -61,3 +63,6 @@ read_rows_are_kept text model t table records rows spells at h =
 
 pub spelled_keeps_components : SpelledKeeps KeepsComponents
 spelled_keeps_components = spelled KeepsComponents keeps_components
+
+pub spelled_keeps_numbers : SpelledKeeps KeepsNumbers
+spelled_keeps_numbers = spelled KeepsNumbers keeps_numbers

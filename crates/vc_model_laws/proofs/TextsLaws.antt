@@ -37,7 +37,8 @@ use Rattle.vc_plan.specs.Spelling.{is_text, is_upper}
 use Rattle.vc_model_laws.specs.Texts.{are_short, is_short, KeepsTexts}
 use Rattle.vc_model_laws.proofs.IndicesLaws.{scope_texts}
 use Rattle.vc_model_laws.proofs.LineCases.{char_made, at_characteristic}
-use Rattle.vc_model_laws.proofs.LineForms.{each, is_formed}
+use Rattle.vc_model_laws.proofs.Holding.{each}
+use Rattle.vc_model_laws.proofs.LineForms.{is_formed}
 use Rattle.vc_model_laws.proofs.ListingLaws.{text_add}
 use Rattle.vc_model_laws.proofs.DifferentLaws.{said_passes, text_there}
 use Rattle.vc_model_laws.proofs.OrderLaws.{Stood, under_stays}

@@ -21,7 +21,8 @@ use Rattle.vc_model_faults.specs.Twice.{is_twice}
 use Rattle.vc_model_faults.specs.Unknown.{is_unknown, is_wrong}
 use Rattle.vc_model_faults.specs.Values.{is_bad}
 use Rattle.vc_model_drafts.specs.Models.{until, never}
-use Rattle.vc_model_laws.proofs.LineForms.{each, is_formed}
+use Rattle.vc_model_laws.proofs.Holding.{each}
+use Rattle.vc_model_laws.proofs.LineForms.{is_formed}
 
 -- a line has the shape of its form and no fault
 pub record Passes (scope : Scope) (line : Line) (below : List Line) : Type 0 where

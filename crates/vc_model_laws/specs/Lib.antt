@@ -6,5 +6,6 @@ pub mod Laws
 pub mod Limits
 pub mod Lists
 pub mod Names
+pub mod Numbers
 pub mod Rows
 pub mod Texts

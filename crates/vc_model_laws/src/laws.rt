@@ -8,6 +8,7 @@ ghost use Rattle.vc_model_laws.specs.Laws.{SpelledKeeps};
 ghost use Rattle.vc_model_laws.specs.Limits.{KeepsLimits};
 ghost use Rattle.vc_model_laws.specs.Lists.{KeepsLists};
 ghost use Rattle.vc_model_laws.specs.Names.{KeepsNames};
+ghost use Rattle.vc_model_laws.specs.Numbers.{KeepsNumbers};
 ghost use Rattle.vc_model_laws.specs.Rows.{ReadRowsAreKept};
 ghost use Rattle.vc_model_laws.specs.Texts.{KeepsTexts};
 
@@ -35,6 +36,11 @@ pub fn spelled_models_keep_lists()
 /// Its texts are UTF-8 without control characters, and as short as their characteristics ask.
 pub fn spelled_models_keep_texts()
     ensures { SpelledKeeps KeepsTexts }
+{}
+
+/// Its numbers have at most nine digits before the point and six after it.
+pub fn spelled_models_keep_numbers()
+    ensures { SpelledKeeps KeepsNumbers }
 {}
 
 /// What is used at a place is of a kind that may be used there.

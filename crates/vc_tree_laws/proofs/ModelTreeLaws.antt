@@ -21,7 +21,8 @@ use Rattle.vc_model_drafts.specs.Seen.{SeenModel}
 use Rattle.vc_compile_plan.specs.Texts.{texts_in}
 use Rattle.vc_model_laws.specs.Laws.{SpelledKeeps}
 use Rattle.vc_model_laws.proofs.LineCases.{dependency_made}
-use Rattle.vc_model_laws.proofs.LineForms.{each, is_formed, lines_formed}
+use Rattle.vc_model_laws.proofs.Holding.{each}
+use Rattle.vc_model_laws.proofs.LineForms.{is_formed, lines_formed}
 use Rattle.vc_model_laws.proofs.NamesLaws.{made}
 use Rattle.vc_model_laws.proofs.Walks.{Sound, Stands, sound}
 use Rattle.std.specs.Prelude.{nat_le}
