@@ -7,6 +7,7 @@ use Rattle.vc_model_drafts.specs.Seen.{SeenModel}
 use Rattle.vc_model_laws.specs.Components.{KeepsComponents}
 use Rattle.vc_model_laws.specs.Headers.{KeepsHeaders}
 use Rattle.vc_model_laws.specs.Indices.{KeepsIndices}
+use Rattle.vc_model_laws.specs.Keeps.{Keeps}
 use Rattle.vc_model_laws.specs.Kinds.{KeepsKinds}
 use Rattle.vc_model_laws.specs.Laws.{SpelledKeeps}
 use Rattle.vc_model_laws.specs.Limits.{KeepsLimits}
@@ -66,3 +67,16 @@ spelled_keeps_components = spelled KeepsComponents keeps_components
 
 pub spelled_keeps_numbers : SpelledKeeps KeepsNumbers
 spelled_keeps_numbers = spelled KeepsNumbers keeps_numbers
+
+pub spelled_keeps_all : SpelledKeeps Keeps
+spelled_keeps_all text model spells = record {
+  names = spelled_keeps_names text model spells;
+  limits = spelled_keeps_limits text model spells;
+  indices = spelled_keeps_indices text model spells;
+  lists = spelled_keeps_lists text model spells;
+  texts = spelled_keeps_texts text model spells;
+  numbers = spelled_keeps_numbers text model spells;
+  kinds = spelled_keeps_kinds text model spells;
+  components = spelled_keeps_components text model spells;
+  headers = spelled_keeps_headers text model spells;
+}

@@ -1,6 +1,7 @@
 pub mod Components
 pub mod Headers
 pub mod Indices
+pub mod Keeps
 pub mod Kinds
 pub mod Laws
 pub mod Limits

@@ -3,6 +3,7 @@
 ghost use Rattle.vc_model_laws.specs.Components.{KeepsComponents};
 ghost use Rattle.vc_model_laws.specs.Headers.{KeepsHeaders};
 ghost use Rattle.vc_model_laws.specs.Indices.{KeepsIndices};
+ghost use Rattle.vc_model_laws.specs.Keeps.{Keeps};
 ghost use Rattle.vc_model_laws.specs.Kinds.{KeepsKinds};
 ghost use Rattle.vc_model_laws.specs.Laws.{SpelledKeeps};
 ghost use Rattle.vc_model_laws.specs.Limits.{KeepsLimits};
@@ -57,6 +58,11 @@ pub fn spelled_models_keep_components()
 /// The headers of its tables leave nothing out of it.
 pub fn spelled_models_keep_headers()
     ensures { SpelledKeeps KeepsHeaders }
+{}
+
+/// All of this at once.
+pub fn spelled_models_keep_all()
+    ensures { SpelledKeeps Keeps }
 {}
 
 /// The rows of a table that is read with its header have a value of its list for each column, they are at most 10,000,
