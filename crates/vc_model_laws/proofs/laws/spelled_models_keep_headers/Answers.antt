@@ -1,0 +1,5 @@
+use Rattle.vc_model_laws.proofs.SpelledLaws.{spelled_keeps_headers}
+use Rattle.vc_model_laws.proofs.laws.spelled_models_keep_headers.Goals as goal
+
+pub returns : goal.returns
+returns c = spelled_keeps_headers

@@ -1,0 +1,12 @@
+pub mod Components
+pub mod Headers
+pub mod Indices
+pub mod Keeps
+pub mod Kinds
+pub mod Laws
+pub mod Limits
+pub mod Lists
+pub mod Names
+pub mod Numbers
+pub mod Rows
+pub mod Texts

@@ -1,0 +1,7 @@
+pub mod ConditionLaws
+pub mod ModelTreeLaws
+pub mod ReadingLemmas
+pub mod StatementLaws
+pub mod TermLaws
+pub mod TokenLaws
+pub mod TreeLaws
