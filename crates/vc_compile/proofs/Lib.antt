@@ -1,0 +1,5 @@
+pub mod Above
+pub mod InTurnLaws
+pub mod RefusalLaws
+pub mod RoomLaws
+pub mod SizeLaws

@@ -1,0 +1,68 @@
+//! The rules of a plan, which has only so many.
+
+ghost use Rattle.std.specs.Prelude.{◌≡◌, ◌++◌, ◌<◌, length, IfOk, IfSome, IfNone};
+ghost use Rattle.vc_compile_plan.specs.Refusals.{most_rules};
+ghost use Rattle.vc_compile_plan.specs.Rules.{last_drafts, rule_drafts, slot_drafts_from};
+ghost use Rattle.vc_compile_numbering.specs.Growing.{seen};
+ghost use Rattle.vc_compile_rules.specs.Adding.{Adds};
+ghost use Rattle.vc_compile_sites.specs.Standing.{layout_seen};
+ghost use Rattle.vc_compile.specs.InTurn.{ruled};
+
+use std::alloc::{AllocError, Global};
+use vc_compile_constraints::push_constraint_rules;
+use vc_compile_numbering::{Numbering, Trees};
+use vc_compile_rules::Room;
+use vc_compile_rules::own::{push_last_rules, push_line_rules};
+use vc_compile_sites::Layout;
+use vc_plan::Rule;
+
+// Puts the rules of variables and of slots last.
+fn push_own_rules(
+    alloc: Global,
+    layout: &Layout<'_, '_>,
+    out: &mut Numbering<Rule>,
+) -> Result<Room, AllocError>
+    ensures { IfOk result (λ room. Adds room (seen out.old) (last_drafts (layout_seen layout.now)
+        ++ slot_drafts_from (layout_seen layout.now) 0 (layout_seen layout.now).standings) (seen out.new)) }
+{
+    match push_last_rules(alloc, layout, out)? {
+        Room::Enough => {
+            let room = push_line_rules(alloc, layout, out)?;
+            Ok(room)
+        }
+        Room::TooMany => Ok(Room::TooMany),
+    }
+}
+
+// Puts all rules of a plan last: those of constraints, of variables and of slots.
+fn push_rules(
+    alloc: Global,
+    layout: &Layout<'_, '_>,
+    out: &mut Numbering<Rule>,
+) -> Result<Room, AllocError>
+    ensures { IfOk result (λ room. Adds room (seen out.old) (rule_drafts (layout_seen layout.now)) (seen out.new)) }
+{
+    match push_constraint_rules(alloc, layout, out)? {
+        Room::Enough => {
+            let room = push_own_rules(alloc, layout, out)?;
+            Ok(room)
+        }
+        Room::TooMany => Ok(Room::TooMany),
+    }
+}
+
+/// The rules of a plan, with the conditions and terms that they have; none where a plan would have too many.
+pub fn rules_of(
+    alloc: Global,
+    layout: &Layout<'_, '_>,
+) -> Result<Option<Numbering<Rule>>, AllocError>
+    ensures some { IfOk result (λ found. IfSome found (λ rules. seen rules ≡ ruled (layout_seen layout.now))) }
+    ensures none { IfOk result (λ found. IfNone found
+        (most_rules < length (rule_drafts (layout_seen layout.now)))) }
+{
+    let mut rules = Numbering::over(alloc, Trees::new(alloc)?);
+    match push_rules(alloc, layout, &mut rules)? {
+        Room::Enough => Ok(Some(rules)),
+        Room::TooMany => Ok(None),
+    }
+}
