@@ -1,2 +1,3 @@
 pub mod FilingLemmas
 pub mod TouchedLemmas
+pub mod WaitingLemmas

@@ -1,6 +1,6 @@
 -- What stands in a rule is what it reads and writes.
 use Rattle.std.proofs.Common.{◌≡◌, ℕ, Bool, true, false, List, [], ◌∷◌, ◌++◌, length, map, refl, sym, ◌∙◌, ap, append_assoc}
-use Rattle.std.specs.Prelude.{Option, None, Some, nat_eq, ◌||◌, cond, replicate, slice_get}
+use Rattle.std.specs.Prelude.{Option, None, Some, nat_eq, ◌||◌, ◌&&◌, cond, replicate, slice_get}
 use Rattle.std.specs.List.{filter, list_any}
 use Rattle.std.proofs.lemmas.List.Folds.{list_any-append}
 use Rattle.vc_plan.specs.declared.plans.Plan.{Plan}
@@ -12,7 +12,12 @@ use Rattle.vc_plan.specs.Reads.{vars_of_condition}
 use Rattle.vc_plan.specs.Restrictions.{is_inferred}
 use Rattle.vc_plan_reasons.specs.Things.{has_thing, inferred_of, kind_writes, parents_of, reads_in, same_thing, slot_at, slots_of_kind, slots_of_var, var_at, vars_of_kind, writes_in}
 use Rattle.vc_net_readers.specs.Filing.{filed_below}
-use Rattle.vc_net_readers.specs.Readers.{is_reader, readers_at, slot_lists, var_lists}
+use Rattle.vc_net_readers.specs.Readers.{is_reader, readers_at, rests_at, slot_lists, var_lists}
+use Rattle.vc_net_readers.specs.Waiting.{resting_by, rests}
+use Rattle.vc_net_laws.specs.Triggers.{trigger_by}
+use Rattle.vc_plan.specs.Gives.{by_rule}
+use Rattle.std.proofs.lemmas.Map.Views.{any-filter_same}
+use Rattle.vc_base.proofs.ListLaws.{number_exact}
 use Rattle.vc_net_readers.specs.Touched.{slots_by, slots_in_rule, slots_told, vars_by, vars_in_rule}
 use Rattle.vc_net_readers.proofs.FilingLemmas.{filed_all, has_filter, has_place}
 
@@ -145,10 +150,26 @@ slots_filed plan =
     (numbers_below (length plan.rules)))
     (numbers_below (length plan.slots))
 
-pub vars_filed : (plan : Plan) → filed_below (vars_by plan) (length plan.rules) (replicate (length plan.vars) []) ≡ var_lists plan
+-- what a filter keeps by its number alone
+any_kept : (p : ℕ → Bool) (v : ℕ) (xs : List ℕ) → list_any (nat_eq v) (filter p xs) ≡ (list_any (nat_eq v) xs && p v)
+any_kept p v xs =
+    any-filter_same (nat_eq v) p (p v) (λ w same. ap p (sym (number_exact v w same))) xs ∙ and_comm (p v) (list_any (nat_eq v) xs)
+  where
+    and_comm : (a b : Bool) → (a && b) ≡ (b && a)
+    and_comm true true = refl
+    and_comm true false = refl
+    and_comm false true = refl
+    and_comm false false = refl
+
+pub vars_filed : (plan : Plan) → filed_below (resting_by plan) (length plan.rules) (replicate (length plan.vars) []) ≡ var_lists plan
 vars_filed plan =
-    filed_all (vars_by plan) (length plan.vars) (length plan.rules)
-    ∙ map_same (λ t. filter (has_place (vars_by plan) t) (numbers_below (length plan.rules))) (λ v. readers_at plan (var_at v))
-    (λ v. filter_same (has_place (vars_by plan) v) (is_reader plan (var_at v)) (λ r. var_in_rule plan (slice_get plan.rules r) v)
-    (numbers_below (length plan.rules)))
+    filed_all (resting_by plan) (length plan.vars) (length plan.rules)
+    ∙ map_same (λ t. filter (has_place (resting_by plan) t) (numbers_below (length plan.rules)))
+    (λ v. filter (rests_at plan v) (numbers_below (length plan.rules)))
+    (λ v. filter_same (has_place (resting_by plan) v) (rests_at plan v) (λ r. resting v r) (numbers_below (length plan.rules)))
     (numbers_below (length plan.vars))
+  where
+    resting : (v r : ℕ) → list_any (nat_eq v) (resting_by plan r) ≡ rests_at plan v r
+    resting v r =
+        let trigger = trigger_by plan (by_rule r) in
+        any_kept (rests trigger) v (vars_by plan r) ∙ ap (λ b. b && rests trigger v) (var_in_rule plan (slice_get plan.rules r) v)

@@ -1,3 +1,4 @@
 pub mod Filing
 pub mod Readers
 pub mod Touched
+pub mod Waiting

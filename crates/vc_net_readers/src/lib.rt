@@ -4,5 +4,6 @@
 pub mod filing;
 pub mod readers;
 pub mod touched;
+pub mod triggers;
 
 pub use readers::Readers;
