@@ -21,7 +21,7 @@ use Rattle.vc_base.proofs.ListLaws.{number_exact}
 use Rattle.vc_net_readers.specs.Touched.{slots_by, slots_in_rule, slots_told, vars_by, vars_in_rule}
 use Rattle.vc_net_readers.proofs.FilingLemmas.{filed_all, has_filter, has_place}
 
-or_false : (a : Bool) → (a || false) ≡ a
+pub or_false : (a : Bool) → (a || false) ≡ a
 or_false true = refl
 or_false false = refl
 
@@ -86,7 +86,7 @@ slot_by_kind plan rule kind i slots = by kind
         ap (list_any (nat_eq i)) (sym (append_assoc slots (parents_of plan j) (j ∷ [])))
         ∙ list_any-append (nat_eq i) (slots ++ parents_of plan j) (j ∷ [])
 
-slot_in_rule : (plan : Plan) (o : Option Rule) (i : ℕ)
+pub slot_in_rule : (plan : Plan) (o : Option Rule) (i : ℕ)
     → list_any (nat_eq i) (slots_in_rule plan o) ≡ (has_thing (reads_in plan o) (slot_at i) || has_thing (writes_in plan o) (slot_at i))
 slot_in_rule plan None i = refl
 slot_in_rule plan (Some rule) i =
@@ -114,7 +114,7 @@ var_by_kind plan rule kind v = by kind
     by (Last w) e = e
     by (Line j) e = absurd (cc)
 
-var_in_rule : (plan : Plan) (o : Option Rule) (v : ℕ)
+pub var_in_rule : (plan : Plan) (o : Option Rule) (v : ℕ)
     → list_any (nat_eq v) (vars_in_rule plan o) ≡ (has_thing (reads_in plan o) (var_at v) || has_thing (writes_in plan o) (var_at v))
 var_in_rule plan None v = refl
 var_in_rule plan (Some rule) v =
@@ -151,7 +151,7 @@ slots_filed plan =
     (numbers_below (length plan.slots))
 
 -- what a filter keeps by its number alone
-any_kept : (p : ℕ → Bool) (v : ℕ) (xs : List ℕ) → list_any (nat_eq v) (filter p xs) ≡ (list_any (nat_eq v) xs && p v)
+pub any_kept : (p : ℕ → Bool) (v : ℕ) (xs : List ℕ) → list_any (nat_eq v) (filter p xs) ≡ (list_any (nat_eq v) xs && p v)
 any_kept p v xs =
     any-filter_same (nat_eq v) p (p v) (λ w same. ap p (sym (number_exact v w same))) xs ∙ and_comm (p v) (list_any (nat_eq v) xs)
   where

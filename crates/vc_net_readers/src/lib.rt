@@ -2,8 +2,12 @@
 #![tactic(auto)]
 
 pub mod filing;
+pub mod laws;
 pub mod readers;
 pub mod touched;
 pub mod triggers;
 
 pub use readers::Readers;
+
+#[cfg(test)]
+mod tests;
