@@ -1,0 +1,54 @@
+-- Worked rows of readers, by computing: PUMP's, and those of a rule that waits for a value. Beside what is so stands
+-- what would be so by a likely slip, and isn't.
+use Rattle.std.proofs.Common.{◌≡◌, [], ◌∷◌, refl}
+use Rattle.std.specs.Prelude.{◌≢◌, Some}
+use Rattle.vc_plan.specs.declared.conditions.Condition.TheVariants.{Always, Compared}
+use Rattle.vc_plan.specs.declared.conditions.Relation.TheVariants.{Equal}
+use Rattle.vc_plan.specs.declared.plans.Plan.{Plan}
+use Rattle.vc_plan.specs.declared.rules.Kind.TheVariants.{Last}
+use Rattle.vc_plan.specs.declared.terms.Term.TheVariants.{Literal, Read}
+use Rattle.vc_plan.proofs.PlanRows.Models.{last, open_pair, own_rule, pump, whole}
+use Rattle.vc_plan_reasons.specs.Things.{slot_at, var_at}
+use Rattle.vc_net_readers.specs.Filing.{filed_at_all}
+use Rattle.vc_net_readers.specs.Laws.{asked}
+use Rattle.vc_net_readers.specs.Readers.{readers_of}
+
+-- the table's rule reads the root, the size and the motor; each variable's last grain is read with its slot
+by_things : readers_of pump ≡ record {
+  by_slot = (0 ∷ 1 ∷ 2 ∷ 3 ∷ []) ∷ [];
+  by_var = (0 ∷ 1 ∷ []) ∷ (0 ∷ 2 ∷ []) ∷ (3 ∷ []) ∷ [];
+  by_place = [] ∷ [] ∷ [] ∷ [] ∷ [] ∷ [] ∷ [] ∷ [] ∷ [] ∷ [] ∷ [] ∷ [];
+}
+by_things = refl
+
+-- two variables of the grains 1, 2 .. 3 and 4: the first rule waits for the value 2 of the first
+abbrev awaiting : Plan
+awaiting = record (open_pair [] (last 0)) {
+  conditions = Always ∷ Compared Equal (Read 0) (Literal (whole 2)) ∷ [];
+  rules = own_rule 1 (Last 1) ∷ last 0 ∷ [];
+}
+
+by_value : readers_of awaiting ≡ record {
+  by_slot = (0 ∷ 1 ∷ []) ∷ [];
+  by_var = (1 ∷ []) ∷ (0 ∷ []) ∷ [];
+  by_place = [] ∷ [] ∷ [] ∷ (0 ∷ []) ∷ [] ∷ [] ∷ [] ∷ [] ∷ [] ∷ [];
+}
+by_value = refl
+
+-- it is asked by a value in its grain, and by no other
+its_grain : asked awaiting (var_at 0) (Some 1) ≡ 1 ∷ 0 ∷ []
+its_grain = refl
+
+other_grain : asked awaiting (var_at 0) (Some 0) ≢ 1 ∷ 0 ∷ []
+other_grain e = cc
+
+-- and by each atom of what it touches besides
+its_slot : asked awaiting (slot_at 0) (Some 0) ≡ 0 ∷ 1 ∷ []
+its_slot = refl
+
+-- a rule that has a place twice is put there once, and nowhere else
+once : filed_at_all ((4 ∷ []) ∷ [] ∷ []) (1 ∷ 0 ∷ 1 ∷ 2 ∷ []) 5 ≡ (4 ∷ 5 ∷ []) ∷ (5 ∷ []) ∷ []
+once = refl
+
+twice : filed_at_all ([] ∷ []) (0 ∷ 0 ∷ []) 5 ≢ (5 ∷ 5 ∷ []) ∷ []
+twice e = cc

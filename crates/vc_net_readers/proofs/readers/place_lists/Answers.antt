@@ -1,0 +1,16 @@
+-- When all rules were put, each list is wanted.
+use Rattle.std.proofs.Common.{◌≡◌, ◌∙◌, [], ap, arith, length, replicate}
+use Rattle.vc_net_places.specs.Places.{index_of}
+use Rattle.vc_net_readers.specs.Filing.{filed_below}
+use Rattle.vc_net_readers.specs.Waiting.{waits_by}
+use Rattle.vc_net_readers.proofs.FilingLemmas.{filed_all}
+use Rattle.vc_net_readers.proofs.readers.place_lists.Goals as goal
+
+pub returns : goal.returns
+returns c =
+    let plan = c.args.plan.now in
+    let all : c.loop-rule.rule ≡ length plan.rules
+    = omega (arith, c.loop-rule-test.false, c.loop-rule.auto.rule-end, c.len-rule-end.ensures) in
+    c.loop-rule.invariant
+    ∙ (ap (λ n. filed_below (waits_by plan) n (replicate (length (index_of plan).things) [])) all
+    ∙ filed_all (waits_by plan) (length (index_of plan).things) (length plan.rules))

@@ -1,0 +1,5 @@
+pub mod Filing
+pub mod Laws
+pub mod Readers
+pub mod Touched
+pub mod Waiting

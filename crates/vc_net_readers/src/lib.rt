@@ -1,0 +1,13 @@
+//! Readers: which rules touch a slot or a variable, found once from the plan, so that a net asks those alone again.
+#![tactic(auto)]
+
+pub mod filing;
+pub mod laws;
+pub mod readers;
+pub mod touched;
+pub mod triggers;
+
+pub use readers::Readers;
+
+#[cfg(test)]
+mod tests;
