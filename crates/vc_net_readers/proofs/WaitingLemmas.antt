@@ -21,3 +21,6 @@ pub find_ends : (p : ℕ → Bool) (g n : ℕ) → n ≤ g → find p (range_wit
 find_ends p g n past =
     let none : n - g ≡ 0 = omega (arith, past) in
     ap (λ k. find p (range_with_len g k)) none
+
+-- how the first is found
+pub ruleset finding = (find_next, find_here, find_ends)

@@ -4,7 +4,8 @@ ghost use Rattle.std.specs.Prelude.{◌≡◌, ◌++◌, slice_get, OnOk, IfOk};
 ghost use Rattle.std.specs.List.{flat_map};
 ghost use Rattle.std.specs.Option.{option_to_list};
 ghost use Rattle.vc_plan.specs.Reads.{vars_in, vars_of_condition, vars_of_term, vars_read};
-ghost use Rattle.vc_plan_reasons.specs.Things.{parents_of, slots_of_kind, slots_of_var, vars_of_column, vars_of_kind, vars_of_sides};
+ghost use Rattle.vc_plan_reasons.specs.Things.{parents_of, slots_of_kind, slots_of_var};
+ghost use Rattle.vc_plan_reasons.specs.Things.{vars_of_column, vars_of_kind, vars_of_sides};
 ghost use Rattle.vc_net_readers.specs.Touched.{slots_told, touched_slots, touched_vars};
 
 use std::alloc::{AllocError, Global};

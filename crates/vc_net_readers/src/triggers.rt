@@ -107,7 +107,7 @@ fn holds(plan: &Plan, var: u32, value: Value, grain: u32) -> bool
 }
 
 /// The first grain of the variable in which the value lies.
-#[tactic(auto, using(crate::proofs::WaitingLemmas::find_next, crate::proofs::WaitingLemmas::find_here, crate::proofs::WaitingLemmas::find_ends))]
+#[tactic(auto, using(crate::proofs::WaitingLemmas::finding))]
 pub fn grain_with(plan: &Plan, var: u32, value: Value) -> Option<u32>
     requires { atom_count plan.now < 2 ^ 32 }
     ensures { result ≡ grain_with plan.now var value }
