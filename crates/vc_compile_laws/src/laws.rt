@@ -1,0 +1,39 @@
+//! Laws of the plans of models that texts spell, with their tables read and no fault told, each the contract of a
+//! function that does nothing.
+
+ghost use Rattle.vc_compile_laws.specs.Compiles.{CompiledKeeps};
+ghost use Rattle.vc_compile_laws.specs.Lists.{HasLists};
+ghost use Rattle.vc_compile_laws.specs.Sizes.{HasCounts, IsWithin};
+ghost use Rattle.vc_compile_laws.specs.Tables.{HasTables};
+ghost use Rattle.vc_compile_laws.specs.Words.{HasTexts, HasWords};
+
+/// In each such plan names, materials and units are spelled, and of each kind a name stands once.
+pub fn compiled_plans_have_words()
+    ensures { CompiledKeeps HasWords }
+{}
+
+/// No more things of a kind are in it than a model may have.
+pub fn compiled_plans_have_counts()
+    ensures { CompiledKeeps HasCounts }
+{}
+
+/// Its slots, rules, atoms and cells are within the limits.
+pub fn compiled_plans_are_within()
+    ensures { CompiledKeeps IsWithin }
+{}
+
+/// Its texts are UTF-8, of 1 to 30 characters and different, and those that are listed have no control characters.
+pub fn compiled_plans_have_texts()
+    ensures { CompiledKeeps HasTexts }
+{}
+
+/// Its lists name texts and numbers that may be stored, each value once; its classes name characteristics, each once.
+pub fn compiled_plans_have_lists()
+    ensures { CompiledKeeps HasLists }
+{}
+
+/// The columns of its tables are of different characteristics, and rows have a value of its list for each, and keys of
+/// their own.
+pub fn compiled_plans_have_tables()
+    ensures { CompiledKeeps HasTables }
+{}
