@@ -1,7 +1,13 @@
+pub mod BillLaws
+pub mod EachLaws
 pub mod ListLaws
 pub mod ListedLaws
+pub mod NumberingLaws
 pub mod SizeLaws
+pub mod SlotLaws
+pub mod StandingLaws
 pub mod TableLaws
 pub mod TextLaws
 pub mod ThingLaws
+pub mod VariableLaws
 pub mod WordLaws

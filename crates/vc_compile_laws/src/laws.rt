@@ -1,10 +1,13 @@
 //! Laws of the plans of models that texts spell, with their tables read and no fault told, each the contract of a
 //! function that does nothing.
 
+ghost use Rattle.vc_compile_laws.specs.Bills.{HasBills};
 ghost use Rattle.vc_compile_laws.specs.Compiles.{CompiledKeeps};
 ghost use Rattle.vc_compile_laws.specs.Lists.{HasLists};
 ghost use Rattle.vc_compile_laws.specs.Sizes.{HasCounts, IsWithin};
+ghost use Rattle.vc_compile_laws.specs.Slots.{HasSlots};
 ghost use Rattle.vc_compile_laws.specs.Tables.{HasTables};
+ghost use Rattle.vc_compile_laws.specs.Variables.{HasVariables};
 ghost use Rattle.vc_compile_laws.specs.Words.{HasTexts, HasWords};
 
 /// In each such plan names, materials and units are spelled, and of each kind a name stands once.
@@ -36,4 +39,20 @@ pub fn compiled_plans_have_lists()
 /// their own.
 pub fn compiled_plans_have_tables()
     ensures { CompiledKeeps HasTables }
+{}
+
+/// Its slots name slots and objects that it has, the first is the root, and none is deeper than the fourth level.
+pub fn compiled_plans_have_slots()
+    ensures { CompiledKeeps HasSlots }
+{}
+
+/// Its variables and sets are those of its slots' classes, by slot, and have the domains of their characteristics; no
+/// column of a table is of one that has sets.
+pub fn compiled_plans_have_variables()
+    ensures { CompiledKeeps HasVariables }
+{}
+
+/// Its lines and operations are of slots that it has, with terms and conditions that it has, and their words are spelled.
+pub fn compiled_plans_have_bills()
+    ensures { CompiledKeeps HasBills }
 {}
