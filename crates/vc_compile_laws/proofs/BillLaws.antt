@@ -47,7 +47,7 @@ use Rattle.vc_compile_laws.proofs.NumberingLaws.{StandFrom, condition_count, lin
 use Rattle.vc_compile_laws.proofs.VariableLaws.{slots_same}
 
 -- a dependency that is asked is one of the model's
-asked_there : (condition_in : Option Dependency → Option SyntaxCondition) → condition_in None ≡ None → (model : Model)
+pub asked_there : (condition_in : Option Dependency → Option SyntaxCondition) → condition_in None ≡ None → (model : Model)
     → (uses : List ℕ) → Each (λ a. a.dependency < length model.dependencies) (asked_by condition_in model uses)
 asked_there condition_in none model [] = tt
 asked_there condition_in none model (d ∷ uses) =

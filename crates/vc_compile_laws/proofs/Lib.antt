@@ -1,7 +1,9 @@
 pub mod BillLaws
 pub mod EachLaws
+pub mod GuardLaws
 pub mod ListLaws
 pub mod ListedLaws
+pub mod NamedLaws
 pub mod NumberingLaws
 pub mod SizeLaws
 pub mod SlotLaws

@@ -1,5 +1,6 @@
 pub mod Bills
 pub mod Compiles
+pub mod Guards
 pub mod Lists
 pub mod Sizes
 pub mod Slots

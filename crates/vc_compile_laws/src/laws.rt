@@ -3,6 +3,7 @@
 
 ghost use Rattle.vc_compile_laws.specs.Bills.{HasBills};
 ghost use Rattle.vc_compile_laws.specs.Compiles.{CompiledKeeps};
+ghost use Rattle.vc_compile_laws.specs.Guards.{HasGuards};
 ghost use Rattle.vc_compile_laws.specs.Lists.{HasLists};
 ghost use Rattle.vc_compile_laws.specs.Sizes.{HasCounts, IsWithin};
 ghost use Rattle.vc_compile_laws.specs.Slots.{HasSlots};
@@ -55,4 +56,10 @@ pub fn compiled_plans_have_variables()
 /// Its lines and operations are of slots that it has, with terms and conditions that it has, and their words are spelled.
 pub fn compiled_plans_have_bills()
     ensures { CompiledKeeps HasBills }
+{}
+
+/// Its preconditions and requirements name variables, sets, dependencies and conditions that it has, and a precondition
+/// of a value names one that is listed.
+pub fn compiled_plans_have_guards()
+    ensures { CompiledKeeps HasGuards }
 {}
