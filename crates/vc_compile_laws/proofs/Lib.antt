@@ -5,6 +5,7 @@ pub mod ListLaws
 pub mod ListedLaws
 pub mod NamedLaws
 pub mod NumberingLaws
+pub mod OrderLaws
 pub mod SizeLaws
 pub mod SlotLaws
 pub mod StandingLaws

@@ -2,6 +2,7 @@ pub mod Bills
 pub mod Compiles
 pub mod Guards
 pub mod Lists
+pub mod Orders
 pub mod Sizes
 pub mod Slots
 pub mod Tables
