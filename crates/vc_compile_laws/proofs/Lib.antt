@@ -1,3 +1,4 @@
+pub mod AtSlotLaws
 pub mod BillLaws
 pub mod EachLaws
 pub mod GuardLaws

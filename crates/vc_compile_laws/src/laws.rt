@@ -5,7 +5,7 @@ ghost use Rattle.vc_compile_laws.specs.Bills.{HasBills};
 ghost use Rattle.vc_compile_laws.specs.Compiles.{CompiledKeeps};
 ghost use Rattle.vc_compile_laws.specs.Guards.{HasGuards};
 ghost use Rattle.vc_compile_laws.specs.Lists.{HasLists};
-ghost use Rattle.vc_compile_laws.specs.Orders.{HasOrders};
+ghost use Rattle.vc_compile_laws.specs.Orders.{HasFewLines, HasOrders};
 ghost use Rattle.vc_compile_laws.specs.Sizes.{HasCounts, IsWithin};
 ghost use Rattle.vc_compile_laws.specs.Slots.{HasSlots};
 ghost use Rattle.vc_compile_laws.specs.Tables.{HasTables};
@@ -68,4 +68,9 @@ pub fn compiled_plans_have_guards()
 /// Its lines are by slot and item, and its operations by slot and number.
 pub fn compiled_plans_have_orders()
     ensures { CompiledKeeps HasOrders }
+{}
+
+/// A slot has at most 1,000 lines and 1,000 operations.
+pub fn compiled_plans_have_few_lines()
+    ensures { CompiledKeeps HasFewLines }
 {}
