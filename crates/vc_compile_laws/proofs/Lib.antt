@@ -1,5 +1,6 @@
 pub mod AtSlotLaws
 pub mod BillLaws
+pub mod ClassLaws
 pub mod EachLaws
 pub mod GuardLaws
 pub mod ListLaws

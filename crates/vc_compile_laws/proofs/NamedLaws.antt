@@ -51,7 +51,7 @@ each_among same itself (x ∷ xs) = (
 )
 
 -- what stands at one slot stands among all
-any_by_slot : {X : Type 0} (p : X → Bool) (has : ℕ → Slot → List X) (i : ℕ) (slots : List Slot) (k : ℕ) (slot : Slot)
+pub any_by_slot : {X : Type 0} (p : X → Bool) (has : ℕ → Slot → List X) (i : ℕ) (slots : List Slot) (k : ℕ) (slot : Slot)
     → slice_get slots k ≡ Some slot → list_any p (has (i + k) slot) ≡ true → list_any p (by_slot has i slots) ≡ true
 any_by_slot p has i [] k slot e h = absurd (cc)
 any_by_slot p has i (s ∷ slots) zero slot e h =
@@ -70,7 +70,7 @@ any_by_slot p has i (s ∷ slots) (suc k) slot e h =
     one_more : (n k : ℕ) → suc n + k ≡ n + suc k
     one_more n k = omega arith
 
-any_made : {X : Type 0} (p : X → Bool) (f : ℕ → X) (test : ℕ → Bool) (c : ℕ) → p (f c) ≡ true → test c ≡ true
+pub any_made : {X : Type 0} (p : X → Bool) (f : ℕ → X) (test : ℕ → Bool) (c : ℕ) → p (f c) ≡ true → test c ≡ true
     → (ms : List ℕ) → list_any (λ d. c == d) ms ≡ true → list_any p (map f (filter test ms)) ≡ true
 any_made p f test c good passes [] h = absurd (cc)
 any_made p f test c good passes (m ∷ ms) h =

@@ -127,7 +127,7 @@ domain_at marks c (y ∷ xs) (suc k) x e =
     one_more : (n k : ℕ) → suc n + k ≡ n + suc k
     one_more n k = omega arith
 
-numbers_same : (ns : List ℕ) → same_numbers ns ns ≡ true
+pub numbers_same : (ns : List ℕ) → same_numbers ns ns ≡ true
 numbers_same [] = refl
 numbers_same (n ∷ ns) = and_from (n == n) (same_numbers ns ns) (eq-eqb n n refl) (numbers_same ns)
 
@@ -183,7 +183,7 @@ set_texts_are model tables plan keeps is slots x set =
     ∙ texts_kept (cuts_at marks (0 + x.characteristic)) found.0.values (sym (ap multiple_in found.1) ∙ set.multiple)
 
 -- a characteristic of one value has no sets
-no_sets : (model : Model) (slots c : ℕ) (sets : List TextSet) → Each (IsSet model slots) sets → is_multiple model c ≡ false
+pub no_sets : (model : Model) (slots c : ℕ) (sets : List TextSet) → Each (IsSet model slots) sets → is_multiple model c ≡ false
     → not (list_any (λ x. x.characteristic == c) sets) ≡ true
 no_sets model slots c sets all single =
     none_from (λ x. x.characteristic == c) sets

@@ -1,4 +1,5 @@
 pub mod Bills
+pub mod Classes
 pub mod Compiles
 pub mod Guards
 pub mod Lists

@@ -2,6 +2,7 @@
 //! function that does nothing.
 
 ghost use Rattle.vc_compile_laws.specs.Bills.{HasBills};
+ghost use Rattle.vc_compile_laws.specs.Classes.{HasClasses};
 ghost use Rattle.vc_compile_laws.specs.Compiles.{CompiledKeeps};
 ghost use Rattle.vc_compile_laws.specs.Guards.{HasGuards};
 ghost use Rattle.vc_compile_laws.specs.Lists.{HasLists};
@@ -73,4 +74,9 @@ pub fn compiled_plans_have_orders()
 /// A slot has at most 1,000 lines and 1,000 operations.
 pub fn compiled_plans_have_few_lines()
     ensures { CompiledKeeps HasFewLines }
+{}
+
+/// A slot has a set for each characteristic of its class that has sets, and a variable for each other, in class order.
+pub fn compiled_plans_have_classes()
+    ensures { CompiledKeeps HasClasses }
 {}
