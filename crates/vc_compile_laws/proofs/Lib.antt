@@ -11,6 +11,7 @@ pub mod OrderLaws
 pub mod SizeLaws
 pub mod SlotLaws
 pub mod StandingLaws
+pub mod StatementLaws
 pub mod TableLaws
 pub mod TextLaws
 pub mod ThingLaws

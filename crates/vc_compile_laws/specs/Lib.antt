@@ -6,6 +6,7 @@ pub mod Lists
 pub mod Orders
 pub mod Sizes
 pub mod Slots
+pub mod Statements
 pub mod Tables
 pub mod Variables
 pub mod Words

@@ -9,6 +9,7 @@ ghost use Rattle.vc_compile_laws.specs.Lists.{HasLists};
 ghost use Rattle.vc_compile_laws.specs.Orders.{HasFewLines, HasOrders};
 ghost use Rattle.vc_compile_laws.specs.Sizes.{HasCounts, IsWithin};
 ghost use Rattle.vc_compile_laws.specs.Slots.{HasSlots};
+ghost use Rattle.vc_compile_laws.specs.Statements.{HasFewStatements};
 ghost use Rattle.vc_compile_laws.specs.Tables.{HasTables};
 ghost use Rattle.vc_compile_laws.specs.Variables.{HasVariables};
 ghost use Rattle.vc_compile_laws.specs.Words.{HasTexts, HasWords};
@@ -79,4 +80,9 @@ pub fn compiled_plans_have_few_lines()
 /// A slot has a set for each characteristic of its class that has sets, and a variable for each other, in class order.
 pub fn compiled_plans_have_classes()
     ensures { CompiledKeeps HasClasses }
+{}
+
+/// The statements of its procedures have numbers of 32 bits.
+pub fn compiled_plans_have_few_statements()
+    ensures { CompiledKeeps HasFewStatements }
 {}
