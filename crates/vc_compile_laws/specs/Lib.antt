@@ -1,0 +1,12 @@
+pub mod Bills
+pub mod Classes
+pub mod Compiles
+pub mod Guards
+pub mod Lists
+pub mod Orders
+pub mod Sizes
+pub mod Slots
+pub mod Statements
+pub mod Tables
+pub mod Variables
+pub mod Words

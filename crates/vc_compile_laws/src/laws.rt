@@ -1,0 +1,88 @@
+//! Laws of the plans of models that texts spell, with their tables read and no fault told, each the contract of a
+//! function that does nothing.
+
+ghost use Rattle.vc_compile_laws.specs.Bills.{HasBills};
+ghost use Rattle.vc_compile_laws.specs.Classes.{HasClasses};
+ghost use Rattle.vc_compile_laws.specs.Compiles.{CompiledKeeps};
+ghost use Rattle.vc_compile_laws.specs.Guards.{HasGuards};
+ghost use Rattle.vc_compile_laws.specs.Lists.{HasLists};
+ghost use Rattle.vc_compile_laws.specs.Orders.{HasFewLines, HasOrders};
+ghost use Rattle.vc_compile_laws.specs.Sizes.{HasCounts, IsWithin};
+ghost use Rattle.vc_compile_laws.specs.Slots.{HasSlots};
+ghost use Rattle.vc_compile_laws.specs.Statements.{HasFewStatements};
+ghost use Rattle.vc_compile_laws.specs.Tables.{HasTables};
+ghost use Rattle.vc_compile_laws.specs.Variables.{HasVariables};
+ghost use Rattle.vc_compile_laws.specs.Words.{HasTexts, HasWords};
+
+/// In each such plan names, materials and units are spelled, and of each kind a name stands once.
+pub fn compiled_plans_have_words()
+    ensures { CompiledKeeps HasWords }
+{}
+
+/// No more things of a kind are in it than a model may have.
+pub fn compiled_plans_have_counts()
+    ensures { CompiledKeeps HasCounts }
+{}
+
+/// Its slots, rules, atoms and cells are within the limits.
+pub fn compiled_plans_are_within()
+    ensures { CompiledKeeps IsWithin }
+{}
+
+/// Its texts are UTF-8, of 1 to 30 characters and different, and those that are listed have no control characters.
+pub fn compiled_plans_have_texts()
+    ensures { CompiledKeeps HasTexts }
+{}
+
+/// Its lists name texts and numbers that may be stored, each value once; its classes name characteristics, each once.
+pub fn compiled_plans_have_lists()
+    ensures { CompiledKeeps HasLists }
+{}
+
+/// The columns of its tables are of different characteristics, and rows have a value of its list for each, and keys of
+/// their own.
+pub fn compiled_plans_have_tables()
+    ensures { CompiledKeeps HasTables }
+{}
+
+/// Its slots name slots and objects that it has, the first is the root, and none is deeper than the fourth level.
+pub fn compiled_plans_have_slots()
+    ensures { CompiledKeeps HasSlots }
+{}
+
+/// Its variables and sets are those of its slots' classes, by slot, and have the domains of their characteristics; no
+/// column of a table is of one that has sets.
+pub fn compiled_plans_have_variables()
+    ensures { CompiledKeeps HasVariables }
+{}
+
+/// Its lines and operations are of slots that it has, with terms and conditions that it has, and their words are spelled.
+pub fn compiled_plans_have_bills()
+    ensures { CompiledKeeps HasBills }
+{}
+
+/// Its preconditions and requirements name variables, sets, dependencies and conditions that it has, and a precondition
+/// of a value names one that is listed.
+pub fn compiled_plans_have_guards()
+    ensures { CompiledKeeps HasGuards }
+{}
+
+/// Its lines are by slot and item, and its operations by slot and number.
+pub fn compiled_plans_have_orders()
+    ensures { CompiledKeeps HasOrders }
+{}
+
+/// A slot has at most 1,000 lines and 1,000 operations.
+pub fn compiled_plans_have_few_lines()
+    ensures { CompiledKeeps HasFewLines }
+{}
+
+/// A slot has a set for each characteristic of its class that has sets, and a variable for each other, in class order.
+pub fn compiled_plans_have_classes()
+    ensures { CompiledKeeps HasClasses }
+{}
+
+/// The statements of its procedures have numbers of 32 bits.
+pub fn compiled_plans_have_few_statements()
+    ensures { CompiledKeeps HasFewStatements }
+{}
