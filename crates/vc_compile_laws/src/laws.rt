@@ -56,7 +56,8 @@ pub fn compiled_plans_have_variables()
     ensures { CompiledKeeps HasVariables }
 {}
 
-/// Its lines and operations are of slots that it has, with terms and conditions that it has, and their words are spelled.
+/// Its lines and operations are of slots that it has, with terms and conditions that it has, and their words are
+/// spelled.
 pub fn compiled_plans_have_bills()
     ensures { CompiledKeeps HasBills }
 {}

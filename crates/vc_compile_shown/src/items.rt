@@ -50,7 +50,8 @@ fn selections_of<'n>(
     layout: &Layout<'n, '_>,
     item: &BillItem,
 ) -> Result<Listed<Asked<'n>>, AllocError>
-    ensures { IfOk result (λ asked. (site : sites.Site) → map (shown.choice_at (layout_seen layout.now) site) (map asked_seen asked)
+    ensures { IfOk result (λ asked. (site : sites.Site)
+        → map (shown.choice_at (layout_seen layout.now) site) (map asked_seen asked)
         ≡ shown.line_choices (layout_seen layout.now) site (item.now).component (item.now).uses) }
 {
     match item.component {
