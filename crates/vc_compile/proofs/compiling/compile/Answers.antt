@@ -34,3 +34,6 @@ returns-clause-sound c =
     let its : layout_seen c.in_ok-layout.layout ≡ layout_of c.args.model.now = c.in_ok-layout.ensures ∙ ap layout_of c.in_ok-names.ensures in
     plan_is_sound c.args.model.now c.args.tables.now c.in_ok-standings.standings c.in_ok-plan.plan
     c.in_ok-standings.ensures.standings (subst (λ layout. IsPlanWithin layout c.args.tables.now c.in_ok-plan.plan) its c.in_ok-plan.ensures.plan)
+
+pub returns-clause-within : goal.returns-clause-within
+returns-clause-within c = (c.in_ok-plan.ensures.plan).within
