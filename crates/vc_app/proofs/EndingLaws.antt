@@ -1,5 +1,5 @@
 -- Laws of endings.
-use Rattle.std.proofs.Common.{◌≡◌, ℕ, ◌<◌, ◌≤◌, Bool, true, List, [], ◌∷◌, length, get_or, sym, ◌∙◌, arith, Option, Result, Ok, Err, IfOk, IfErr}
+use Rattle.std.proofs.Common.{◌≡◌, ℕ, ◌<◌, ◌≤◌, Bool, true, List, [], ◌∷◌, length, get_or, sym, ap, ◌∙◌, arith, Option, Result, Ok, Err, IfOk, IfErr}
 use Rattle.std.specs.Prelude.{codes, string_bytes}
 use Rattle.std.specs.Str.{bytes_eq}
 use Rattle.std.specs.declared.string.String.{String}
@@ -7,7 +7,7 @@ use Rattle.std.specs.declared.alloc.Global.{Global}
 use Rattle.std.proofs.lemmas.Slice.Eq.{bytes_eq-Decides}
 use Rattle.vc_outside.specs.Shelves.{Files, Holds}
 use Rattle.vc_outside.specs.declared.file.TheConstants.{FILE_LIMIT}
-use Rattle.vc_app.specs.Endings.{Words, Outside, IsRun, LoadsJob, LoadsRun, StopsText, StopsJob, Causes, EndsJob, Ends}
+use Rattle.vc_app.specs.Endings.{Words, Outside, IsCheck, IsRun, LoadsJob, LoadsRun, StopsText, StopsJob, Causes, EndsJob, Ends}
 use Rattle.vc_app.specs.declared.loading.Job.{Job}
 use Rattle.vc_app.specs.declared.ending.Stop.{Stop}
 use Rattle.vc_app.specs.declared.ending.Stop.TheVariants as stops
@@ -62,3 +62,20 @@ run_words (x ∷ y ∷ z ∷ []) a b d command model script is_run least most p 
     let run : command ≡ codes "run" = (bytes_eq-Decides command (codes "run")).0 (sym test ∙ holds) in
     cc
 run_words (x ∷ y ∷ z ∷ w ∷ more) a b d command model script is_run least most p q r s t u test holds = absurd (omega arith)
+
+-- two words of which the first is `check`
+pub check_words : (words : Words) (a b : String Global) (command model : List ℕ) (is_check : Bool)
+    → 2 ≤ length words → length words < 3 → a ≡ get_or words 0 a → b ≡ get_or words 1 b
+    → command ≡ string_bytes a → model ≡ string_bytes b
+    → is_check ≡ bytes_eq command (codes "check") → is_check ≡ true → IsCheck words model
+check_words [] a b command model is_check least most p q r s test holds = absurd (omega arith)
+check_words (x ∷ []) a b command model is_check least most p q r s test holds = absurd (omega arith)
+check_words (x ∷ y ∷ []) a b command model is_check least most p q r s test holds =
+    let check : command ≡ codes "check" = (bytes_eq-Decides command (codes "check")).0 (sym test ∙ holds) in
+    cc
+check_words (x ∷ y ∷ z ∷ more) a b command model is_check least most p q r s test holds = absurd (omega arith)
+
+-- words ask to check one name
+pub one_name : (words : Words) (a b : List ℕ) → IsCheck words a → IsCheck words b → a ≡ b
+one_name words a b p q =
+    let e : codes "check" ∷ (a ∷ []) ≡ codes "check" ∷ (b ∷ []) = sym p ∙ q in ap (λ xs. get_or xs 1 a) e

@@ -1,16 +1,19 @@
 -- How the program ends, why, and what it has written then.
-use Rattle.std.specs.Prelude.{◌≡◌, ℕ, ◌≤◌, List, [], ◌∷◌, ◌++◌, length, map, codes, slice_get, Option, string_bytes}
+use Rattle.std.specs.Prelude.{◌≡◌, ℕ, ◌≤◌, List, [], ◌∷◌, length, map, codes, slice_get, Option, string_bytes}
 use Rattle.std.specs.Option.{option_map_or}
 use Rattle.std.specs.Io.KnownBytes.{Appends}
 use Rattle.std.specs.declared.string.String.{String}
 use Rattle.std.specs.declared.alloc.Global.{Global}
 use Rattle.vc_outside.specs.Faults.{Raised}
-use Rattle.vc_outside.specs.Shelves.{Files, Holds, Lacks, Exceeds}
+use Rattle.vc_outside.specs.Shelves.{Files, Holds}
 use Rattle.vc_outside.specs.Sinks.{AppendsFront}
 use Rattle.vc_outside.specs.declared.file.FileFault.{FileFault}
-use Rattle.vc_outside.specs.declared.file.FileFault.TheVariants as faults
 use Rattle.vc_outside.specs.declared.file.TheConstants.{FILE_LIMIT}
 use Rattle.vc_plan.specs.declared.first.plans.Plan.{Plan}
+pub use Rattle.vc_app_models.specs.Loading.{IsUnread}
+pub use Rattle.vc_app_check.specs.Checking.{Outside, outside}
+pub use Rattle.vc_app_check.specs.Lines.{file_line}
+pub use Rattle.vc_app_check.specs.Statuses.{file_status}
 use Rattle.vc_app.specs.Transcript.{AnswersAll, AnswersSome, BreaksOff}
 use Rattle.vc_first.specs.declared.form.FirstForm.{FirstForm}
 use Rattle.vc_first.specs.Lines.{Spells}
@@ -26,31 +29,16 @@ use Rattle.vc_app.specs.declared.ending.Ending.TheVariants as endings
 abbrev pub Words : Type 0
 Words = List (String Global)
 
--- what lies outside: the files that the shelf tells, and before and after the call the shelf's faults, what the sink
--- tells, and the sink's faults
-pub record Outside : Type 0 where
-  pub files : Option Files
-  pub shelf_before : ℕ
-  pub shelf_after : ℕ
-  pub written_before : Option (List ℕ)
-  pub written_after : Option (List ℕ)
-  pub sink_before : ℕ
-  pub sink_after : ℕ
-
-abbrev pub outside : Option Files → ℕ → ℕ → Option (List ℕ) → Option (List ℕ) → ℕ → ℕ → Outside
-outside files shelf_before shelf_after written_before written_after sink_before sink_after = record {
-  files = files;
-  shelf_before = shelf_before;
-  shelf_after = shelf_after;
-  written_before = written_before;
-  written_after = written_after;
-  sink_before = sink_before;
-  sink_after = sink_after;
-}
-
 -- the words are `run` and two names
 abbrev pub IsRun : Words → List ℕ → List ℕ → Type 0
 IsRun words model script = map string_bytes words ≡ codes "run" ∷ (model ∷ (script ∷ []))
+
+-- the words are `check` and a name
+abbrev pub IsCheck : Words → List ℕ → Type 0
+IsCheck words model = map string_bytes words ≡ codes "check" ∷ (model ∷ [])
+
+abbrev pub IsNoCheck : Words → Type 0
+IsNoCheck words = (model : List ℕ) → ¬ IsCheck words model
 
 -- the words are no command
 abbrev pub IsNoCommand : Words → Type 0
@@ -95,13 +83,6 @@ pub record LoadsJob (files : Option Files) (model script : List ℕ) (job : Job)
 abbrev pub LoadsRun : Words → Option Files → Job → Type 0
 LoadsRun words files job = (model : List ℕ) × (script : List ℕ) × IsRun words model script × LoadsJob files model script job
 
--- why a file was not read: it isn't there, the shelf's count of faults rose, it is too large, or memory was wanting
-abbrev pub IsUnread : Option Files → ℕ → ℕ → List ℕ → FileFault → Type 0
-IsUnread files before after name faults.Missing = Lacks files name
-IsUnread files before after name faults.Failed = Raised before after
-IsUnread files before after name faults.TooLarge = Exceeds FILE_LIMIT files name
-IsUnread files before after name faults.OutOfMemory = Unit {0}
-
 -- why a file of the command was not read: the model's comes first, and the script's once that is a model's
 abbrev pub IsFileUnread : Option Files → ℕ → ℕ → List ℕ → List ℕ → NamedFile → FileFault → Type 0
 IsFileUnread files before after model script Model fault = IsUnread files before after model fault
@@ -135,32 +116,18 @@ place_of Script = 2
 abbrev pub name_in : Words → NamedFile → List ℕ
 name_in words file = option_map_or string_bytes (slice_get words (place_of file)) []
 
--- what is said of a file that was not read
-abbrev pub fault_line : List ℕ → FileFault → List ℕ
-fault_line name faults.Missing = codes "no such file: " ++ (name ++ codes "\n")
-fault_line name faults.Failed = codes "read fault: " ++ (name ++ codes "\n")
-fault_line name faults.TooLarge = codes "too large: " ++ (name ++ codes "\n")
-fault_line name faults.OutOfMemory = codes "no memory\n"
-
 -- the line that says why nothing was answered
 abbrev pub stop_line : Words → Stop → List ℕ
 stop_line words stops.Usage = codes "usage: configd check MODEL, run MODEL SCRIPT [KEEPFILE], serve MODEL ADDRESS N [KEEPFILE], verify MODEL CHAIN, gen N\n"
 stop_line words stops.ModelRefused = codes "model refused: text 0 line 0\n"
-stop_line words (stops.Unread file fault) = fault_line (name_in words file) fault
+stop_line words (stops.Unread file fault) = file_line (name_in words file) fault
 stop_line words stops.OutOfMemory = codes "no memory\n"
-
--- the status of a file that was not read
-abbrev pub fault_status : FileFault → ℕ
-fault_status faults.Missing = 3
-fault_status faults.Failed = 4
-fault_status faults.TooLarge = 11
-fault_status faults.OutOfMemory = 8
 
 -- the status where nothing was answered
 abbrev pub stop_status : Stop → ℕ
 stop_status stops.Usage = 1
 stop_status stops.ModelRefused = 2
-stop_status (stops.Unread file fault) = fault_status fault
+stop_status (stops.Unread file fault) = file_status fault
 stop_status stops.OutOfMemory = 8
 
 -- the exit status

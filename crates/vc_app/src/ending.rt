@@ -6,6 +6,7 @@ ghost use Rattle.vc_outside.specs.Sinks.{AppendsFront};
 ghost use Rattle.std.specs.Io.KnownBytes.{Appends};
 ghost use Rattle.vc_app.specs.Endings as endings;
 
+use vc_app_check::stops::file_status;
 use vc_outside::{Failed, FileFault, Sink, write_all};
 
 /// A file that the command names.
@@ -45,17 +46,6 @@ pub enum Ending {
     ExhaustedCut,
 }
 
-fn fault_status(fault: FileFault) -> u8
-    ensures { result ≡ endings.fault_status fault }
-{
-    match fault {
-        FileFault::Missing => 3,
-        FileFault::Failed => 4,
-        FileFault::TooLarge => 11,
-        FileFault::OutOfMemory => 8,
-    }
-}
-
 impl Stop {
     fn status(self) -> u8
         ensures { result ≡ endings.stop_status self }
@@ -63,7 +53,7 @@ impl Stop {
         match self {
             Stop::Usage => 1,
             Stop::ModelRefused => 2,
-            Stop::Unread { file: _, fault } => fault_status(fault),
+            Stop::Unread { file: _, fault } => file_status(fault),
             Stop::OutOfMemory => 8,
         }
     }
@@ -127,9 +117,9 @@ fn write_texts<S: Sink>(out: &mut S, before: &str, name: &str, after: &str) -> R
 
 fn write_fault<S: Sink>(out: &mut S, name: &str, fault: FileFault) -> Result<(), Failed>
     ensures ok { OnOk result (Appends (S.written out.old) (S.written out.new)
-        (endings.fault_line name.now fault)) }
+        (endings.file_line name.now fault)) }
     ensures err { OnErr result (AppendsFront (S.written out.old) (S.written out.new)
-        (endings.fault_line name.now fault)) }
+        (endings.file_line name.now fault)) }
     ensures cause { HasCause (S.faults out.old) (S.faults out.new) result }
 {
     match fault {

@@ -1,16 +1,14 @@
-//! What a command asks for: a plan and the text of a script.
+//! What a command asks for: to check a model, or a plan and the text of a script.
 
-ghost use Rattle.std.specs.Prelude.{◌≡◌, ◌≤◌, length, IfOk, IfErr};
-ghost use Rattle.vc_outside.specs.Faults.{Raised};
-ghost use Rattle.vc_outside.specs.Shelves.{Holds};
-ghost use Rattle.vc_outside.specs.declared.file.TheConstants.{FILE_LIMIT};
+ghost use Rattle.std.specs.Prelude.{◌≡◌, ◌≤◌, IfOk, IfErr, IfSome, IfNone};
 ghost use Rattle.vc_plan.specs.First.Plans.{IsValid};
 ghost use Rattle.vc_app.specs.Endings as endings;
 
 use crate::ending::{NamedFile, Stop};
-use std::alloc::{AllocError, Global};
+use std::alloc::Global;
+use vc_app_models::read_file;
 use vc_first::{plan_of_form, read_first_form};
-use vc_outside::{FileFault, Shelf, read_whole};
+use vc_outside::Shelf;
 use vc_plan::first::Plan;
 use vc_value::Word;
 
@@ -35,18 +33,6 @@ fn load_plan(alloc: Global, text: &[u8]) -> Result<Plan, Stop>
         Ok(None) => Err(Stop::ModelRefused),
         Err(_) => Err(Stop::OutOfMemory),
     }
-}
-
-fn read_file<F: Shelf>(alloc: Global, shelf: &mut F, name: &str) -> Result<Word, FileFault>
-    ensures holds { IfOk result (λ bytes. Holds (F.files shelf.old) name.now bytes) }
-    ensures small { IfOk result (λ bytes. length bytes ≤ FILE_LIMIT) }
-    ensures unread { IfErr result (endings.IsUnread (F.files shelf.old) (F.faults shelf.old)
-        (F.faults shelf.new) name.now) }
-    ensures files { F.files shelf.new ≡ F.files shelf.old }
-    ensures later { F.faults shelf.old ≤ F.faults shelf.new }
-{
-    let bytes = read_whole(alloc, shelf, name)?;
-    Ok(Word::from_vec(bytes))
 }
 
 /// Reads the model, then the script.
@@ -92,5 +78,16 @@ pub fn load_job<F: Shelf>(alloc: Global, shelf: &mut F, words: &[String]) -> Res
             load_named(alloc, shelf, model.as_str(), script.as_str())
         }
         _ => Err(Stop::Usage),
+    }
+}
+
+/// The name of the model that the words ask to check, if they do.
+pub fn checked_name(words: &[String]) -> Option<&str>
+    ensures some { IfSome result (λ name. endings.IsCheck words.now name.now) }
+    ensures none { IfNone result (endings.IsNoCheck words.now) }
+{
+    match words {
+        [command, model] if command.as_str() == "check" => Some(model.as_str()),
+        _ => None,
     }
 }

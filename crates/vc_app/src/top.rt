@@ -1,9 +1,10 @@
 //! The top call.
 
-ghost use Rattle.std.specs.Prelude.{◌≡◌, ◌≤◌, OnOk};
+ghost use Rattle.std.specs.Prelude.{◌≡◌, ℕ, List, ◌≤◌, OnOk};
 ghost use Rattle.std.specs.Result.{IsErrOf};
 ghost use Rattle.vc_outside.specs.Faults.{Raised};
 ghost use Rattle.vc_plan.specs.First.Plans.{IsValid};
+ghost use Rattle.vc_app_check.specs.Checking.{EndsCheck};
 ghost use Rattle.vc_app.specs.Endings as endings;
 ghost use Rattle.vc_app.specs.Endings.{outside};
 ghost use Rattle.vc_app.specs.Exactness.{IsExact};
@@ -11,9 +12,10 @@ ghost use Rattle.vc_app.specs.Statuses.{IsStatus};
 ghost use Rattle.vc_app.specs.Transcript as transcript;
 
 use crate::ending::{Ending, say_stop, write_text};
-use crate::loading::{Job, load_job};
+use crate::loading::{Job, checked_name, load_job};
 use crate::transcript::{ScriptFault, answer_script};
 use std::alloc::Global;
+use vc_app_check::check;
 use vc_outside::{Failed, Shelf, Sink};
 use vc_plan::first::Plan;
 
@@ -81,16 +83,24 @@ fn end<F: Shelf, S: Sink>(alloc: Global, words: &[String], shelf: &mut F, out: &
 
 /// Does what the words ask, which stand behind the program's name, and answers the exit status.
 pub fn desk<F: Shelf, S: Sink>(alloc: Global, words: &[String], shelf: &mut F, out: &mut S) -> u8
-    // What each status promises, one field a status: its cause, and what was written.
-    ensures status { IsStatus words.now
+    // `check`: what the model comes to is said, and nothing else.
+    ensures check { (name : List ℕ) → endings.IsCheck words.now name → EndsCheck name
+        (outside (F.files shelf.old) (F.faults shelf.old) (F.faults shelf.new) (S.written out.old)
+        (S.written out.new) (S.faults out.old) (S.faults out.new))
+        result }
+    // Of other words, what each status promises, one field a status: its cause, and what was written.
+    ensures status { endings.IsNoCheck words.now → IsStatus words.now
         (outside (F.files shelf.old) (F.faults shelf.old) (F.faults shelf.new) (S.written out.old)
         (S.written out.new) (S.faults out.old) (S.faults out.new))
         result }
     // Each cause that words and files decide has its own status, unless a count of faults rose or memory was wanting.
-    ensures exact { IsExact words.now
+    ensures exact { endings.IsNoCheck words.now → IsExact words.now
         (outside (F.files shelf.old) (F.faults shelf.old) (F.faults shelf.new) (S.written out.old)
         (S.written out.new) (S.faults out.old) (S.faults out.new))
         result }
 {
-    end(alloc, words, shelf, out).status()
+    match checked_name(words) {
+        Some(name) => check(alloc, shelf, name, out),
+        None => end(alloc, words, shelf, out).status(),
+    }
 }

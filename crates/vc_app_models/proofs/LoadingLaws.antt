@@ -18,8 +18,7 @@ use Rattle.vc_table.specs.declared.table.TableFault.{TableFault}
 use Rattle.vc_table.specs.declared.table.TableFault.TheVariants as table_faults
 use Rattle.vc_table.specs.declared.table.VariantTable.{VariantTable}
 use Rattle.vc_value.specs.declared.table_header.TableHeader.{TableHeader}
-use Rattle.vc_app_models.specs.Loading.{rows_in, rows_at, stop_at, IsModelIn, IsTableIn, IsNoTableIn, AreTablesIn, IsUnread, IsTextStop, IsTableAt, IsTableStop, AreReadUpTo, IsTablesStop, IsStop}
-use Rattle.vc_app_models.specs.declared.stop.ModelFile.TheVariants as places
+use Rattle.vc_app_models.specs.Loading.{rows_in, rows_at, stop_at, IsModelIn, IsTableIn, IsNoTableIn, AreTablesIn, IsUnread, IsTextStop, IsTableAt, IsTableStop, IsNextTable, IsTablesStop, IsWholeIn, IsCompileStop, IsStop}
 use Rattle.vc_app_models.specs.declared.stop.ModelStop.{ModelStop}
 use Rattle.vc_app_models.specs.declared.stop.ModelStop.TheVariants as stops
 
@@ -61,10 +60,10 @@ table_read files model number file name text table h same held small rows =
 
 pub table_unread : (files : Option Files) (before after : ℕ) (model : Model) (number : ℕ) (file name : List ℕ) (fault : FileFault)
     → option_map (λ (t : Table). t.file) (slice_get model.tables number) ≡ Some file → name ≡ file
-    → IsUnread files before after name fault → IsTableStop files before after model number (stops.Unread (places.Table number) fault)
+    → IsUnread files before after name fault → IsTableStop files before after model number (stops.TableUnread name fault)
 table_unread files before after model number file name fault h same unread =
     let d = mapped (λ (t : Table). t.file) (slice_get model.tables number) file h in
-    (d.0, d.1, refl, subst (λ n. IsUnread files before after n fault) (same ∙ sym d.2) unread)
+    (d.0, d.1, same ∙ sym d.2, subst (λ n. IsUnread files before after n fault) (same ∙ sym d.2) unread)
 
 no_table : (files : Option Files) (model : Model) (number : ℕ) (file name text : List ℕ) (fault : TableFault)
     → option_map (λ (t : Table). t.file) (slice_get model.tables number) ≡ Some file → name ≡ file
@@ -83,28 +82,43 @@ no_table files model number file name text fault h same held small rows =
     )
 
 -- a table whose file holds no rows of it stops there
-pub table_refused : (files : Option Files) (before after : ℕ) (model : Model) (number : ℕ) (file name text : List ℕ) (fault : TableFault)
+refused_there : (files : Option Files) (model : Model) (number : ℕ) (declared_name : List ℕ) (fault : TableFault)
+    → option_map (λ (t : Table). t.name) (slice_get model.tables number) ≡ Some declared_name → fault ≢ table_faults.OutOfMemory
+    → (declared : Table) × (slice_get model.tables number ≡ Some declared) × IsNoTableIn files model declared fault
+    → (declared : Table) × (slice_get model.tables number ≡ Some declared) × (declared_name ≡ declared.name)
+    × (fault ≢ table_faults.OutOfMemory) × IsNoTableIn files model declared fault
+refused_there files model number declared_name fault named told d = (
+  d.0,
+  d.1,
+  sym (same_Some d.0.name declared_name (sym (ap (option_map (λ (t : Table). t.name)) d.1) ∙ named)),
+  told,
+  d.2,
+)
+
+pub table_refused : (files : Option Files) (before after : ℕ) (model : Model) (number : ℕ) (file name text declared_name : List ℕ)
+    (fault : TableFault)
     → option_map (λ (t : Table). t.file) (slice_get model.tables number) ≡ Some file → name ≡ file
+    → option_map (λ (t : Table). t.name) (slice_get model.tables number) ≡ Some declared_name
     → Holds files name text → length text ≤ FILE_LIMIT
     → (fault ≢ table_faults.OutOfMemory → rows_at model number text ≡ Some (Err fault))
-    → IsTableStop files before after model number (stop_at number fault)
-table_refused files before after model number file name text (table_faults.Columns row) h same held small rows =
+    → IsTableStop files before after model number (stop_at declared_name fault)
+table_refused files before after model number file name text declared_name (table_faults.Columns row) h same named held small rows =
     let told : table_faults.Columns row ≢ table_faults.OutOfMemory = λ e. none-some 1 (sym (ap number_of e)) in
-    let d = no_table files model number file name text (table_faults.Columns row) h same held small (rows told) in
-    (d.0, d.1, refl, told, d.2)
-table_refused files before after model number file name text (table_faults.Cell row) h same held small rows =
+    refused_there files model number declared_name (table_faults.Columns row) named told
+    (no_table files model number file name text (table_faults.Columns row) h same held small (rows told))
+table_refused files before after model number file name text declared_name (table_faults.Cell row) h same named held small rows =
     let told : table_faults.Cell row ≢ table_faults.OutOfMemory = λ e. none-some 2 (sym (ap number_of e)) in
-    let d = no_table files model number file name text (table_faults.Cell row) h same held small (rows told) in
-    (d.0, d.1, refl, told, d.2)
-table_refused files before after model number file name text (table_faults.DoubleKey row) h same held small rows =
+    refused_there files model number declared_name (table_faults.Cell row) named told
+    (no_table files model number file name text (table_faults.Cell row) h same held small (rows told))
+table_refused files before after model number file name text declared_name (table_faults.DoubleKey row) h same named held small rows =
     let told : table_faults.DoubleKey row ≢ table_faults.OutOfMemory = λ e. none-some 3 (sym (ap number_of e)) in
-    let d = no_table files model number file name text (table_faults.DoubleKey row) h same held small (rows told) in
-    (d.0, d.1, refl, told, d.2)
-table_refused files before after model number file name text table_faults.TooManyRows h same held small rows =
+    refused_there files model number declared_name (table_faults.DoubleKey row) named told
+    (no_table files model number file name text (table_faults.DoubleKey row) h same held small (rows told))
+table_refused files before after model number file name text declared_name table_faults.TooManyRows h same named held small rows =
     let told : table_faults.TooManyRows ≢ table_faults.OutOfMemory = λ e. none-some 4 (sym (ap number_of e)) in
-    let d = no_table files model number file name text table_faults.TooManyRows h same held small (rows told) in
-    (d.0, d.1, refl, told, d.2)
-table_refused files before after model number file name text table_faults.OutOfMemory h same held small rows = tt
+    refused_there files model number declared_name table_faults.TooManyRows named told
+    (no_table files model number file name text table_faults.TooManyRows h same held small (rows told))
+table_refused files before after model number file name text declared_name table_faults.OutOfMemory h same named held small rows = tt
 
 -- one table more
 tables_more : (files : Option Files) (model : Model) (declared : List Table) (tables : List VariantTable) (next : Table) (table : VariantTable)
@@ -133,43 +147,62 @@ unread_since files earlier before after name faults.Failed later h = raised_sinc
 unread_since files earlier before after name faults.TooLarge later h = h
 unread_since files earlier before after name faults.OutOfMemory later h = tt
 
--- the tables before the one of this number
-up_to : (files : Option Files) (model : Model) (number table : ℕ) (tables : List VariantTable) (declared : Table)
-    → length tables ≡ number → AreTablesIn files model model.tables tables → slice_get model.tables number ≡ Some declared → table ≡ number
-    → AreReadUpTo files model table declared
-up_to files model number table tables declared count are is same = record {
+-- what stops at a table stops the tables
+next_table : (files : Option Files) (model : Model) (number : ℕ) (tables : List VariantTable) (declared : Table)
+    → length tables ≡ number → AreTablesIn files model model.tables tables → slice_get model.tables number ≡ Some declared
+    → IsNextTable files model declared
+next_table files model number tables declared count are is = record {
   tables = tables;
   before = are;
-  count = count ∙ sym same;
-  declared_is = ap (slice_get model.tables) same ∙ is;
+  declared_is = ap (slice_get model.tables) count ∙ is;
 }
 
--- what stops at a table stops the tables
 pub table_stops : (files : Option Files) (earlier before after : ℕ) (model : Model) (number : ℕ) (tables : List VariantTable) (stop : ModelStop)
     → length tables ≡ number → AreTablesIn files model model.tables tables → earlier ≤ before
     → IsTableStop files before after model number stop → IsTablesStop files earlier after model stop
-table_stops files earlier before after model number tables (stops.Unread places.Text fault) count are later h = absurd h
-table_stops files earlier before after model number tables (stops.Unread (places.Table table) fault) count are later h =
-    (h.0, up_to files model number table tables h.0 count are h.1 h.2, unread_since files earlier before after h.0.file fault later h.3)
+table_stops files earlier before after model number tables (stops.Unread fault) count are later h = absurd h
 table_stops files earlier before after model number tables (stops.TextRefused kind line) count are later h = absurd h
+table_stops files earlier before after model number tables (stops.TableUnread file fault) count are later h = (
+  h.0,
+  next_table files model number tables h.0 count are h.1,
+  h.2,
+  unread_since files earlier before after h.0.file fault later h.3,
+)
 table_stops files earlier before after model number tables (stops.TableRefused table fault) count are later h =
-    (h.0, up_to files model number table tables h.0 count are h.1 h.2, h.3, h.4)
+    (h.0, next_table files model number tables h.0 count are h.1, h.2, h.3, h.4)
+table_stops files earlier before after model number tables (stops.Uncompiled fault) count are later h = absurd h
 table_stops files earlier before after model number tables stops.OutOfMemory count are later h = tt
 
 -- what stops at the model's text stops the model
 pub text_stops : (files : Option Files) (before after : ℕ) (name text : List ℕ) (stop : ModelStop)
     → Holds files name text → length text ≤ FILE_LIMIT → IsTextStop text stop → IsStop files before after name stop
-text_stops files before after name text (stops.Unread file fault) held small h = absurd h
-text_stops files before after name text (stops.TextRefused kind line) held small h = record { text = text; held = held; small = small; fault = h }
+text_stops files before after name text (stops.Unread fault) held small h = absurd h
+text_stops files before after name text (stops.TextRefused kind line) held small h =
+    record { text = text; held = held; small = small; fault = h }
+text_stops files before after name text (stops.TableUnread file fault) held small h = absurd h
 text_stops files before after name text (stops.TableRefused table fault) held small h = absurd h
+text_stops files before after name text (stops.Uncompiled fault) held small h = absurd h
 text_stops files before after name text stops.OutOfMemory held small h = tt
 
 -- what stops at the tables of a model stops the model
 pub tables_stop : (files : Option Files) (earlier before after : ℕ) (name : List ℕ) (model : Model) (stop : ModelStop)
     → IsModelIn files name model → earlier ≤ before → IsTablesStop files before after model stop → IsStop files earlier after name stop
-tables_stop files earlier before after name model (stops.Unread places.Text fault) is later h = absurd h
-tables_stop files earlier before after name model (stops.Unread (places.Table table) fault) is later h =
-    (model, is, (h.0, h.1, unread_since files earlier before after h.0.file fault later h.2))
+tables_stop files earlier before after name model (stops.Unread fault) is later h = absurd h
 tables_stop files earlier before after name model (stops.TextRefused kind line) is later h = absurd h
+tables_stop files earlier before after name model (stops.TableUnread file fault) is later h =
+    (model, is, (h.0, h.1, h.2, unread_since files earlier before after h.0.file fault later h.3))
 tables_stop files earlier before after name model (stops.TableRefused table fault) is later h = (model, is, h)
+tables_stop files earlier before after name model (stops.Uncompiled fault) is later h = absurd h
 tables_stop files earlier before after name model stops.OutOfMemory is later h = tt
+
+-- and so does what stops where all is there
+pub compile_stops : (files : Option Files) (before after : ℕ) (name : List ℕ) (model : Model) (tables : List VariantTable)
+    (stop : ModelStop)
+    → IsWholeIn files name model tables → IsCompileStop model tables stop → IsStop files before after name stop
+compile_stops files before after name model tables (stops.Unread fault) whole h = absurd h
+compile_stops files before after name model tables (stops.TextRefused kind line) whole h = absurd h
+compile_stops files before after name model tables (stops.TableUnread file fault) whole h = absurd h
+compile_stops files before after name model tables (stops.TableRefused table fault) whole h = absurd h
+compile_stops files before after name model tables (stops.Uncompiled fault) whole h =
+    record { model = model; tables = tables; whole = whole; refused = h }
+compile_stops files before after name model tables stops.OutOfMemory whole h = tt

@@ -1,5 +1,5 @@
 -- What is read of a model: its text, the files of its tables in the order of the model, each checked before the next is
--- looked for.
+-- looked for, and then the plan.
 use Rattle.std.specs.Prelude.{◌≡◌, ◌≢◌, ℕ, ◌≤◌, List, [], ◌∷◌, length, slice_get, option_map, Option, Some, Result, Ok, Err}
 use Rattle.vc_outside.specs.Faults.{Raised}
 use Rattle.vc_outside.specs.Shelves.{Files, Holds, Lacks, Exceeds}
@@ -18,7 +18,10 @@ use Rattle.vc_table.specs.declared.table.Row.{Row}
 use Rattle.vc_table.specs.declared.table.TableFault.{TableFault}
 use Rattle.vc_table.specs.declared.table.TableFault.TheVariants as table_faults
 use Rattle.vc_table.specs.declared.table.VariantTable.{VariantTable}
-use Rattle.vc_app_models.specs.declared.stop.ModelFile.TheVariants as places
+use Rattle.vc_plan.specs.declared.plans.Plan.{Plan}
+use Rattle.vc_compile_plan.specs.PlanOf.{IsPlanOf}
+use Rattle.vc_compile_plan.specs.declared.fault.CompileFault.{CompileFault}
+use Rattle.vc_compile.specs.Compiled.{IsRefusal, IsSound}
 use Rattle.vc_app_models.specs.declared.stop.ModelStop.{ModelStop}
 use Rattle.vc_app_models.specs.declared.stop.ModelStop.TheVariants as stops
 
@@ -73,18 +76,20 @@ IsUnread files before after name faults.OutOfMemory = Unit {0}
 
 -- why a text is no model: its first fault; want of memory has no cause, and is told as that alone
 abbrev pub IsTextStop : List ℕ → ModelStop → Type 0
-IsTextStop text (stops.Unread file fault) = ⊥
+IsTextStop text (stops.Unread fault) = ⊥
 IsTextStop text (stops.TextRefused kind line) = IsFault text kind line
+IsTextStop text (stops.TableUnread file fault) = ⊥
 IsTextStop text (stops.TableRefused table fault) = ⊥
+IsTextStop text (stops.Uncompiled fault) = ⊥
 IsTextStop text stops.OutOfMemory = Unit {0}
 
--- what is told of a table that has this fault
-abbrev pub stop_at : ℕ → TableFault → ModelStop
-stop_at number (table_faults.Columns row) = stops.TableRefused number (table_faults.Columns row)
-stop_at number (table_faults.Cell row) = stops.TableRefused number (table_faults.Cell row)
-stop_at number (table_faults.DoubleKey row) = stops.TableRefused number (table_faults.DoubleKey row)
-stop_at number table_faults.TooManyRows = stops.TableRefused number table_faults.TooManyRows
-stop_at number table_faults.OutOfMemory = stops.OutOfMemory
+-- what is told of the table of this name that has the fault
+abbrev pub stop_at : List ℕ → TableFault → ModelStop
+stop_at name (table_faults.Columns row) = stops.TableRefused name (table_faults.Columns row)
+stop_at name (table_faults.Cell row) = stops.TableRefused name (table_faults.Cell row)
+stop_at name (table_faults.DoubleKey row) = stops.TableRefused name (table_faults.DoubleKey row)
+stop_at name table_faults.TooManyRows = stops.TableRefused name table_faults.TooManyRows
+stop_at name table_faults.OutOfMemory = stops.OutOfMemory
 
 -- this is the table of this number
 abbrev pub IsTableAt : Option Files → Model → ℕ → VariantTable → Type 0
@@ -92,30 +97,34 @@ IsTableAt files model number table = (declared : Table) × (slice_get model.tabl
 
 -- why the table of this number isn't there: its file wasn't read, or holds no rows of it
 abbrev pub IsTableStop : Option Files → ℕ → ℕ → Model → ℕ → ModelStop → Type 0
-IsTableStop files before after model number (stops.Unread places.Text fault) = ⊥
-IsTableStop files before after model number (stops.Unread (places.Table table) fault) =
-    (declared : Table) × (slice_get model.tables number ≡ Some declared) × (table ≡ number) × IsUnread files before after declared.file fault
+IsTableStop files before after model number (stops.Unread fault) = ⊥
 IsTableStop files before after model number (stops.TextRefused kind line) = ⊥
+IsTableStop files before after model number (stops.TableUnread file fault) =
+    (declared : Table) × (slice_get model.tables number ≡ Some declared) × (file ≡ declared.file)
+    × IsUnread files before after declared.file fault
 IsTableStop files before after model number (stops.TableRefused table fault) =
-    (declared : Table) × (slice_get model.tables number ≡ Some declared) × (table ≡ number) × (fault ≢ table_faults.OutOfMemory)
-    × IsNoTableIn files model declared fault
+    (declared : Table) × (slice_get model.tables number ≡ Some declared) × (table ≡ declared.name)
+    × (fault ≢ table_faults.OutOfMemory) × IsNoTableIn files model declared fault
+IsTableStop files before after model number (stops.Uncompiled fault) = ⊥
 IsTableStop files before after model number stops.OutOfMemory = Unit {0}
 
--- of the model's tables those before this one are read
-pub record AreReadUpTo (files : Option Files) (model : Model) (table : ℕ) (declared : Table) : Type 0 where
+-- this is one of the model's tables, and those before it are read
+pub record IsNextTable (files : Option Files) (model : Model) (declared : Table) : Type 0 where
   pub tables : List VariantTable
   pub before : AreTablesIn files model model.tables tables
-  pub count : length tables ≡ table
-  pub declared_is : slice_get model.tables table ≡ Some declared
+  pub declared_is : slice_get model.tables (length tables) ≡ Some declared
 
 -- why the tables of a model aren't all there: those before one are read, and its file wasn't, or holds no rows of it
 abbrev pub IsTablesStop : Option Files → ℕ → ℕ → Model → ModelStop → Type 0
-IsTablesStop files before after model (stops.Unread places.Text fault) = ⊥
-IsTablesStop files before after model (stops.Unread (places.Table table) fault) =
-    (declared : Table) × AreReadUpTo files model table declared × IsUnread files before after declared.file fault
+IsTablesStop files before after model (stops.Unread fault) = ⊥
 IsTablesStop files before after model (stops.TextRefused kind line) = ⊥
+IsTablesStop files before after model (stops.TableUnread file fault) =
+    (declared : Table) × IsNextTable files model declared × (file ≡ declared.file)
+    × IsUnread files before after declared.file fault
 IsTablesStop files before after model (stops.TableRefused table fault) =
-    (declared : Table) × AreReadUpTo files model table declared × (fault ≢ table_faults.OutOfMemory) × IsNoTableIn files model declared fault
+    (declared : Table) × IsNextTable files model declared × (table ≡ declared.name)
+    × (fault ≢ table_faults.OutOfMemory) × IsNoTableIn files model declared fault
+IsTablesStop files before after model (stops.Uncompiled fault) = ⊥
 IsTablesStop files before after model stops.OutOfMemory = Unit {0}
 
 -- the model with all of its tables
@@ -124,14 +133,44 @@ pub record IsWholeIn (files : Option Files) (name : List ℕ) (model : Model) (t
   pub tables_are : AreTablesIn files model model.tables tables
   pub whole : length tables ≡ length model.tables
 
+-- the plan is that of the model with these tables, and nothing refuses it
+pub record HasPlan (model : Model) (tables : List VariantTable) (plan : Plan) : Type 0 where
+  pub its : IsPlanOf model tables plan
+  pub sound : IsSound model tables
+
+-- why a model with its tables has none
+abbrev pub IsCompileStop : Model → List VariantTable → ModelStop → Type 0
+IsCompileStop model tables (stops.Unread fault) = ⊥
+IsCompileStop model tables (stops.TextRefused kind line) = ⊥
+IsCompileStop model tables (stops.TableUnread file fault) = ⊥
+IsCompileStop model tables (stops.TableRefused table fault) = ⊥
+IsCompileStop model tables (stops.Uncompiled fault) = IsRefusal model tables fault
+IsCompileStop model tables stops.OutOfMemory = Unit {0}
+
+-- the files hold a model with all of its tables, and this is its plan
+pub record IsPlanIn (files : Option Files) (name : List ℕ) (plan : Plan) : Type 0 where
+  pub model : Model
+  pub tables : List VariantTable
+  pub whole : IsWholeIn files name model tables
+  pub compiled : HasPlan model tables plan
+
+-- the files hold a model with all of its tables that has no plan, for this fault
+pub record IsUncompiledIn (files : Option Files) (name : List ℕ) (fault : CompileFault) : Type 0 where
+  pub model : Model
+  pub tables : List VariantTable
+  pub whole : IsWholeIn files name model tables
+  pub refused : IsRefusal model tables fault
+
 -- the model is read, and its tables aren't all there
 abbrev pub IsStopAfter : Option Files → ℕ → ℕ → List ℕ → ModelStop → Type 0
 IsStopAfter files before after name stop = (model : Model) × IsModelIn files name model × IsTablesStop files before after model stop
 
--- why a model isn't there: its text wasn't read or spells none, or the text is read and its tables aren't all there
+-- why a model has no plan: its text wasn't read or spells none, or the text is read and its tables aren't all there, or
+-- all is there and nothing can be made of it
 abbrev pub IsStop : Option Files → ℕ → ℕ → List ℕ → ModelStop → Type 0
-IsStop files before after name (stops.Unread places.Text fault) = IsUnread files before after name fault
-IsStop files before after name (stops.Unread (places.Table table) fault) = IsStopAfter files before after name (stops.Unread (places.Table table) fault)
+IsStop files before after name (stops.Unread fault) = IsUnread files before after name fault
 IsStop files before after name (stops.TextRefused kind line) = IsRefusedIn files name kind line
+IsStop files before after name (stops.TableUnread file fault) = IsStopAfter files before after name (stops.TableUnread file fault)
 IsStop files before after name (stops.TableRefused table fault) = IsStopAfter files before after name (stops.TableRefused table fault)
+IsStop files before after name (stops.Uncompiled fault) = IsUncompiledIn files name fault
 IsStop files before after name stops.OutOfMemory = Unit {0}

@@ -1,4 +1,4 @@
-//! Models from files: a model's text and the files of its tables, read.
+//! Plans from files: a model's text and the files of its tables, read and compiled.
 #![tactic(auto)]
 
 pub mod files;
@@ -7,8 +7,8 @@ pub mod stop;
 pub mod tables;
 
 pub use files::read_file;
-pub use loading::{Loaded, load_model};
-pub use stop::{ModelFile, ModelStop};
+pub use loading::load_plan;
+pub use stop::ModelStop;
 
 #[cfg(test)]
 mod tests;

@@ -1,27 +1,22 @@
-//! A model, read from its file with its tables.
+//! A plan, from the files of its model.
 
-ghost use Rattle.std.specs.Prelude.{◌≡◌, ◌≤◌, IfOk, IfErr};
+ghost use Rattle.std.specs.Prelude.{◌≡◌, ◌≤◌, None, IfOk, IfErr};
 ghost use Rattle.vc_model.specs.Spelled.{Spells};
 ghost use Rattle.vc_model_drafts.specs.Seen.{seen_model};
+ghost use Rattle.vc_compile_plan.specs.Refusals.{size_fault};
 ghost use Rattle.vc_app_models.specs.Loading as loading;
 
 use crate::files::read_file;
-use crate::stop::{ModelFile, ModelStop};
+use crate::stop::ModelStop;
 use crate::tables::load_tables;
 use std::alloc::Global;
+use vc_compile::compile;
 use vc_model::read_model;
 use vc_model_faults::ModelFault;
 use vc_model_parts::Model;
 use vc_outside::Shelf;
+use vc_plan::Plan;
 use vc_table::VariantTable;
-use vc_value::Listed;
-
-/// A model and the rows of its tables, in its order.
-#[derive(Drop)]
-pub struct Loaded {
-    pub model: Model,
-    pub tables: Listed<VariantTable>,
-}
 
 // The model that a text spells.
 fn model_of(alloc: Global, text: &[u8]) -> Result<Model, ModelStop>
@@ -45,19 +40,29 @@ fn load_text<F: Shelf>(alloc: Global, shelf: &mut F, name: &str) -> Result<Model
 {
     let text = match read_file(alloc, shelf, name) {
         Ok(text) => text,
-        Err(fault) => return Err(ModelStop::Unread {
-            file: ModelFile::Text,
-            fault,
-        }),
+        Err(fault) => return Err(ModelStop::Unread(fault)),
     };
     let model = model_of(alloc, text.bytes())?;
     Ok(model)
 }
 
-/// Reads the model's file, then those of its tables in order, each checked before the next is looked for: the model
-/// with all of its tables, or the first thing that is wrong.
-pub fn load_model<F: Shelf>(alloc: Global, shelf: &mut F, name: &str) -> Result<Loaded, ModelStop>
-    ensures whole { IfOk result (λ loaded. loading.IsWholeIn (F.files shelf.old) name.now loaded.model loaded.tables) }
+// The plan of a model with its tables.
+fn plan_of(alloc: Global, model: &Model, tables: &[VariantTable]) -> Result<Plan, ModelStop>
+    ensures plan { IfOk result (loading.HasPlan model.now tables.now) }
+    ensures within { IfOk result (λ plan. size_fault plan ≡ None) }
+    ensures stops { IfErr result (loading.IsCompileStop model.now tables.now) }
+{
+    match compile(alloc, model, tables) {
+        Ok(plan) => Ok(plan),
+        Err(fault) => Err(ModelStop::Uncompiled(fault)),
+    }
+}
+
+/// Reads the model's file, then those of its tables in order, each checked before the next is looked for, and compiles:
+/// the model's plan, or the first thing that is wrong. A plan that is answered is within all sizes.
+pub fn load_plan<F: Shelf>(alloc: Global, shelf: &mut F, name: &str) -> Result<Plan, ModelStop>
+    ensures plan { IfOk result (loading.IsPlanIn (F.files shelf.old) name.now) }
+    ensures within { IfOk result (λ plan. size_fault plan ≡ None) }
     ensures stops { IfErr result (loading.IsStop (F.files shelf.old) (F.faults shelf.old)
         (F.faults shelf.new) name.now) }
     ensures files { F.files shelf.new ≡ F.files shelf.old }
@@ -65,5 +70,6 @@ pub fn load_model<F: Shelf>(alloc: Global, shelf: &mut F, name: &str) -> Result<
 {
     let model = load_text(alloc, shelf, name)?;
     let tables = load_tables(alloc, shelf, &model)?;
-    Ok(Loaded { model, tables })
+    let plan = plan_of(alloc, &model, tables.as_slice())?;
+    Ok(plan)
 }

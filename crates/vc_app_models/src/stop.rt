@@ -1,29 +1,28 @@
-//! Why a model isn't there to be asked.
+//! Why a model has no plan to be asked.
 
 ghost use Rattle.std.specs.Prelude.{◌≡◌};
 ghost use Rattle.vc_app_models.specs.declared.stop.ModelStop.TheVariants as stops;
 
 use std::alloc::AllocError;
-use vc_model_faults::{ModelFault, ModelFaultKind};
+use vc_compile_plan::CompileFault;
+use vc_model_faults::ModelFaultKind;
 use vc_outside::FileFault;
 use vc_table::TableFault;
+use vc_value::Word;
 
-/// A file of a model: that of its text, or of one of its tables by its number.
-#[derive(Clone, Copy, Debug, PartialEq, Eq)]
-pub enum ModelFile {
-    Text,
-    Table(u32),
-}
-
-/// Why a model isn't there: the first thing that is wrong, in the order in which a model is read.
-#[derive(Clone, Copy, Debug, PartialEq, Eq)]
+/// Why a model has no plan: the first thing that is wrong, in the order in which a model is read.
+#[derive(Debug, Drop)]
 pub enum ModelStop {
-    /// A file was not read.
-    Unread { file: ModelFile, fault: FileFault },
+    /// The model's file was not read.
+    Unread(FileFault),
     /// The text spells no model.
     TextRefused { kind: ModelFaultKind, line: u32 },
+    /// The file of a table was not read.
+    TableUnread { file: Word, fault: FileFault },
     /// The file of this table has no rows of it.
-    TableRefused { table: u32, fault: TableFault },
+    TableRefused { table: Word, fault: TableFault },
+    /// The model has no plan.
+    Uncompiled(CompileFault),
     /// Memory is wanting.
     OutOfMemory,
 }

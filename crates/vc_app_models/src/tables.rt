@@ -1,16 +1,17 @@
 //! The tables of a model, each read from its file and checked before the next is looked for.
 
-ghost use Rattle.std.specs.Prelude.{◌≡◌, ◌≢◌, ◌≤◌, ◌<◌, length, IfOk, IfErr, Some, Ok, Err};
+ghost use Rattle.std.specs.Prelude.{◌≡◌, ◌≢◌, ◌≤◌, ◌<◌, length, option_map, slice_get, IfOk, IfErr, Some, Ok, Err};
 ghost use Rattle.vc_app_models.specs.Loading as loading;
+ghost use Rattle.vc_app_models.specs.declared.stop.ModelStop.TheVariants as stops;
 
 use crate::files::read_file;
-use crate::stop::{ModelFile, ModelStop};
+use crate::stop::ModelStop;
 use std::alloc::{AllocError, Global};
 use std::str::from_utf8;
 use vc_model_parts::{Model, header, table_count, table_file};
-use vc_outside::Shelf;
+use vc_outside::{FileFault, Shelf};
 use vc_table::{TableFault, VariantTable, read_table};
-use vc_value::Listed;
+use vc_value::{Listed, Word};
 
 // The rows of the table of this number that a text holds.
 fn table_of(
@@ -29,18 +30,37 @@ fn table_of(
     Ok(table)
 }
 
-fn stop_at(number: u32, fault: TableFault) -> ModelStop
-    ensures { result ≡ loading.stop_at number fault }
+// The name of the table of this number.
+fn table_name(model: &Model, number: u32) -> &Word
+    requires { number < length model.now.tables }
+    ensures { option_map (λ declared. declared.name) (slice_get model.now.tables number) ≡ Some result.now }
+{
+    &model.tables.as_slice()[number as usize].name
+}
+
+// That the file was not read.
+fn unread(alloc: Global, file: &str, fault: FileFault) -> Result<ModelStop, AllocError>
+    ensures { IfOk result (λ stop. stop ≡ stops.TableUnread file.now fault) }
+{
+    Ok(ModelStop::TableUnread {
+        file: Word::from_bytes(alloc, file.as_bytes())?,
+        fault,
+    })
+}
+
+// That the table's file has no rows of it.
+fn refused(alloc: Global, table: &Word, fault: TableFault) -> Result<ModelStop, AllocError>
+    ensures { IfOk result (λ stop. stop ≡ loading.stop_at table.now fault) }
 {
     match fault {
-        TableFault::OutOfMemory => ModelStop::OutOfMemory,
+        TableFault::OutOfMemory => Ok(ModelStop::OutOfMemory),
         TableFault::Columns { row: _ }
         | TableFault::Cell { row: _ }
         | TableFault::DoubleKey { row: _ }
-        | TableFault::TooManyRows => ModelStop::TableRefused {
-            table: number,
+        | TableFault::TooManyRows => Ok(ModelStop::TableRefused {
+            table: Word::from_bytes(alloc, table.bytes())?,
             fault,
-        },
+        }),
     }
 }
 
@@ -64,14 +84,17 @@ fn load_table<F: Shelf>(
     };
     let text = match read_file(alloc, shelf, name) {
         Ok(text) => text,
-        Err(fault) => return Err(ModelStop::Unread {
-            file: ModelFile::Table(number),
-            fault,
-        }),
+        Err(fault) => {
+            let stop = unread(alloc, name, fault)?;
+            return Err(stop);
+        }
     };
     match table_of(alloc, model, number, text.bytes()) {
         Ok(table) => Ok(table),
-        Err(fault) => Err(stop_at(number, fault)),
+        Err(fault) => {
+            let stop = refused(alloc, table_name(model, number), fault)?;
+            Err(stop)
+        }
     }
 }
 
