@@ -1,5 +1,6 @@
 -- Who may have anything to say at the start.
-use Rattle.std.proofs.Common.{◌≡◌, ℕ, zero, suc, ◌<◌, true, false, cond, [], ◌∷◌, length, refl, sym, ◌∙◌, ap, subst, inl, inr, arith}
+use Rattle.std.proofs.Common.{◌≡◌, ℕ, zero, suc, ◌<◌, true, false, cond, [], ◌∷◌, length, refl, sym, ◌∙◌, ap, subst}
+use Rattle.std.proofs.Common.{inl, inr, arith}
 use Rattle.std.specs.Prelude.{Option, None, Some, nat_eq, if◌then◌else◌}
 use Rattle.std.specs.List.{IsDistinct}
 use Rattle.std.proofs.lemmas.Bool.{cases_lt}
@@ -38,7 +39,8 @@ free_rule plan (suc n) r below free =
           let same : r ≡ n = omega (arith, below, past) in
           has_back nat_eq number_exact number_itself (untriggered_below plan n)
           (if is_free (trigger_by plan (by_rule n)) then n ∷ [] else []) r
-          (ap (λ b. has nat_eq (cond b (n ∷ []) []) r) (sym (ap (λ m. is_free (trigger_by plan (by_rule m))) same) ∙ free)
+          (ap (λ b. has nat_eq (cond b (n ∷ []) []) r) (sym
+              (ap (λ m. is_free (trigger_by plan (by_rule m))) same) ∙ free)
           ∙ (ap (λ m. has nat_eq (m ∷ []) r) (sym same) ∙ has_first nat_eq number_exact number_itself r []))
     ]
 
@@ -48,7 +50,8 @@ source_in : (n v : ℕ) (giver : Giver) → v < n → has same_giver (sources_of
 source_in zero v giver below h = absurd (omega (arith, below))
 source_in (suc n) v giver below h =
     elim (cases_lt v n) [
-      | inl less ↦ has_front same_giver giver_exact giver_itself (all_sources n) (sources_of n) giver (source_in n v giver less h)
+      | inl less ↦ has_front same_giver giver_exact giver_itself (all_sources n) (sources_of n) giver
+          (source_in n v giver less h)
       | inr past ↦
           let same : v ≡ n = omega (arith, below, past) in
           has_back same_giver giver_exact giver_itself (all_sources n) (sources_of n) giver
@@ -67,23 +70,28 @@ module _ (plan : Plan) (sources : Sources) where
       elim (told (is_free (trigger_by plan (by_rule r)))) [
         | inl free ↦
             absurd (both
-            (has_front same_giver giver_exact giver_itself (rules_in (untriggered plan)) (all_sources (length plan.vars)) (by_rule r)
+            (has_front same_giver giver_exact giver_itself (rules_in (untriggered plan))
+                (all_sources (length plan.vars)) (by_rule r)
             (one_of by_rule r (λ n. refl) (untriggered plan)
             ∙ free_rule plan (length plan.rules) r (rule_below plan r there) free)) absent)
         | inr waits ↦
-            ap is_silent (triggers_are_needed plan sources base (by_rule r) (nothing_stands (trigger_by plan (by_rule r)) waits))
+            ap is_silent (triggers_are_needed plan sources base (by_rule r)
+                (nothing_stands (trigger_by plan (by_rule r)) waits))
       ]
   absent_quiet (by_user v) there absent =
       absurd (both
-      (has_back same_giver giver_exact giver_itself (rules_in (untriggered plan)) (all_sources (length plan.vars)) (by_user v)
+      (has_back same_giver giver_exact giver_itself (rules_in (untriggered plan))
+          (all_sources (length plan.vars)) (by_user v)
       (source_in (length plan.vars) v (by_user v) (user_below plan v there) (user_in v))) absent)
   absent_quiet (by_entry v) there absent =
       absurd (both
-      (has_back same_giver giver_exact giver_itself (rules_in (untriggered plan)) (all_sources (length plan.vars)) (by_entry v)
+      (has_back same_giver giver_exact giver_itself (rules_in (untriggered plan))
+          (all_sources (length plan.vars)) (by_entry v)
       (source_in (length plan.vars) v (by_entry v) (entry_below plan v there) (entry_in v))) absent)
 
 -- with all givers on the agenda the work may begin
-whole_begins : (plan : Plan) (sources : Sources) → is_clear plan base ≡ true → IsWorking plan sources (givers_of plan) base
+whole_begins : (plan : Plan) (sources : Sources) → is_clear plan base ≡ true → IsWorking plan sources
+    (givers_of plan) base
 unfolding IsDistinct
 whole_begins plan sources clear = work_begins plan sources [] (givers_of plan) refl clear (tt, tt) (λ giver h. h)
 
@@ -103,6 +111,7 @@ beginners_suffice plan sources agenda sizes clear =
     off_list giver there off =
         elim (told (has same_giver (beginners plan) giver)) [
           | inl h ↦
-              absurd (both (each_waits plan (nobody_on agenda.rules agenda.vars) (beginners plan) giver sizes h there) off)
+              absurd (both (each_waits plan (nobody_on agenda.rules agenda.vars) (beginners plan) giver sizes h
+                  there) off)
           | inr h ↦ h
         ]

@@ -1,5 +1,6 @@
 -- Agendas on which several givers come, one after another.
-use Rattle.std.proofs.Common.{◌≡◌, ℕ, ◌+◌, ◌≤◌, add-one, Bool, true, false, cond, not, ◌&&◌, List, [], ◌∷◌, ◌++◌, length, map, refl, sym, ◌∙◌, ap, subst, inl, inr, arith}
+use Rattle.std.proofs.Common.{◌≡◌, ℕ, ◌+◌, ◌≤◌, add-one, Bool, true, false, cond, not, ◌&&◌, List, [], ◌∷◌, ◌++◌}
+use Rattle.std.proofs.Common.{length, map, refl, sym, ◌∙◌, ap, subst, inl, inr, arith}
 use Rattle.std.specs.Prelude.{if◌then◌else◌, nat_lt}
 use Rattle.std.specs.List.{filter}
 use Rattle.std.proofs.lemmas.List.{map-append}
@@ -22,7 +23,8 @@ use Rattle.vc_net_readers.specs.Readers.{readers_of}
 use Rattle.vc_net_readers.specs.Waiting.{place_in_grain}
 use Rattle.vc_net_waking.specs.Beginning.{all_sources, is_free, untriggered_below}
 use Rattle.vc_net_waking.specs.Laws.{IsAgendaOf, OthersWaitOn, SizesStay}
-use Rattle.vc_net_waking.specs.Waking.{grain_held, is_met, is_var_of, met_rules, waking, sources_in_slot, sources_of, with_givers}
+use Rattle.vc_net_waking.specs.Waking.{grain_held, is_met, is_var_of, met_rules, waking, sources_in_slot}
+use Rattle.vc_net_waking.specs.Waking.{sources_of, with_givers}
 
 -- two lists of givers one after another
 pub both_parts : (agenda : Awaited) (xs ys : List Giver)
@@ -67,7 +69,8 @@ var_woken plan seen v old one two last xs ys first second third rest wait =
     ∙ (ap (λ r. with_givers (with_givers old r) (sources_of v)) (sym (met_both plan seen xs ys))
     ∙ (sym (both_parts old (met_rules plan seen (xs ++ ys)) (sources_of v))
     ∙ (ap (λ r. with_givers old (met_rules plan seen (r ++ ys) ++ sources_of v)) rest
-    ∙ ap (λ r. with_givers old (met_rules plan seen (list_at (readers_of plan).by_var v ++ r) ++ sources_of v)) wait)))))
+    ∙ ap (λ r. with_givers old (met_rules plan seen (list_at (readers_of plan).by_var v ++ r) ++ sources_of v))
+        wait)))))
 
 -- who waited waits on
 pub others_wait_on : OthersWaitOn

@@ -1,5 +1,6 @@
 -- All who are woken come on the agenda, and no more than touch the atom's thing.
-use Rattle.std.proofs.Common.{◌≡◌, ℕ, zero, suc, ◌+◌, ◌<◌, ◌≤◌, add-one, add-zero, Bool, true, false, cond, List, [], ◌∷◌, ◌++◌, length, map, refl, sym, ◌∙◌, ap, subst, inl, inr, arith, length-append}
+use Rattle.std.proofs.Common.{◌≡◌, ℕ, zero, suc, ◌+◌, ◌<◌, ◌≤◌, add-one, add-zero, Bool, true, false, cond, List}
+use Rattle.std.proofs.Common.{[], ◌∷◌, ◌++◌, length, map, refl, sym, ◌∙◌, ap, subst, inl, inr, arith, length-append}
 use Rattle.std.specs.Prelude.{Option, None, Some, nat_eq, nat_lt, ◌==◌, ◌||◌, ◌&&◌, if◌then◌else◌, slice_get}
 use Rattle.std.specs.List.{filter, find, list_any, range_with_len}
 use Rattle.std.specs.Option.{option_to_list}
@@ -37,7 +38,8 @@ use Rattle.vc_net_readers.proofs.AskedLaws.{asked_are_few}
 use Rattle.vc_net_readers.proofs.ReaderLaws.{grain_there, woken_are_asked}
 use Rattle.vc_net_readers.proofs.TouchedLemmas.{any_kept}
 use Rattle.vc_net_waking.specs.Laws.{WakingIsFew, WokenWait}
-use Rattle.vc_net_waking.specs.Waking.{grain_at, grain_held, is_met, is_slot, is_var_of, met_rules, sources_at, sources_in_slot, sources_of, waking}
+use Rattle.vc_net_waking.specs.Waking.{grain_at, grain_held, is_met, is_slot, is_var_of, met_rules, sources_at}
+use Rattle.vc_net_waking.specs.Waking.{sources_in_slot, sources_of, waking}
 use Rattle.vc_net_waking.proofs.GiverLaws.{each_waits, few_come}
 
 -- a giver among those of mapped numbers
@@ -64,9 +66,11 @@ below_has n k h = let r = has_range 0 n k h in omega (arith, r.1)
 
 pub rule_below : (plan : Plan) (r : ℕ) → has same_giver (givers_of plan) (by_rule r) ≡ true → r < length plan.rules
 rule_below plan r h =
-    elim (has_either same_giver giver_exact giver_itself (map by_rule (rules_of plan)) (map by_user (vars_of plan) ++ map by_entry (vars_of plan)) (by_rule r) h) [
+    elim (has_either same_giver giver_exact giver_itself (map by_rule (rules_of plan))
+        (map by_user (vars_of plan) ++ map by_entry (vars_of plan)) (by_rule r) h) [
       | inl p ↦ below_has (length plan.rules) r (sym (one_of by_rule r (λ n. refl) (rules_of plan)) ∙ p)
-      | inr p ↦ elim (has_either same_giver giver_exact giver_itself (map by_user (vars_of plan)) (map by_entry (vars_of plan)) (by_rule r) p) [
+      | inr p ↦ elim (has_either same_giver giver_exact giver_itself (map by_user (vars_of plan))
+          (map by_entry (vars_of plan)) (by_rule r) p) [
         | inl q ↦ absurd (both q (none_of by_user (by_rule r) (λ n. refl) (vars_of plan)))
         | inr q ↦ absurd (both q (none_of by_entry (by_rule r) (λ n. refl) (vars_of plan)))
       ]
@@ -74,9 +78,11 @@ rule_below plan r h =
 
 pub user_below : (plan : Plan) (v : ℕ) → has same_giver (givers_of plan) (by_user v) ≡ true → v < length plan.vars
 user_below plan v h =
-    elim (has_either same_giver giver_exact giver_itself (map by_rule (rules_of plan)) (map by_user (vars_of plan) ++ map by_entry (vars_of plan)) (by_user v) h) [
+    elim (has_either same_giver giver_exact giver_itself (map by_rule (rules_of plan))
+        (map by_user (vars_of plan) ++ map by_entry (vars_of plan)) (by_user v) h) [
       | inl p ↦ absurd (both p (none_of by_rule (by_user v) (λ n. refl) (rules_of plan)))
-      | inr p ↦ elim (has_either same_giver giver_exact giver_itself (map by_user (vars_of plan)) (map by_entry (vars_of plan)) (by_user v) p) [
+      | inr p ↦ elim (has_either same_giver giver_exact giver_itself (map by_user (vars_of plan))
+          (map by_entry (vars_of plan)) (by_user v) p) [
         | inl q ↦ below_has (length plan.vars) v (sym (one_of by_user v (λ n. refl) (vars_of plan)) ∙ q)
         | inr q ↦ absurd (both q (none_of by_entry (by_user v) (λ n. refl) (vars_of plan)))
       ]
@@ -84,9 +90,11 @@ user_below plan v h =
 
 pub entry_below : (plan : Plan) (v : ℕ) → has same_giver (givers_of plan) (by_entry v) ≡ true → v < length plan.vars
 entry_below plan v h =
-    elim (has_either same_giver giver_exact giver_itself (map by_rule (rules_of plan)) (map by_user (vars_of plan) ++ map by_entry (vars_of plan)) (by_entry v) h) [
+    elim (has_either same_giver giver_exact giver_itself (map by_rule (rules_of plan))
+        (map by_user (vars_of plan) ++ map by_entry (vars_of plan)) (by_entry v) h) [
       | inl p ↦ absurd (both p (none_of by_rule (by_entry v) (λ n. refl) (rules_of plan)))
-      | inr p ↦ elim (has_either same_giver giver_exact giver_itself (map by_user (vars_of plan)) (map by_entry (vars_of plan)) (by_entry v) p) [
+      | inr p ↦ elim (has_either same_giver giver_exact giver_itself (map by_user (vars_of plan))
+          (map by_entry (vars_of plan)) (by_entry v) p) [
         | inl q ↦ absurd (both q (none_of by_user (by_entry v) (λ n. refl) (vars_of plan)))
         | inr q ↦ below_has (length plan.vars) v (sym (one_of by_entry v (λ n. refl) (vars_of plan)) ∙ q)
       ]
@@ -133,7 +141,8 @@ find_piece test f (x ∷ xs) a e h =
         let r = later h in
         (r.0, ap (λ b. cond b (Some a) rest) first ∙ r.1)
 
-grain_of_named : (plan : Plan) (v : ℕ) (a : Value) → is_named plan (Is v a) ≡ true → (g : ℕ) × (grain_with plan v a ≡ Some g)
+grain_of_named : (plan : Plan) (v : ℕ) (a : Value) → is_named plan (Is v a) ≡ true → (g : ℕ) ×
+    (grain_with plan v a ≡ Some g)
 grain_of_named plan v a named =
     find_piece (lies_in a) (is_grain_with plan v (lies_in a)) (grains_of plan v) 0
     (λ i. ap (λ n. passes (lies_in a) (slice_get (grains_of plan v) n)) (omega arith)) named
@@ -171,7 +180,8 @@ or_false : (a : Bool) → (a || false) ≡ a
 or_false true = refl
 or_false false = refl
 
-slot_touched : (i : ℕ) (o : Option ℕ) → (list_any (same_thing (slot_at i)) (map slot_at (option_to_list o)) || false) ≡ is_slot i o
+slot_touched : (i : ℕ) (o : Option ℕ) → (list_any (same_thing (slot_at i)) (map slot_at (option_to_list o)) ||
+    false) ≡ is_slot i o
 slot_touched i None = refl
 slot_touched i (Some j) = or_false ((i == j) || false) ∙ or_false (i == j)
 
@@ -200,11 +210,13 @@ in_slot plan i zero v giver below of h = absurd (omega (arith, below))
 in_slot plan i (suc n) v giver below of h =
     elim (cases_lt v n) [
       | inl less ↦
-          has_front same_giver giver_exact giver_itself (sources_in_slot plan i n) (if is_var_of plan i n then sources_of n else [])
+          has_front same_giver giver_exact giver_itself (sources_in_slot plan i n)
+              (if is_var_of plan i n then sources_of n else [])
           giver (in_slot plan i n v giver less of h)
       | inr past ↦
           let same : v ≡ n = omega (arith, below, past) in
-          has_back same_giver giver_exact giver_itself (sources_in_slot plan i n) (if is_var_of plan i n then sources_of n else [])
+          has_back same_giver giver_exact giver_itself (sources_in_slot plan i n)
+              (if is_var_of plan i n then sources_of n else [])
           giver
           (ap (λ b. has same_giver (cond b (sources_of n) []) giver) (sym (ap (is_var_of plan i) same) ∙ of)
           ∙ (ap (λ m. has same_giver (sources_of m) giver) (sym same) ∙ h))
@@ -234,7 +246,8 @@ woken_come plan set atom giver clear there woken = by giver there woken
     named : is_named plan atom ≡ true
     named =
         (facts plan whole clear).named atom
-        (has_back same_atom atom_exact atom_itself set (atom ∷ []) atom (has_first same_atom atom_exact atom_itself atom []))
+        (has_back same_atom atom_exact atom_itself set (atom ∷ []) atom
+            (has_first same_atom atom_exact atom_itself atom []))
 
     touching : (g : Giver) → is_woken plan set atom g ≡ true
         → (giver_touches plan g (thing_of atom) ≡ true) × (stands_in whole (trigger_by plan g) ≡ true)
@@ -253,7 +266,8 @@ woken_come plan set atom giver clear there woken = by giver there woken
         (source_asked plan (thing_of atom) v (by_user v) (user_below plan v t) (touching (by_user v) w).0 (user_in v))
     by (by_entry v) t w =
         has_back same_giver giver_exact giver_itself rules (sources_at plan (thing_of atom)) (by_entry v)
-        (source_asked plan (thing_of atom) v (by_entry v) (entry_below plan v t) (touching (by_entry v) w).0 (entry_in v))
+        (source_asked plan (thing_of atom) v (by_entry v) (entry_below plan v t) (touching (by_entry v) w).0
+            (entry_in v))
 
 pub woken_wait : WokenWait
 woken_wait plan set atom agenda sizes clear giver h =
@@ -277,7 +291,8 @@ fewer : (p : ℕ → Bool) (ns : List ℕ) → length (filter p ns) ≤ length n
 fewer p [] = omega arith
 fewer p (n ∷ ns) = step (p n) (fewer p ns)
   where
-    step : (b : Bool) → length (filter p ns) ≤ length ns → length (cond b (n ∷ filter p ns) (filter p ns)) ≤ length (n ∷ ns)
+    step : (b : Bool) → length (filter p ns) ≤ length ns → length (cond b (n ∷ filter p ns) (filter p ns)) ≤
+        length (n ∷ ns)
     step true h = omega (arith, h)
     step false h = omega (arith, h)
 
@@ -296,10 +311,12 @@ abbrev touching_vars : Plan → Thing → ℕ → List ℕ
 touching_vars plan thing n = filter (λ v. giver_touches plan (by_user v) thing) (numbers_below n)
 
 slot_few : (plan : Plan) (i n : ℕ)
-    → length (sources_in_slot plan i n) ≤ length (touching_vars plan (slot_at i) n) + length (touching_vars plan (slot_at i) n)
+    → length (sources_in_slot plan i n) ≤ length (touching_vars plan (slot_at i) n) + length
+        (touching_vars plan (slot_at i) n)
 slot_few plan i zero = omega arith
 slot_few plan i (suc n) =
-    step (is_var_of plan i n) (touching_slot plan i n) (slot_few plan i n) (length (touching_vars plan (slot_at i) (suc n)))
+    step (is_var_of plan i n) (touching_slot plan i n) (slot_few plan i n)
+        (length (touching_vars plan (slot_at i) (suc n)))
     (ap (λ m. length (touching_vars plan (slot_at i) m)) (sym (add-one n))
     ∙ ap (λ xs. length xs) (filter_next (λ v. giver_touches plan (by_user v) (slot_at i)) n))
   where
@@ -309,7 +326,8 @@ slot_few plan i (suc n) =
     vars : List ℕ
     vars = touching_vars plan (slot_at i) n
 
-    step : (b : Bool) → giver_touches plan (by_user n) (slot_at i) ≡ b → length own ≤ length vars + length vars → (k : ℕ)
+    step : (b : Bool) → giver_touches plan (by_user n) (slot_at i) ≡ b → length own ≤ length vars + length vars
+        → (k : ℕ)
         → k ≡ length (vars ++ cond (giver_touches plan (by_user n) (slot_at i)) (n ∷ []) [])
         → length (own ++ cond b (sources_of n) []) ≤ k + k
     step true e few k next =
@@ -328,7 +346,8 @@ sources_few : (plan : Plan) (thing : Thing) → has_such plan thing ≡ true
     ≤ length (touching_vars plan thing (length plan.vars)) + length (touching_vars plan thing (length plan.vars))
 sources_few plan (slot_at i) there = slot_few plan i (length plan.vars)
 sources_few plan (var_at v) there =
-    let at = filter_at (λ w. giver_touches plan (by_user w) (var_at v)) v (length plan.vars) (ltb-true v (length plan.vars) there)
+    let at = filter_at (λ w. giver_touches plan (by_user w) (var_at v)) v (length plan.vars)
+        (ltb-true v (length plan.vars) there)
     (touching_var plan v v ∙ number_itself v) in
     let count = ap (λ xs. length xs) at.1 in
     let parts = length-append (touching_vars plan (var_at v) v) (v ∷ at.0) in
@@ -337,7 +356,8 @@ sources_few plan (var_at v) there =
 givers_counted : (plan : Plan) (atom : Atom)
     → givers_at plan atom
     ≡ length (readers_at plan (thing_of atom))
-    + (length (touching_vars plan (thing_of atom) (length plan.vars)) + length (touching_vars plan (thing_of atom) (length plan.vars)))
+    + (length (touching_vars plan (thing_of atom) (length plan.vars)) + length
+        (touching_vars plan (thing_of atom) (length plan.vars)))
 givers_counted plan atom =
     let p : Giver → Bool = λ giver. giver_touches plan giver (thing_of atom) in
     let r = map by_rule (rules_of plan) in

@@ -21,7 +21,8 @@ IsAgendaOf plan agenda = (agenda.rules ≡ length plan.rules) × (agenda.vars �
 
 -- who waited waits on, and the agenda is of as many rules and variables
 abbrev pub OthersWaitOn : Type 0
-OthersWaitOn = (agenda : Awaited) (givers : List Giver) → Within same_giver agenda.givers (with_givers agenda givers).givers
+OthersWaitOn = (agenda : Awaited) (givers : List Giver) → Within same_giver agenda.givers
+    (with_givers agenda givers).givers
 
 abbrev pub SizesStay : Type 0
 SizesStay = (agenda : Awaited) (givers : List Giver)

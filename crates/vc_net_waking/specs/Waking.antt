@@ -1,5 +1,6 @@
 -- Whom an atom wakes when it has come.
-use Rattle.std.specs.Prelude.{ℕ, zero, suc, Bool, true, false, ◌==◌, if◌then◌else◌, List, [], ◌∷◌, ◌++◌, length, map, slice_get, Option, None, Some}
+use Rattle.std.specs.Prelude.{ℕ, zero, suc, Bool, true, false, ◌==◌, if◌then◌else◌, List, [], ◌∷◌, ◌++◌, length}
+use Rattle.std.specs.Prelude.{map, slice_get, Option, None, Some}
 use Rattle.std.specs.List.{filter}
 use Rattle.vc_value.specs.declared.value.Value.{Value}
 use Rattle.vc_plan.specs.declared.plans.Plan.{Plan}
@@ -29,7 +30,8 @@ is_met seen (Some trigger) = is_value trigger.value (seen.value trigger.var)
 abbrev pub met_rules : Plan → Seen → List ℕ → List Giver
 met_rules plan seen rules = rules_in (filter (λ r. is_met seen (trigger_by plan (by_rule r))) rules)
 
--- the sources of a variable; those of the variables of a slot, of the first so many variables; and those that touch a thing
+-- the sources of a variable; those of the variables of a slot, of the first so many variables; and those that touch
+-- a thing
 abbrev pub sources_of : ℕ → List Giver
 sources_of v = by_user v ∷ by_entry v ∷ []
 

@@ -22,7 +22,11 @@ impl View for SecondText {
     ghost use Rattle.std.specs.Prelude.{false, ◌==◌, if◌then◌else◌, None, Some};
     ghost use Rattle.vc_value.specs.declared.value.Value.TheVariants.{Text};
 
-    ghost seen = { λ s. record { here = λ i. i == 0; out = λ v g. false; value = λ v. if v == 0 then Some (Text 1) else None } };
+    ghost seen = { λ s. record {
+        here = λ i. i == 0;
+        out = λ v g. false;
+        value = λ v. if v == 0 then Some (Text 1) else None;
+    } };
 
     fn here(&self, slot: u32) -> bool {
         slot == 0

@@ -8,7 +8,8 @@ ghost use Rattle.vc_net_places.specs.Places.{index_of};
 ghost use Rattle.vc_net_readers.specs.Laws.{waiting_in};
 ghost use Rattle.vc_net_readers.specs.Readers.{readers_of};
 ghost use Rattle.vc_net_readers.specs.Waiting.{place_in_grain};
-ghost use Rattle.vc_net_waking.specs.Waking.{grain_held, is_met, is_var_of, met_rules, sources_of, sources_in_slot, waking, with_givers};
+ghost use Rattle.vc_net_waking.specs.Waking.{grain_held, is_met, is_var_of, met_rules, sources_of, sources_in_slot};
+ghost use Rattle.vc_net_waking.specs.Waking.{waking, with_givers};
 
 use vc_net_agenda::{Agenda, Giver};
 use vc_net_laws::Trigger;

@@ -17,7 +17,9 @@ returns g c =
     c.push_sources.ensures (c.of_var.ensures ∙ ap (λ r. list_at r.by_var v) c.requires.readers)
     (c.waiting.ensures
     ∙ (ap (λ a. waiting_in c.args.readers.now (place_in_grain c.args.index.now v (grain_held plan v a))) c.value.ensures
-    ∙ (ap (λ i. waiting_in c.args.readers.now (place_in_grain i v (grain_held plan v ((g.V.View.seen c.args.view.now).value v))))
+    ∙ (ap (λ i. waiting_in c.args.readers.now (place_in_grain i v
+        (grain_held plan v ((g.V.View.seen c.args.view.now).value v))))
     c.requires.index
-    ∙ ap (λ r. waiting_in r (place_in_grain (index_of plan) v (grain_held plan v ((g.V.View.seen c.args.view.now).value v))))
+    ∙ ap (λ r. waiting_in r (place_in_grain (index_of plan) v
+        (grain_held plan v ((g.V.View.seen c.args.view.now).value v))))
     c.requires.readers)))
