@@ -40,7 +40,7 @@ free_rule plan (suc n) r below free =
           has_back nat_eq number_exact number_itself (untriggered_below plan n)
           (if is_free (trigger_by plan (by_rule n)) then n ∷ [] else []) r
           (ap (λ b. has nat_eq (cond b (n ∷ []) []) r) (sym
-              (ap (λ m. is_free (trigger_by plan (by_rule m))) same) ∙ free)
+          (ap (λ m. is_free (trigger_by plan (by_rule m))) same) ∙ free)
           ∙ (ap (λ m. has nat_eq (m ∷ []) r) (sym same) ∙ has_first nat_eq number_exact number_itself r []))
     ]
 
@@ -71,22 +71,22 @@ module _ (plan : Plan) (sources : Sources) where
         | inl free ↦
             absurd (both
             (has_front same_giver giver_exact giver_itself (rules_in (untriggered plan))
-                (all_sources (length plan.vars)) (by_rule r)
+            (all_sources (length plan.vars)) (by_rule r)
             (one_of by_rule r (λ n. refl) (untriggered plan)
             ∙ free_rule plan (length plan.rules) r (rule_below plan r there) free)) absent)
         | inr waits ↦
             ap is_silent (triggers_are_needed plan sources base (by_rule r)
-                (nothing_stands (trigger_by plan (by_rule r)) waits))
+            (nothing_stands (trigger_by plan (by_rule r)) waits))
       ]
   absent_quiet (by_user v) there absent =
       absurd (both
       (has_back same_giver giver_exact giver_itself (rules_in (untriggered plan))
-          (all_sources (length plan.vars)) (by_user v)
+      (all_sources (length plan.vars)) (by_user v)
       (source_in (length plan.vars) v (by_user v) (user_below plan v there) (user_in v))) absent)
   absent_quiet (by_entry v) there absent =
       absurd (both
       (has_back same_giver giver_exact giver_itself (rules_in (untriggered plan))
-          (all_sources (length plan.vars)) (by_entry v)
+      (all_sources (length plan.vars)) (by_entry v)
       (source_in (length plan.vars) v (by_entry v) (entry_below plan v there) (entry_in v))) absent)
 
 -- with all givers on the agenda the work may begin
@@ -112,6 +112,6 @@ beginners_suffice plan sources agenda sizes clear =
         elim (told (has same_giver (beginners plan) giver)) [
           | inl h ↦
               absurd (both (each_waits plan (nobody_on agenda.rules agenda.vars) (beginners plan) giver sizes h
-                  there) off)
+              there) off)
           | inr h ↦ h
         ]

@@ -70,7 +70,7 @@ var_woken plan seen v old one two last xs ys first second third rest wait =
     ∙ (sym (both_parts old (met_rules plan seen (xs ++ ys)) (sources_of v))
     ∙ (ap (λ r. with_givers old (met_rules plan seen (r ++ ys) ++ sources_of v)) rest
     ∙ ap (λ r. with_givers old (met_rules plan seen (list_at (readers_of plan).by_var v ++ r) ++ sources_of v))
-        wait)))))
+    wait)))))
 
 -- who waited waits on
 pub others_wait_on : OthersWaitOn

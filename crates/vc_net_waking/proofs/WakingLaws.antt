@@ -67,37 +67,37 @@ below_has n k h = let r = has_range 0 n k h in omega (arith, r.1)
 pub rule_below : (plan : Plan) (r : ℕ) → has same_giver (givers_of plan) (by_rule r) ≡ true → r < length plan.rules
 rule_below plan r h =
     elim (has_either same_giver giver_exact giver_itself (map by_rule (rules_of plan))
-        (map by_user (vars_of plan) ++ map by_entry (vars_of plan)) (by_rule r) h) [
+    (map by_user (vars_of plan) ++ map by_entry (vars_of plan)) (by_rule r) h) [
       | inl p ↦ below_has (length plan.rules) r (sym (one_of by_rule r (λ n. refl) (rules_of plan)) ∙ p)
       | inr p ↦ elim (has_either same_giver giver_exact giver_itself (map by_user (vars_of plan))
           (map by_entry (vars_of plan)) (by_rule r) p) [
-        | inl q ↦ absurd (both q (none_of by_user (by_rule r) (λ n. refl) (vars_of plan)))
-        | inr q ↦ absurd (both q (none_of by_entry (by_rule r) (λ n. refl) (vars_of plan)))
-      ]
+            | inl q ↦ absurd (both q (none_of by_user (by_rule r) (λ n. refl) (vars_of plan)))
+            | inr q ↦ absurd (both q (none_of by_entry (by_rule r) (λ n. refl) (vars_of plan)))
+          ]
     ]
 
 pub user_below : (plan : Plan) (v : ℕ) → has same_giver (givers_of plan) (by_user v) ≡ true → v < length plan.vars
 user_below plan v h =
     elim (has_either same_giver giver_exact giver_itself (map by_rule (rules_of plan))
-        (map by_user (vars_of plan) ++ map by_entry (vars_of plan)) (by_user v) h) [
+    (map by_user (vars_of plan) ++ map by_entry (vars_of plan)) (by_user v) h) [
       | inl p ↦ absurd (both p (none_of by_rule (by_user v) (λ n. refl) (rules_of plan)))
       | inr p ↦ elim (has_either same_giver giver_exact giver_itself (map by_user (vars_of plan))
           (map by_entry (vars_of plan)) (by_user v) p) [
-        | inl q ↦ below_has (length plan.vars) v (sym (one_of by_user v (λ n. refl) (vars_of plan)) ∙ q)
-        | inr q ↦ absurd (both q (none_of by_entry (by_user v) (λ n. refl) (vars_of plan)))
-      ]
+            | inl q ↦ below_has (length plan.vars) v (sym (one_of by_user v (λ n. refl) (vars_of plan)) ∙ q)
+            | inr q ↦ absurd (both q (none_of by_entry (by_user v) (λ n. refl) (vars_of plan)))
+          ]
     ]
 
 pub entry_below : (plan : Plan) (v : ℕ) → has same_giver (givers_of plan) (by_entry v) ≡ true → v < length plan.vars
 entry_below plan v h =
     elim (has_either same_giver giver_exact giver_itself (map by_rule (rules_of plan))
-        (map by_user (vars_of plan) ++ map by_entry (vars_of plan)) (by_entry v) h) [
+    (map by_user (vars_of plan) ++ map by_entry (vars_of plan)) (by_entry v) h) [
       | inl p ↦ absurd (both p (none_of by_rule (by_entry v) (λ n. refl) (rules_of plan)))
       | inr p ↦ elim (has_either same_giver giver_exact giver_itself (map by_user (vars_of plan))
           (map by_entry (vars_of plan)) (by_entry v) p) [
-        | inl q ↦ absurd (both q (none_of by_user (by_entry v) (λ n. refl) (vars_of plan)))
-        | inr q ↦ below_has (length plan.vars) v (sym (one_of by_entry v (λ n. refl) (vars_of plan)) ∙ q)
-      ]
+            | inl q ↦ absurd (both q (none_of by_user (by_entry v) (λ n. refl) (vars_of plan)))
+            | inr q ↦ below_has (length plan.vars) v (sym (one_of by_entry v (λ n. refl) (vars_of plan)) ∙ q)
+          ]
     ]
 
 -- what an atom's thing needs to be there
@@ -211,12 +211,12 @@ in_slot plan i (suc n) v giver below of h =
     elim (cases_lt v n) [
       | inl less ↦
           has_front same_giver giver_exact giver_itself (sources_in_slot plan i n)
-              (if is_var_of plan i n then sources_of n else [])
+          (if is_var_of plan i n then sources_of n else [])
           giver (in_slot plan i n v giver less of h)
       | inr past ↦
           let same : v ≡ n = omega (arith, below, past) in
           has_back same_giver giver_exact giver_itself (sources_in_slot plan i n)
-              (if is_var_of plan i n then sources_of n else [])
+          (if is_var_of plan i n then sources_of n else [])
           giver
           (ap (λ b. has same_giver (cond b (sources_of n) []) giver) (sym (ap (is_var_of plan i) same) ∙ of)
           ∙ (ap (λ m. has same_giver (sources_of m) giver) (sym same) ∙ h))
@@ -247,7 +247,7 @@ woken_come plan set atom giver clear there woken = by giver there woken
     named =
         (facts plan whole clear).named atom
         (has_back same_atom atom_exact atom_itself set (atom ∷ []) atom
-            (has_first same_atom atom_exact atom_itself atom []))
+        (has_first same_atom atom_exact atom_itself atom []))
 
     touching : (g : Giver) → is_woken plan set atom g ≡ true
         → (giver_touches plan g (thing_of atom) ≡ true) × (stands_in whole (trigger_by plan g) ≡ true)
@@ -267,7 +267,7 @@ woken_come plan set atom giver clear there woken = by giver there woken
     by (by_entry v) t w =
         has_back same_giver giver_exact giver_itself rules (sources_at plan (thing_of atom)) (by_entry v)
         (source_asked plan (thing_of atom) v (by_entry v) (entry_below plan v t) (touching (by_entry v) w).0
-            (entry_in v))
+        (entry_in v))
 
 pub woken_wait : WokenWait
 woken_wait plan set atom agenda sizes clear giver h =
@@ -312,11 +312,11 @@ touching_vars plan thing n = filter (λ v. giver_touches plan (by_user v) thing)
 
 slot_few : (plan : Plan) (i n : ℕ)
     → length (sources_in_slot plan i n) ≤ length (touching_vars plan (slot_at i) n) + length
-        (touching_vars plan (slot_at i) n)
+    (touching_vars plan (slot_at i) n)
 slot_few plan i zero = omega arith
 slot_few plan i (suc n) =
     step (is_var_of plan i n) (touching_slot plan i n) (slot_few plan i n)
-        (length (touching_vars plan (slot_at i) (suc n)))
+    (length (touching_vars plan (slot_at i) (suc n)))
     (ap (λ m. length (touching_vars plan (slot_at i) m)) (sym (add-one n))
     ∙ ap (λ xs. length xs) (filter_next (λ v. giver_touches plan (by_user v) (slot_at i)) n))
   where
@@ -347,7 +347,7 @@ sources_few : (plan : Plan) (thing : Thing) → has_such plan thing ≡ true
 sources_few plan (slot_at i) there = slot_few plan i (length plan.vars)
 sources_few plan (var_at v) there =
     let at = filter_at (λ w. giver_touches plan (by_user w) (var_at v)) v (length plan.vars)
-        (ltb-true v (length plan.vars) there)
+    (ltb-true v (length plan.vars) there)
     (touching_var plan v v ∙ number_itself v) in
     let count = ap (λ xs. length xs) at.1 in
     let parts = length-append (touching_vars plan (var_at v) v) (v ∷ at.0) in
@@ -357,7 +357,7 @@ givers_counted : (plan : Plan) (atom : Atom)
     → givers_at plan atom
     ≡ length (readers_at plan (thing_of atom))
     + (length (touching_vars plan (thing_of atom) (length plan.vars)) + length
-        (touching_vars plan (thing_of atom) (length plan.vars)))
+    (touching_vars plan (thing_of atom) (length plan.vars)))
 givers_counted plan atom =
     let p : Giver → Bool = λ giver. giver_touches plan giver (thing_of atom) in
     let r = map by_rule (rules_of plan) in

@@ -23,9 +23,9 @@ impl View for SecondText {
     ghost use Rattle.vc_value.specs.declared.value.Value.TheVariants.{Text};
 
     ghost seen = { λ s. record {
-        here = λ i. i == 0;
-        out = λ v g. false;
-        value = λ v. if v == 0 then Some (Text 1) else None;
+      here = λ i. i == 0;
+      out = λ v g. false;
+      value = λ v. if v == 0 then Some (Text 1) else None;
     } };
 
     fn here(&self, slot: u32) -> bool {

@@ -18,8 +18,8 @@ returns g c =
     (c.waiting.ensures
     ∙ (ap (λ a. waiting_in c.args.readers.now (place_in_grain c.args.index.now v (grain_held plan v a))) c.value.ensures
     ∙ (ap (λ i. waiting_in c.args.readers.now (place_in_grain i v
-        (grain_held plan v ((g.V.View.seen c.args.view.now).value v))))
+    (grain_held plan v ((g.V.View.seen c.args.view.now).value v))))
     c.requires.index
     ∙ ap (λ r. waiting_in r (place_in_grain (index_of plan) v
-        (grain_held plan v ((g.V.View.seen c.args.view.now).value v))))
+    (grain_held plan v ((g.V.View.seen c.args.view.now).value v))))
     c.requires.readers)))

@@ -1,0 +1,5 @@
+pub mod PlanFacts
+pub mod GoingLaws
+pub mod BreakLaws
+pub mod EndLaws
+pub mod LampLaws
