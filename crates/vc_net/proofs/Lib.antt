@@ -3,3 +3,4 @@ pub mod GoingLaws
 pub mod BreakLaws
 pub mod EndLaws
 pub mod LampLaws
+pub mod NumberLaws

@@ -6,6 +6,7 @@ use Rattle.vc_plan.specs.declared.atoms.Culprit.{Culprit}
 use Rattle.vc_plan.specs.declared.atoms.Step.{Step}
 use Rattle.vc_plan.specs.declared.plans.Plan.{Plan}
 use Rattle.vc_plan_blame.specs.Blame.{clash_by}
+use Rattle.vc_plan_reasons.specs.Checking.{concluded}
 use Rattle.vc_rule_yield.specs.Filling.{Filled, emptied, with_items}
 use Rattle.vc_net_standing.specs.declared.standing.Fact.{Fact}
 use Rattle.vc_net_blame.specs.Finding.{colliding_with, culprit_for}
@@ -54,3 +55,11 @@ clash_from steps premises culprit = clash_by steps (cited_by steps premises) cul
 
 abbrev pub clash_in : List Step → Breaker → Option Clash
 clash_in steps kept = clash_from (steps_with steps kept.fact kept.reasons.items) kept.premises.items kept.culprit
+
+-- what these conclude
+abbrev pub last_atoms : Option Fact → List Atom
+last_atoms None = []
+last_atoms (Some fact) = fact.atom ∷ []
+
+abbrev pub stand_with : List Step → Option Fact → List Atom
+stand_with steps last = concluded steps ++ last_atoms last

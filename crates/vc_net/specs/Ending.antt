@@ -1,5 +1,5 @@
 -- How the work of a net ends.
-use Rattle.std.specs.Prelude.{◌≡◌, true, List, [], Option, None, Some}
+use Rattle.std.specs.Prelude.{◌≡◌, ◌<◌, ◌^◌, true, List, [], length, Option, None, Some}
 use Rattle.vc_base.specs.Rounds.{broken, settled}
 use Rattle.vc_base.specs.Sets.{has}
 use Rattle.vc_plan.specs.declared.atoms.Atom.{Atom}
@@ -8,6 +8,7 @@ use Rattle.vc_plan.specs.declared.plans.Plan.{Plan}
 use Rattle.vc_plan.specs.Seen.{same_atom}
 use Rattle.vc_plan.specs.Settle.{settlement_of}
 use Rattle.vc_plan.specs.Sources.{Sources}
+use Rattle.vc_plan.specs.Valid.{IsValid}
 use Rattle.vc_plan_reasons.specs.Refuting.{refutes}
 use Rattle.vc_net_log.specs.Logs.{set_of}
 use Rattle.vc_net.specs.declared.work.Work.{Work}
@@ -30,3 +31,8 @@ EndsAs plan sources work (Some clash) = (settlement_of plan sources ≡ broken) 
 pub record IsSettled (plan : Plan) (sources : Sources) (work : Work) : Type 0 where
   pub going : IsGoing plan sources work []
   pub ends : EndsAs plan sources work (clash_of work)
+
+-- the log of a valid plan's work has fewer steps than a number of 31 bits tells
+abbrev pub LogsAreShort : Type 0
+LogsAreShort = (plan : Plan) (sources : Sources) (work : Work) → IsValid plan → IsGoing plan sources work []
+    → length work.log.steps < 2 ^ 31

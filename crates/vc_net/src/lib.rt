@@ -3,6 +3,8 @@
 #![tactic(auto)]
 
 pub mod breaker;
+pub mod clashes;
+pub mod laws;
 pub mod net;
 pub mod settling;
 pub mod turn;

@@ -6,13 +6,14 @@ ghost use Rattle.vc_net_bounds.specs.Counting.{clash_cells};
 ghost use Rattle.vc_net_places.specs.Cells.{bounds_of};
 ghost use Rattle.vc_net.specs.Nets.{IsNetOf};
 
+use crate::clashes::clash;
 use crate::settling::settle;
 use crate::work::Work;
 use std::alloc::{AllocError, Global};
 use std::marker::Model;
 use std::sync::ledger::Ledger;
 use vc_net_bounds::{Bounds, Counted, bounds_of};
-use vc_plan::{Outcome, Plan, Step, View};
+use vc_plan::{Clash, Outcome, Plan, Step, View};
 use vc_plan_sources::Sources;
 use vc_rule::new_yield;
 use vc_rule_yield::Yield;
@@ -37,10 +38,10 @@ impl Model for Net {
 }
 
 impl Net {
-    ghost use Rattle.std.specs.Prelude.{◌≡◌, true, IfOk};
+    ghost use Rattle.std.specs.Prelude.{◌≡◌, ◌^◌, ◌<◌, true, length, IfOk};
     ghost use Rattle.vc_plan.specs.Valid.{IsValid};
     ghost use Rattle.vc_plan_reasons.specs.Fitting.{sources_fit};
-    ghost use Rattle.vc_net.specs.Ending.{IsSettled};
+    ghost use Rattle.vc_net.specs.Ending.{IsSettled, clash_of};
     ghost use Rattle.vc_net.specs.Nets.{AreFor, IsNetOf, outcome_by};
 
     /// The net of the plan, without sources; only the root is here. Its outcome is told from the first `sync` on.
@@ -73,6 +74,15 @@ impl Net {
         ensures { IfOk result (λ steps. steps ≡ self.now.work.log.steps) }
     {
         self.work.log.steps(alloc)
+    }
+
+    /// What contradicts, if anything does: the steps that lead to it, whom to blame, and which contradict. That it
+    /// may be asked `logs_are_short` shows.
+    pub fn clash(&self, alloc: Global) -> Result<Option<Clash>, AllocError>
+        requires { length self.now.work.log.steps < 2 ^ 31 }
+        ensures { IfOk result (λ clash. clash ≡ clash_of self.now.work) }
+    {
+        clash(alloc, &self.work.log, &self.work.breaker)
     }
 
     /// Settles the plan anew with these sources. It takes no memory. Where it is settled just the conclusions of the

@@ -9,13 +9,14 @@ ghost use Rattle.vc_plan_sources.specs.Changes.{no_sources, with_user};
 ghost use Rattle.vc_net.specs.Lamp.{chosen, colour, coloured, first_alone, lamp, last_left, root};
 
 use crate::Net;
+use crate::laws::logs_are_short;
 use std::alloc::{AllocError, Global};
 use std::marker::Brand;
 use std::sync::ledger::{Blank, Ledger};
 use std::test::Fail;
 use vc_plan::{
-    Characteristic, Condition, Culprit, Kind, Object, Outcome, Plan, Relation, Restriction, Rule,
-    Slot, Var, View,
+    Characteristic, Clash, Condition, Culprit, Kind, Object, Outcome, Plan, Relation, Restriction,
+    Rule, Slot, Step, Var, View,
 };
 use vc_plan_sources::Sources;
 use vc_value::{Domain, Listed, Value, Word};
@@ -182,6 +183,27 @@ struct Told {
     outcome: Outcome,
     colour: Option<Value>,
     second_out: bool,
+    steps: usize,
+    premises: usize,
+}
+
+fn step_count(log: Result<Listed<Step>, AllocError>) -> Result<usize, AllocError> {
+    let log = log?;
+    let count = log.len();
+    drop(log);
+    Ok(count)
+}
+
+// How many premises contradict; 0 where none do.
+fn premise_count(clash: Result<Option<Clash>, AllocError>) -> Result<usize, AllocError> {
+    match clash? {
+        Some(clash) => {
+            let count = clash.premises.len();
+            drop(clash);
+            Ok(count)
+        }
+        None => Ok(0),
+    }
 }
 
 fn settled_with<L: Ledger>(
@@ -201,13 +223,20 @@ fn settled_with<L: Ledger>(
     let mut net = Net::new(alloc, plan)?;
     let mut steps: Steps<L> = Steps::new(blank);
     net.sync(plan, sources, &mut steps);
-    let told = Told {
-        outcome: net.outcome(),
-        colour: net.value(0),
-        second_out: net.out(0, 1),
-    };
+    logs_are_short();
+    let steps = step_count(net.log(alloc));
+    let premises = premise_count(net.clash(alloc));
+    let outcome = net.outcome();
+    let colour = net.value(0);
+    let second_out = net.out(0, 1);
     drop(net);
-    Ok(told)
+    Ok(Told {
+        outcome,
+        colour,
+        second_out,
+        steps: steps?,
+        premises: premises?,
+    })
 }
 
 fn told_by<L: Ledger>(
@@ -247,6 +276,8 @@ fn excludes_the_second_colour(rt: HostRuntime) -> Result<(), Fail> {
     assert_eq!(rt; told.outcome, Outcome::Settled);
     assert_eq!(rt; told.colour, Some(Value::Text(0)));
     assert!(rt; told.second_out);
+    assert_eq!(rt; told.steps, 2);
+    assert_eq!(rt; told.premises, 0);
     Ok(())
 }
 
@@ -254,5 +285,7 @@ fn excludes_the_second_colour(rt: HostRuntime) -> Result<(), Fail> {
 fn blames_the_constraint(rt: HostRuntime) -> Result<(), Fail> {
     let told = told_of_lamp::<Brand>(rt.alloc(), 1, Blank::new(1))?;
     assert_eq!(rt; told.outcome, Outcome::Broken(Culprit::Rule(0)));
+    assert_eq!(rt; told.steps, 1);
+    assert_eq!(rt; told.premises, 2);
     Ok(())
 }
