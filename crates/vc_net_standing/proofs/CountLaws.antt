@@ -12,21 +12,22 @@ use Rattle.vc_base.proofs.ListLaws.{has_range, number_exact, number_itself}
 use Rattle.vc_base.proofs.SetLaws.{both, has_cases, has_first, has_more, none_from, same_test, told}
 use Rattle.vc_plan.specs.declared.atoms.Atom.{Atom}
 use Rattle.vc_plan.specs.declared.atoms.Atom.TheVariants.{Here, Out, Is}
-use Rattle.vc_plan.specs.Clear.{are_all_out}
+use Rattle.vc_plan.specs.declared.plans.Plan.{Plan}
+use Rattle.vc_plan.specs.Clear.{is_clear}
 use Rattle.vc_plan.specs.Domains.{numbers_below, count_of}
-use Rattle.vc_plan.specs.Seen.{same_atom, seen_of}
+use Rattle.vc_plan.specs.Seen.{same_atom}
 use Rattle.vc_plan.proofs.PlanLaws.Facts.{Facts, facts}
 use Rattle.vc_plan_reasons.specs.Checking.{set_with}
 use Rattle.vc_net_standing.specs.Coming.{is_out_of, outs_of}
 use Rattle.vc_net_standing.specs.Laws.{OutsAreCounted}
 
 -- the grains of the variable that are out
-abbrev with_grain : ℕ → Atom → List ℕ → List ℕ
+abbrev pub with_grain : ℕ → Atom → List ℕ → List ℕ
 with_grain v (Here i) gs = gs
 with_grain v (Out w g) gs = if w == v then g ∷ gs else gs
 with_grain v (Is w a) gs = gs
 
-abbrev grains_out : ℕ → List Atom → List ℕ
+abbrev pub grains_out : ℕ → List Atom → List ℕ
 grains_out v [] = []
 grains_out v (a ∷ more) = with_grain v a (grains_out v more)
 
@@ -42,7 +43,7 @@ counted_with v (Out w g) more e = by (w == v)
     by true = ap suc e
     by false = e
 
-counted : (v : ℕ) (stand : List Atom) → length (grains_out v stand) ≡ outs_of v stand
+pub counted : (v : ℕ) (stand : List Atom) → length (grains_out v stand) ≡ outs_of v stand
 counted v [] = refl
 counted v (a ∷ more) = counted_with v a more (counted v more)
 
@@ -70,12 +71,12 @@ out_with v h (Out w g) more e =
           | inr f ↦ f
         ]
 
-out_there : (v h : ℕ) (stand : List Atom) → has nat_eq (grains_out v stand) h ≡ has same_atom stand (Out v h)
+pub out_there : (v h : ℕ) (stand : List Atom) → has nat_eq (grains_out v stand) h ≡ has same_atom stand (Out v h)
 out_there v h [] = refl
 out_there v h (a ∷ more) = out_with v h a more (out_there v h more)
 
 -- each once
-all_apart : (g : ℕ) (gs : List ℕ) → has nat_eq gs g ≡ false → AllByRecursion (λ x. nat_eq g x ≡ false) gs
+pub all_apart : (g : ℕ) (gs : List ℕ) → has nat_eq gs g ≡ false → AllByRecursion (λ x. nat_eq g x ≡ false) gs
 all_apart g gs e = none_from (nat_eq g) gs e
 
 lacks : (a : Atom) (more : List Atom) → AllByRecursion (λ b. same_atom a b ≡ false) more → has same_atom more a ≡ false
@@ -95,10 +96,11 @@ once_with v (Out w g) more new d =
                 (out_there v g more ∙ (ap (λ x. has same_atom more (Out x g)) (sym (number_exact w v same)) ∙ new)),
             d,
           )
-      | inr other ↦ subst (λ b. IsDistinct nat_eq (if b then g ∷ grains_out v more else grains_out v more)) (sym other) d
+      | inr other ↦
+          subst (λ b. IsDistinct nat_eq (if b then g ∷ grains_out v more else grains_out v more)) (sym other) d
     ]
 
-once : (v : ℕ) (stand : List Atom) → IsDistinct same_atom stand → IsDistinct nat_eq (grains_out v stand)
+pub once : (v : ℕ) (stand : List Atom) → IsDistinct same_atom stand → IsDistinct nat_eq (grains_out v stand)
 unfolding IsDistinct
 once v [] d = tt
 once v (a ∷ more) d = once_with v a more (lacks a more d.0) (once v more d.1)
@@ -132,29 +134,24 @@ all_made p (x ∷ xs) f =
     and_from (p x) (list_all p xs) (f x (has_first nat_eq number_exact number_itself x xs))
     (all_made p xs (λ n h. f n (has_more nat_eq number_exact number_itself x xs n h)))
 
-pub outs_are_counted : OutsAreCounted
+-- numbers below a count, each once, are all of them just where they are as many
+pub filled : (count : ℕ) (gs : List ℕ) → IsDistinct nat_eq gs → ((h : ℕ) → has nat_eq gs h ≡ true → h < count)
+    → list_all (has nat_eq gs) (numbers_below count) ≡ (length gs == count)
 unfolding IsDistinct
-outs_are_counted plan stand v distinct clear =
-    let count = count_of plan v in
-    let gs = grains_out v stand in
-    let f : Facts plan (set_with stand) = facts plan (set_with stand) clear in
-    let low : (h : ℕ) → has nat_eq gs h ≡ true → h < count
-    = λ h k. ltb-true h count (f.named (Out v h) (sym (out_there v h stand) ∙ k)) in
-    let each : IsDistinct nat_eq gs = once v stand distinct in
+filled count gs each low =
     let most : length gs ≤ count = length-le_from_distinct_below gs count each low in
-    let is : length gs ≡ outs_of v stand = counted v stand in
-    same_test (are_all_out plan (seen_of (set_with stand)) v) (outs_of v stand == count)
+    same_test (list_all (has nat_eq gs) (numbers_below count)) (length gs == count)
     (λ all.
     let least : length (numbers_below count) ≤ length gs
     = length-le_from_is_member nat_eq_equiv (numbers_below count) gs (range_once 0 count)
-    (λ h k. out_there v h stand ∙ all_read (λ g. has same_atom stand (Out v g)) (numbers_below count) h all k) in
+    (λ h k. all_read (has nat_eq gs) (numbers_below count) h all k) in
     let long = length-range_with_len 0 count in
-    eq-eqb (outs_of v stand) count (omega (arith, least, most, is, long)))
+    eq-eqb (length gs) count (omega (arith, least, most, long)))
     (λ e.
-    let full : outs_of v stand ≡ count = number_exact (outs_of v stand) count e in
-    all_made (λ g. has same_atom stand (Out v g)) (numbers_below count) (λ h k.
+    let full : length gs ≡ count = number_exact (length gs) count e in
+    all_made (has nat_eq gs) (numbers_below count) (λ h k.
     elim (told (has nat_eq gs h)) [
-      | inl there ↦ sym (out_there v h stand) ∙ there
+      | inl there ↦ there
       | inr absent ↦
           let high = has_range 0 count h k in
           let below : h < count = omega (arith, high.1) in
@@ -164,5 +161,23 @@ outs_are_counted plan stand v distinct clear =
             | inl same ↦ omega (arith, same, below)
             | inr later ↦ low q later
           ]) in
-          absurd (omega (arith, over, is, full))
+          absurd (omega (arith, over, full))
     ]))
+
+pub all_alike : (p q : ℕ → Bool) → ((x : ℕ) → p x ≡ q x) → (xs : List ℕ) → list_all p xs ≡ list_all q xs
+all_alike p q same [] = refl
+all_alike p q same (x ∷ xs) = ap (λ b. b && list_all p xs) (same x) ∙ ap (λ b. q x && b) (all_alike p q same xs)
+
+-- the grains that are out of a variable are some of its own
+pub outs_below : (plan : Plan) (stand : List Atom) (v : ℕ) → is_clear plan (set_with stand) ≡ true
+    → (h : ℕ) → has nat_eq (grains_out v stand) h ≡ true → h < count_of plan v
+outs_below plan stand v clear h k =
+    let f : Facts plan (set_with stand) = facts plan (set_with stand) clear in
+    ltb-true h (count_of plan v) (f.named (Out v h) (sym (out_there v h stand) ∙ k))
+
+pub outs_are_counted : OutsAreCounted
+outs_are_counted plan stand v distinct clear =
+    all_alike (λ h. has same_atom stand (Out v h)) (has nat_eq (grains_out v stand)) (λ h. sym (out_there v h stand))
+    (numbers_below (count_of plan v))
+    ∙ (filled (count_of plan v) (grains_out v stand) (once v stand distinct) (outs_below plan stand v clear)
+    ∙ ap (λ n. n == count_of plan v) (counted v stand))

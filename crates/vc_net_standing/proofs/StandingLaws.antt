@@ -1,6 +1,6 @@
 -- Facts are found by their places.
 use Rattle.std.proofs.Common.{◌≡◌, ℕ, zero, suc, ◌+◌, ◌^◌, ◌<◌, ◌≤◌, Bool, true, false, not, ◌||◌, List, [], ◌∷◌, ◌++◌, length, map, take, refl, sym, ◌∙◌, ap, subst, inl, inr, arith, length-append}
-use Rattle.std.specs.Prelude.{None, Some, Option, ◌-◌, option_map, get_or, ◌==◌, nat_eq, nat_lt, position, replicate, slice_get, slice_index_or, slice_set, if◌then◌else◌}
+use Rattle.std.specs.Prelude.{None, Some, IfSome, Option, ◌-◌, option_map, get_or, ◌==◌, nat_eq, nat_lt, position, replicate, slice_get, slice_index_or, slice_set, if◌then◌else◌}
 use Rattle.std.specs.List.{AllByRecursion, IsDistinct, position_or_len}
 use Rattle.std.specs.Option.{is_some}
 use Rattle.std.proofs.lemmas.Bool.{and_parts, cases_lt, le-leb, ltb-true, or_cases, or_left, or_parts, or_right}
@@ -23,7 +23,7 @@ use Rattle.vc_net_places.specs.Places.{Index, first_in, place_in}
 use Rattle.vc_net_places.proofs.PlaceLaws.Things.{get_first, get_second}
 use Rattle.vc_net_standing.specs.declared.standing.Fact.{Fact}
 use Rattle.vc_net_standing.specs.Keeping.{IsNumbered}
-use Rattle.vc_net_standing.specs.Standing.{atoms_of, is_free, number_if_of, places_of, value_by, value_if_of}
+use Rattle.vc_net_standing.specs.Standing.{atoms_of, is_free, number_if_at, number_if_of, places_of, value_by, value_if_of}
 
 -- one element more that wasn't there
 module _ {A : Type 0} (same : A → A → Bool) (exact : (a b : A) → same a b ≡ true → a ≡ b)
@@ -33,7 +33,8 @@ module _ {A : Type 0} (same : A → A → Bool) (exact : (a b : A) → same a b 
   more_apart a [] b h e = (e, tt)
   more_apart a (x ∷ xs) b h e = (h.0, more_apart a xs b h.1 e)
 
-  distinct_more : (xs : List A) (b : A) → IsDistinct same xs → has same xs b ≡ false → IsDistinct same (xs ++ b ∷ [])
+  pub distinct_more : (xs : List A) (b : A) → IsDistinct same xs → has same xs b ≡ false
+      → IsDistinct same (xs ++ b ∷ [])
   unfolding IsDistinct
   distinct_more [] b d e = (tt, tt)
   distinct_more (x ∷ xs) b d e =
@@ -80,6 +81,25 @@ found_nowhere facts atom e n fact h =
     (arith, common_steps) in
     ap (same_atom atom) (sym (get_or_from_slice_get (atoms_of facts) n fact.atom atom is))
     ∙ fails_before_first (same_atom atom) (atoms_of facts) n atom (omega (arith, inside, past))
+
+-- a place is of a number where the fact of the number is at it
+pub mapped_at : {X : Type 0} (f : X → ℕ) (p : ℕ → Bool) (xs : List X) (n : ℕ) → position p (map f xs) ≡ Some n
+    → (x : X) × (slice_get xs n ≡ Some x) × (p (f x) ≡ true)
+mapped_at f p xs n e =
+    let at = position-Some p (map f xs) n 0 e in
+    let r = mapped_some f (slice_get xs n) (get_or (map f xs) n 0)
+    (sym (slice_get-map f xs n) ∙ slice_get-get_or (map f xs) n 0 at.0) in
+    (r.0, r.1, ap p r.2 ∙ at.1)
+
+pub mapped_nowhere : {X : Type 0} (f : X → ℕ) (p : ℕ → Bool) (xs : List X) → position p (map f xs) ≡ None
+    → (n : ℕ) (x : X) → slice_get xs n ≡ Some x → p (f x) ≡ false
+mapped_nowhere f p xs e n x h =
+    let is : slice_get (map f xs) n ≡ Some (f x) = slice_get-map f xs n ∙ ap (option_map f) h in
+    let inside : n < length (map f xs) = slice_get_within (map f xs) n (f x) is in
+    let past : length (map f xs) ≤ position_or_len p (map f xs) = grind
+    (arith, common_steps) in
+    ap p (sym (get_or_from_slice_get (map f xs) n (f x) 0 is))
+    ∙ fails_before_first p (map f xs) n 0 (omega (arith, inside, past))
 
 -- a fact is among the atoms, and one is where its place is told
 get_has : (facts : List Fact) (n : ℕ) (fact : Fact) → slice_get facts n ≡ Some fact
@@ -270,6 +290,53 @@ module _ (index : Index) (numbers : List ℕ) (facts : Filled Fact) (kept : IsNu
       ap (λ k. number_if_of atom k (slice_get items k)) is
       ∙ (ap (λ xs. number_if_of atom (number atom) (slice_get xs (number atom))) h ∙ number_is atom)
 
+  -- so is the fact at a place
+  none_at_place : (p : ℕ) → position (nat_eq p) (places_of index facts.items) ≡ None → (o : Option Fact)
+      → slice_get facts.items (at p) ≡ o → number_if_at index p (at p) o ≡ None
+  none_at_place p e None h = refl
+  none_at_place p e (Some fact) h =
+      ap (λ b. if b then Some (at p) else None)
+      (mapped_nowhere (λ (f : Fact). place_in index f.atom) (nat_eq p) facts.items e (at p) fact h)
+
+  one_at_place : (p n : ℕ) → position (nat_eq p) (places_of index facts.items) ≡ Some n
+      → number_if_at index p (at p) (slice_get facts.items (at p)) ≡ Some n
+  one_at_place p n e =
+      let f = mapped_at (λ (f : Fact). place_in index f.atom) (nat_eq p) facts.items n e in
+      let is : at p ≡ n = ap at (number_exact p (place_in index f.0.atom) f.2) ∙ kept.numbered n f.0 f.1 in
+      ap (number_if_at index p (at p)) (ap (slice_get facts.items) is ∙ f.1)
+      ∙ (ap (λ b. if b then Some (at p) else None) f.2 ∙ ap (λ k. Some k) is)
+
+  pub place_is : (p : ℕ) → number_if_at index p (at p) (slice_get facts.items (at p))
+      ≡ position (nat_eq p) (places_of index facts.items)
+  place_is p =
+      elim (position (nat_eq p) (places_of index facts.items)) as
+      (λ o. position (nat_eq p) (places_of index facts.items) ≡ o
+      → number_if_at index p (at p) (slice_get facts.items (at p)) ≡ o) [
+        | None ↦ λ e. none_at_place p e (slice_get facts.items (at p)) refl
+        | Some n ↦ λ e. one_at_place p n e
+      ] refl
+
+  pub place_read : (p : ℕ) (ns : List ℕ) (items : List Fact) (n : ℕ) → ns ≡ numbers → n ≡ slice_index_or ns p 0
+      → items ≡ facts.items → number_if_at index p n (slice_get items n) ≡ position (nat_eq p)
+      (places_of index facts.items)
+  place_read p ns items n e f g =
+      let is : n ≡ at p = f ∙ ap (λ xs. slice_index_or xs p 0) e in
+      ap (λ k. number_if_at index p k (slice_get items k)) is
+      ∙ (ap (λ xs. number_if_at index p (at p) (slice_get xs (at p))) g ∙ place_is p)
+
+  -- and its number is small
+  pub number_small : (p n : ℕ) → position (nat_eq p) (places_of index facts.items) ≡ Some n → n + 1 < 2 ^ 32
+  number_small p n e =
+      let low = (position-Some (nat_eq p) (places_of index facts.items) n 0 e).0 in
+      let all : length (places_of index facts.items) ≤ facts.room
+      = length-le_from_distinct_below (places_of index facts.items) facts.room kept.once kept.below in
+      omega (arith, low, all, kept.small)
+
+  pub numbers_small : (p : ℕ) (o : Option ℕ) → o ≡ position (nat_eq p) (places_of index facts.items)
+      → IfSome o (λ n. n + 1 < 2 ^ 32)
+  numbers_small p None e = tt
+  numbers_small p (Some n) e = number_small p n (sym e)
+
   -- so is a variable's value
   no_value_there : (v : ℕ) → value_in (atoms_of facts.items) v ≡ None → (o : Option Fact)
       → slice_get facts.items (at (first_in index v)) ≡ o → value_if_of v o ≡ None
@@ -315,7 +382,8 @@ module _ (index : Index) (numbers : List ℕ) (facts : Filled Fact) (kept : IsNu
       })
 
   -- the first facts may stay alone
-  pub front_stays : (count : ℕ) (next : Filled Fact) → next ≡ record { items = take count facts.items; room = facts.room }
+  pub front_stays : (count : ℕ) (next : Filled Fact)
+      → next ≡ record { items = take count facts.items; room = facts.room }
       → IsNumbered index numbers next
   front_stays count next e =
       subst (IsNumbered index numbers) (sym e) (record {
@@ -375,7 +443,8 @@ module _ (index : Index) (numbers : List ℕ) (facts : Filled Fact) (kept : IsNu
     old_number : (n : ℕ) (other : Fact) → n < length facts.items → slice_get more n ≡ Some other
         → slice_index_or (slice_set numbers place (length facts.items)) (place_in index other.atom) 0 ≡ n
     old_number n other low h =
-        let was : slice_get facts.items n ≡ Some (get_or facts.items n fact) = slice_get-get_or facts.items n fact low in
+        let was : slice_get facts.items n ≡ Some (get_or facts.items n fact)
+        = slice_get-get_or facts.items n fact low in
         let is : get_or facts.items n fact ≡ other
         = some_injective (sym (get_first facts.items (fact ∷ []) n (get_or facts.items n fact) was) ∙ h) in
         let there : slice_get facts.items n ≡ Some other = was ∙ ap (λ f. Some f) is in

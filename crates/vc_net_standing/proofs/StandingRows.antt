@@ -1,5 +1,5 @@
 -- What stands of a slot with one variable of two texts, computed.
-use Rattle.std.proofs.Common.{◌≡◌, ◌≢◌, true, [], ◌∷◌, refl}
+use Rattle.std.proofs.Common.{◌≡◌, ◌≢◌, None, Some, true, [], ◌∷◌, refl}
 use Rattle.vc_value.specs.declared.value.Value.TheVariants.{Text}
 use Rattle.vc_plan.specs.declared.atoms.Atom.TheVariants.{Here, Out, Is}
 use Rattle.vc_plan.specs.declared.atoms.Origin.TheVariants.{Rule, User}
@@ -7,7 +7,7 @@ use Rattle.vc_plan.specs.Seen.{says}
 use Rattle.vc_net_places.specs.Places.{Index}
 use Rattle.vc_net_places.specs.declared.places.Thing.TheVariants.{Slot, Var}
 use Rattle.vc_net_standing.specs.declared.standing.Fact.{Fact}
-use Rattle.vc_net_standing.specs.Standing.{Stood, atoms_of, first_facts, is_free, nothing_at, places_of, seen_by, set_of, with_fact}
+use Rattle.vc_net_standing.specs.Standing.{Stood, atoms_of, first_facts, is_free, nothing_at, number_if_at, places_of, seen_by, set_of, with_fact}
 
 -- the slot, the variable's value and its two grains
 abbrev lamp : Index
@@ -28,6 +28,12 @@ in_order = refl
 
 at_their_places : places_of lamp both_stand.facts ≡ 2 ∷ 1 ∷ []
 at_their_places = refl
+
+second_at_one : number_if_at lamp 1 1 (Some second_value) ≡ Some 1
+second_at_one = refl
+
+not_at_two : number_if_at lamp 2 1 (Some second_value) ≡ None
+not_at_two = refl
 
 first_alone : first_facts both_stand 1 ≡ with_fact (nothing_at lamp) first_out
 first_alone = refl

@@ -51,6 +51,11 @@ abbrev pub number_if_of : Atom → ℕ → Option Fact → Option ℕ
 number_if_of atom n None = None
 number_if_of atom n (Some fact) = if same_atom atom fact.atom then Some n else None
 
+-- and where it is at the place
+abbrev pub number_if_at : Index → ℕ → ℕ → Option Fact → Option ℕ
+number_if_at index p n None = None
+number_if_at index p n (Some fact) = if p == place_in index fact.atom then Some n else None
+
 -- the value, where the atom is that the variable has one
 abbrev pub value_by : ℕ → Atom → Option Value
 value_by v (Here i) = None

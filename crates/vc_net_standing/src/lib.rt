@@ -4,7 +4,7 @@
 pub mod laws;
 pub mod standing;
 
-pub use standing::{Fact, Standing};
+pub use standing::{Fact, Standing, zeros};
 
 #[cfg(test)]
 mod tests;

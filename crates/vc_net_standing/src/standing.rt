@@ -5,8 +5,8 @@ ghost use Rattle.vc_base.specs.Sets.{has};
 ghost use Rattle.vc_plan.specs.Domains.{atom_count};
 ghost use Rattle.vc_plan.specs.Seen.{is_value, same_atom, says};
 ghost use Rattle.vc_net_places.specs.Places.{index_of, first_in, place_in};
-ghost use Rattle.vc_net_standing.specs.Standing.{atoms_of, is_free, nothing_at, number_if_of, seen_by, value_by};
-ghost use Rattle.vc_net_standing.specs.Standing.{value_if_of, with_fact};
+ghost use Rattle.vc_net_standing.specs.Standing.{atoms_of, is_free, nothing_at, number_if_at, number_if_of, seen_by};
+ghost use Rattle.vc_net_standing.specs.Standing.{value_by, value_if_of, with_fact};
 
 use std::alloc::{AllocError, Global};
 use std::marker::Model;
@@ -46,12 +46,13 @@ impl Model for Standing {
 }
 
 impl Standing {
-    ghost use Rattle.std.specs.Prelude.{◌≡◌, ◌^◌, ◌<◌, true, position, IfOk};
+    ghost use Rattle.std.specs.Prelude.{◌≡◌, ◌+◌, ◌^◌, ◌<◌, true, nat_eq, position, IfOk, IfSome};
     ghost use Rattle.vc_base.specs.Sets.{has};
     ghost use Rattle.vc_plan.specs.Domains.{atom_count};
     ghost use Rattle.vc_plan.specs.Seen.{is_value, same_atom, says};
     ghost use Rattle.vc_net_places.specs.Places.{index_of};
-    ghost use Rattle.vc_net_standing.specs.Standing.{atoms_of, first_facts, is_free, nothing_at, seen_by, with_fact};
+    ghost use Rattle.vc_net_standing.specs.Standing.{atoms_of, first_facts, is_free, nothing_at, places_of, seen_by};
+    ghost use Rattle.vc_net_standing.specs.Standing.{with_fact};
 
     /// Nothing stands but that the root is here.
     pub fn new(alloc: Global, plan: &Plan) -> Result<Standing, AllocError>
@@ -89,6 +90,15 @@ impl Standing {
     {
         let number = number_at(self.numbers.as_slice(), self.places.place_of(atom));
         number_if_of(self.facts.as_slice(), number, atom)
+    }
+
+    /// The number of the fact at the place, counted from 0, if there is one.
+    pub fn number_by_place(&self, place: usize) -> Option<usize>
+        ensures number { result ≡ position (nat_eq place) (places_of self.now.index self.now.facts) }
+        ensures few { IfSome result (λ number. number + 1 < 2 ^ 32) }
+    {
+        let number = number_at(self.numbers.as_slice(), place);
+        number_if_at(&self.places, self.facts.as_slice(), number, place)
     }
 
     /// Whether the atom is one of the facts.
@@ -153,8 +163,8 @@ impl View for Standing {
     }
 }
 
-// As many zeros.
-fn zeros(alloc: Global, count: usize) -> Result<Listed<u32>, AllocError>
+/// As many zeros.
+pub fn zeros(alloc: Global, count: usize) -> Result<Listed<u32>, AllocError>
     ensures { IfOk result (λ numbers. numbers ≡ replicate count 0) }
 {
     let mut numbers = Listed::new(alloc);
@@ -180,6 +190,16 @@ fn number_if_of(facts: &[Fact], number: usize, atom: Atom) -> Option<usize>
 {
     match facts.get(number) {
         Some(fact) if same_atom(atom, fact.atom) => Some(number),
+        _ => None,
+    }
+}
+
+// The number, where the fact of this number is at the place.
+fn number_if_at(places: &Places, facts: &[Fact], number: usize, place: usize) -> Option<usize>
+    ensures { result ≡ number_if_at places.now place number (slice_get facts.now number) }
+{
+    match facts.get(number) {
+        Some(fact) if place == places.place_of(fact.atom) => Some(number),
         _ => None,
     }
 }

@@ -113,6 +113,8 @@ fn finds_what_came(rt: HostRuntime) -> Result<(), Fail> {
     assert!(rt; standing.stands(Atom::Here(0)));
     assert_eq!(rt; standing.number_of(Atom::Is(0, Value::Text(1))), Some(1));
     assert_eq!(rt; standing.number_of(Atom::Is(0, Value::Text(0))), None);
+    assert_eq!(rt; standing.number_by_place(1), Some(1));
+    assert_eq!(rt; standing.number_by_place(3), None);
     assert_eq!(rt; standing.places().count(), 4);
     assert_eq!(rt; standing.facts().len(), 2);
     standing.truncate(1);

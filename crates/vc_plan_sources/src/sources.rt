@@ -1,6 +1,6 @@
 //! Of each variable the user's value, and the entry that a statement wrote.
 
-ghost use Rattle.std.specs.Prelude.{◌≡◌, replicate, None, IfOk};
+ghost use Rattle.std.specs.Prelude.{◌≡◌, length, replicate, None, IfOk};
 
 use std::alloc::{AllocError, Global};
 use std::marker::Model;
@@ -75,6 +75,26 @@ impl Sources {
         ensures { self.new ≡ with_entry self.old var (option_map entry_from entry) }
     {
         self.entries.set(var as usize, entry);
+    }
+
+    /// Makes these the sources that the others are, of as many variables. It takes no memory.
+    pub fn copy_from(&mut self, other: &Sources)
+        requires users { length self.old.user ≡ length other.now.user }
+        requires entries { length self.old.written ≡ length other.now.written }
+        ensures { self.new ≡ other.now }
+    {
+        copy_all(&mut self.users, other.users.as_slice());
+        copy_all(&mut self.entries, other.entries.as_slice());
+    }
+}
+
+// Puts each element in the place of another.
+fn copy_all<T: Copy + Drop>(list: &mut Listed<T>, from: &[T])
+    requires { length list.old ≡ length from.now }
+    ensures { list.new ≡ from.now }
+{
+    for place in 0..from.len() {
+        list.set(place, from[place]);
     }
 }
 

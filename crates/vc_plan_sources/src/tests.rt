@@ -69,3 +69,36 @@ fn keeps_what_is_set(rt: HostRuntime) -> Result<(), Fail> {
     assert_eq!(rt; sources.user(2), None);
     Ok(())
 }
+
+// Whether sources of two variables that had a value are the others after a copy.
+fn are_copied(alloc: Global, plan: &Plan, sources: &Sources) -> Result<bool, AllocError>
+    requires vars { length plan.now.vars ≡ 2 }
+    requires users { length sources.now.user ≡ 2 }
+    requires entries { length sources.now.written ≡ 2 }
+{
+    let mut copy = Sources::new(alloc, plan)?;
+    copy.set_user(0, Some(Value::Text(1)));
+    copy.copy_from(sources);
+    let same = copy.user(0) == sources.user(0) && copy.written(1) == sources.written(1);
+    drop(copy);
+    Ok(same)
+}
+
+fn copies_in(alloc: Global, plan: &Plan) -> Result<bool, AllocError>
+    requires { length plan.now.vars ≡ 2 }
+{
+    let mut sources = Sources::new(alloc, plan)?;
+    sources.set_written(1, Some((Mark::Outside, 2, 3)));
+    let same = are_copied(alloc, plan, &sources);
+    drop(sources);
+    same
+}
+
+#[test]
+fn copies_all(rt: HostRuntime) -> Result<(), Fail> {
+    let plan = plan_of_two(rt.alloc())?;
+    let same = copies_in(rt.alloc(), &plan);
+    drop(plan);
+    assert!(rt; same?);
+    Ok(())
+}

@@ -1,0 +1,246 @@
+-- How the turns of givers end, and how the work begins and ends.
+use Rattle.std.proofs.Common.{◌≡◌, ℕ, zero, suc, ◌+◌, ◌<◌, ◌≤◌, true, List, [], ◌∷◌, ◌++◌, length, refl, sym, ◌∙◌}
+use Rattle.std.proofs.Common.{ap, subst, inl, inr, arith, append-nil, append_assoc, add-one, length-append}
+use Rattle.std.specs.Prelude.{Option, None, Some, option_map, slice_get}
+use Rattle.vc_base.specs.Sets.{has, Within}
+use Rattle.vc_base.proofs.SetLaws.{has_cases, has_either, has_first}
+use Rattle.vc_plan.specs.declared.atoms.Atom.{Atom}
+use Rattle.vc_plan.specs.declared.atoms.Step.{Step}
+use Rattle.vc_plan.specs.declared.plans.Plan.{Plan}
+use Rattle.vc_plan.specs.Gives.{Giver}
+use Rattle.vc_plan.specs.Seen.{says}
+use Rattle.vc_plan.specs.Sources.{Sources}
+use Rattle.vc_plan.specs.Valid.{IsValid}
+use Rattle.vc_plan_reasons.specs.Checking.{is_accepted, is_silent}
+use Rattle.vc_rule_premises.specs.Saying.{concluding, given_of}
+use Rattle.vc_rule_yield.specs.Yielding.{Conclusion}
+use Rattle.vc_net_agenda.specs.Agendas.{Awaited, added}
+use Rattle.vc_net_agenda.proofs.AgendaLaws.{others_still_wait}
+use Rattle.vc_net_laws.specs.Forced.{is_quiet}
+use Rattle.vc_net_laws.specs.Working.{IsWorking, same_giver}
+use Rattle.vc_net_laws.proofs.NetLaws.Working.{agendas_may_grow, giver_exact, giver_itself, quiet_may_leave}
+use Rattle.vc_net_laws.proofs.NetLaws.Working.{work_ends}
+use Rattle.vc_net_log.specs.Logs.{seen_by, set_of}
+use Rattle.vc_net_sources.specs.Asking.{found_from}
+use Rattle.vc_net_sources.proofs.GiverLaws.{found_is_given}
+use Rattle.vc_net_waking.proofs.BeginningLaws.{beginners_suffice}
+use Rattle.vc_net_waking.proofs.GiverLaws.{each_waits, sizes_stay}
+use Rattle.vc_net_waking.specs.Beginning.{beginners}
+use Rattle.vc_net.specs.Breaking.{clash_from, steps_with}
+use Rattle.vc_net.specs.Going.{HasCome, HasGoneOn, IsBrokenOff, IsGoing, MayCome, WasFound, turns_of}
+use Rattle.vc_net.specs.Ending.{EndsAs, IsSettled}
+use Rattle.vc_net.specs.declared.work.Work.{Work}
+use Rattle.vc_net.specs.Working.{IsWorkOf, asking_next, restarted, with_giver}
+use Rattle.vc_net.proofs.GoingLaws.{found_may_come, found_new, may_still_come}
+use Rattle.vc_net.proofs.PlanFacts.{base_clear}
+
+-- what is so far of a giver's turn: nothing came, or it is asked again
+abbrev pub SoFar : Giver → Work → Work → ℕ → Type 0
+SoFar giver start now zero = now ≡ start
+SoFar giver start now (suc n) = has same_giver now.agenda.givers giver ≡ true
+
+pub record IsTurning (plan : Plan) (sources : Sources) (giver : Giver) (start now : Work) (place : ℕ) : Type 0 where
+  pub going : IsGoing plan sources now (giver ∷ [])
+  pub more : List Step
+  pub grown : now.log.steps ≡ start.log.steps ++ more
+  pub fewer : turns_of plan now ≤ turns_of plan start
+  pub calm : now.breaker ≡ start.breaker
+  pub so_far : SoFar giver start now place
+
+pub turn_begins : (plan : Plan) (sources : Sources) (giver : Giver) (work : Work)
+    → IsGoing plan sources work (giver ∷ []) → IsTurning plan sources giver work work 0
+turn_begins plan sources giver work going = record {
+  going = going;
+  more = [];
+  grown = sym (append-nil work.log.steps);
+  fewer = omega arith;
+  calm = refl;
+  so_far = refl;
+}
+
+-- a conclusion that is read in two parts
+pub conclusion_there : (o : Option Conclusion) (a : Atom) (premises : List Atom)
+    → option_map (λ conclusion. conclusion.atom) o ≡ Some a
+    → option_map (λ conclusion. conclusion.premises) o ≡ Some premises
+    → o ≡ Some (record { atom = a; premises = premises })
+conclusion_there None a premises e f = absurd (cc)
+conclusion_there (Some conclusion) a premises e f =
+    let first : conclusion.atom ≡ a = cc in
+    let second : conclusion.premises ≡ premises = cc in
+    ap (λ x. Some (record { atom = x; premises = conclusion.premises })) first
+    ∙ ap (λ xs. Some (record { atom = a; premises = xs })) second
+
+-- the next conclusion may come
+module _ (plan : Plan) (sources : Sources) (giver : Giver) (start now : Work) (all : List Conclusion) (place : ℕ)
+    (conclusion : Conclusion) (valid : IsValid plan) (going : IsGoing plan sources start (giver ∷ []))
+    (was : WasFound plan sources start giver all) (is : slice_get all place ≡ Some conclusion)
+    (turning : IsTurning plan sources giver start now place) where
+  pub next_may_come : MayCome plan sources now.log.steps giver conclusion.atom conclusion.premises
+  next_may_come =
+      may_still_come plan sources start.log.steps turning.more now.log.steps giver conclusion.atom conclusion.premises
+      turning.grown (found_may_come plan sources start giver all place conclusion valid going was is)
+
+  -- and when it has, the turn goes on
+  pub turn_goes_on : (later : Work) → HasCome plan sources giver conclusion.atom now later
+      → IsTurning plan sources giver start later (place + 1)
+  turn_goes_on later come = record {
+    going = come.going;
+    more = turning.more ++ come.more;
+    grown = come.grown ∙ (ap (λ xs. xs ++ come.more) turning.grown ∙ append_assoc start.log.steps turning.more
+        come.more);
+    fewer = let one = come.fewer in let rest = turning.fewer in omega (arith, one, rest);
+    calm = come.calm ∙ turning.calm;
+    so_far = subst (λ n. SoFar giver start later n) (sym (add-one place)) (asked place turning.so_far is);
+  }
+    where
+      asked : (n : ℕ) → SoFar giver start now n → slice_get all n ≡ Some conclusion
+          → has same_giver later.agenda.givers giver ≡ true
+      asked zero same first =
+          come.waits (ap (λ w. says (seen_by w.log) conclusion.atom) same
+          ∙ found_new plan sources start giver all zero conclusion valid going was first)
+      asked (suc n) waits next = come.wait_on giver waits
+
+-- who waits needn't stand beside the agenda
+within_one : (givers : List Giver) (giver : Giver) → has same_giver givers giver ≡ true
+    → Within same_giver (givers ++ giver ∷ []) givers
+within_one givers giver waits other h =
+    elim (has_either same_giver giver_exact giver_itself givers (giver ∷ []) other h) [
+      | inl p ↦ p
+      | inr p ↦ elim (has_cases same_giver giver_exact giver_itself giver [] other p) [
+        | inl q ↦ ap (has same_giver givers) q ∙ waits
+        | inr q ↦ absurd (cc)
+      ]
+    ]
+
+-- with nobody beside
+pub nobody_beside : (plan : Plan) (sources : Sources) (work : Work) → IsWorkOf plan work
+    → is_accepted plan sources work.log.steps ≡ true
+    → IsWorking plan sources work.agenda.givers (set_of work.log) → IsGoing plan sources work []
+nobody_beside plan sources work of accepted working = record {
+  of = of;
+  accepted = accepted;
+  working = subst (λ givers. IsWorking plan sources givers (set_of work.log))
+      (sym (append-nil work.agenda.givers)) working;
+}
+
+-- the turn ends when all conclusions have come
+pub turn_ends : (plan : Plan) (sources : Sources) (giver : Giver) (start now : Work) (all : List Conclusion)
+    → WasFound plan sources start giver all → IsTurning plan sources giver start now (length all)
+    → HasGoneOn plan sources start now
+turn_ends plan sources giver start now all was turning = record {
+  going = nobody_beside plan sources now turning.going.of turning.going.accepted (by all was turning.so_far);
+  fewer = turning.fewer;
+  calm = turning.calm;
+}
+  where
+    quiet : found_from plan sources (seen_by start.log) giver ≡ concluding []
+        → is_quiet plan sources (set_of start.log) giver ≡ true
+    quiet none =
+        ap is_silent (sym (found_is_given plan sources (seen_by start.log) giver) ∙ ap given_of none)
+
+    by : (all : List Conclusion) → WasFound plan sources start giver all → SoFar giver start now (length all)
+        → IsWorking plan sources now.agenda.givers (set_of now.log)
+    by [] none same =
+        quiet_may_leave plan sources now.agenda.givers (set_of now.log) giver turning.going.working
+        (ap (λ w. is_quiet plan sources (set_of w.log) giver) same ∙ quiet none)
+    by (c ∷ more) some waits =
+        agendas_may_grow plan sources (now.agenda.givers ++ giver ∷ []) now.agenda.givers (set_of now.log)
+        turning.going.working (within_one now.agenda.givers giver waits)
+
+-- who is taken from the agenda stands beside it, and one turn less is left
+pub giver_taken : (plan : Plan) (sources : Sources) (old new : Work) (giver : Giver) → old ≡ asking_next new giver
+    → IsGoing plan sources old [] → IsGoing plan sources new (giver ∷ [])
+giver_taken plan sources old new giver e going =
+    let was : IsGoing plan sources (asking_next new giver) [] = subst (λ w. IsGoing plan sources w []) e going
+    in record {
+      of = record {
+        index = was.of.index;
+        begins = was.of.begins;
+        sizes = was.of.sizes;
+        readers = was.of.readers;
+        untriggered = was.of.untriggered;
+        reasons = was.of.reasons;
+        collisions = was.of.collisions;
+        clashes = was.of.clashes;
+      };
+      accepted = was.accepted;
+      working = subst (λ givers. IsWorking plan sources givers (set_of new.log))
+          (append-nil (new.agenda.givers ++ giver ∷ [])) was.working;
+    }
+
+pub turn_taken : (plan : Plan) (old new : Work) (giver : Giver) → old ≡ asking_next new giver
+    → turns_of plan new < turns_of plan old
+turn_taken plan old new giver e =
+    let count = length-append new.agenda.givers (giver ∷ []) in
+    let less : turns_of plan new < turns_of plan (asking_next new giver) = omega (arith, count) in
+    subst (λ w. turns_of plan new < turns_of plan w) (sym e) less
+
+-- the work begins anew
+pub work_restarts : (plan : Plan) (sources : Sources) (work : Work) → IsValid plan → IsWorkOf plan work
+    → IsGoing plan sources (restarted plan work) []
+work_restarts plan sources work valid of =
+    let agenda : Awaited = record { rules = work.agenda.rules; vars = work.agenda.vars; givers = [] } in
+    let sizes = sizes_stay agenda (beginners plan) in
+    nobody_beside plan sources (restarted plan work) (record {
+      index = of.index;
+      begins = of.begins;
+      sizes = (sizes.0 ∙ of.sizes.0, sizes.1 ∙ of.sizes.1);
+      readers = of.readers;
+      untriggered = of.untriggered;
+      reasons = of.reasons;
+      collisions = of.collisions;
+      clashes = of.clashes;
+    }) refl (beginners_suffice plan sources work.agenda of.sizes (base_clear plan valid))
+
+-- and ends where nobody is left
+pub work_is_done : (plan : Plan) (sources : Sources) (work : Work) → IsGoing plan sources work []
+    → work.breaker.culprit ≡ None → work.agenda.givers ≡ [] → IsSettled plan sources work
+work_is_done plan sources work going calm nobody = record {
+  going = going;
+  ends = subst (λ c. EndsAs plan sources work c) (sym (ap (λ c. clash_from
+      (steps_with work.log.steps work.breaker.fact work.breaker.reasons.items) work.breaker.premises.items c) calm))
+      (work_ends plan sources (set_of work.log)
+      (subst (λ givers. IsWorking plan sources (givers ++ []) (set_of work.log)) nobody going.working));
+}
+
+-- or where something contradicts: then the giver at hand is asked again
+module _ (plan : Plan) (sources : Sources) (work : Work) (giver : Giver)
+    (off : IsBrokenOff plan sources giver work) where
+  still : IsWorkOf plan (with_giver work giver)
+  still =
+      let sizes = sizes_stay work.agenda (giver ∷ []) in record {
+        index = off.going.of.index;
+        begins = off.going.of.begins;
+        sizes = (sizes.0 ∙ off.going.of.sizes.0, sizes.1 ∙ off.going.of.sizes.1);
+        readers = off.going.of.readers;
+        untriggered = off.going.of.untriggered;
+        reasons = off.going.of.reasons;
+        collisions = off.going.of.collisions;
+        clashes = off.going.of.clashes;
+      }
+
+  waits : has same_giver (added work.agenda giver).givers giver ≡ true
+  waits =
+      each_waits plan work.agenda (giver ∷ []) giver off.going.of.sizes
+      (has_first same_giver giver_exact giver_itself giver []) off.giver_there
+
+  within : Within same_giver (work.agenda.givers ++ giver ∷ []) (added work.agenda giver).givers
+  within other h =
+      elim (has_either same_giver giver_exact giver_itself work.agenda.givers (giver ∷ []) other h) [
+        | inl p ↦ others_still_wait work.agenda giver other p
+        | inr p ↦ elim (has_cases same_giver giver_exact giver_itself giver [] other p) [
+          | inl q ↦ ap (has same_giver (added work.agenda giver).givers) q ∙ waits
+          | inr q ↦ absurd (cc)
+        ]
+      ]
+
+  pub work_is_broken : IsSettled plan sources (with_giver work giver)
+  work_is_broken = record {
+    going =
+        nobody_beside plan sources (with_giver work giver) still off.going.accepted
+        (agendas_may_grow plan sources (work.agenda.givers ++ giver ∷ []) (added work.agenda giver).givers
+        (set_of work.log)
+        off.going.working within);
+    ends =
+        subst (λ c. EndsAs plan sources (with_giver work giver) c) (sym off.blames.1) (off.breaks, off.blames.2);
+  }

@@ -1,0 +1,39 @@
+-- What a giver says fits the room; a clash breaks the net.
+use Rattle.std.proofs.Common.{sym, ◌∙◌, ap, subst}
+use Rattle.vc_rule_laws.proofs.BoundLaws.{clear_lies_in_grains}
+use Rattle.vc_rule_premises.specs.Saying.{HasRoomFor}
+use Rattle.vc_net_agenda.specs.Agendas.{meant}
+use Rattle.vc_net_log.specs.Logs.{seen_by, set_of}
+use Rattle.vc_net_sources.specs.Asking.{found_from}
+use Rattle.vc_net_sources.proofs.RoomLaws.{rooms_suffice}
+use Rattle.vc_net.specs.Breaking.{clashed}
+use Rattle.vc_net.specs.Going.{IsBrokenOff}
+use Rattle.vc_net.specs.Working.{with_breaker}
+use Rattle.vc_net.proofs.BreakLaws.{clash_breaks_off, clash_found}
+use Rattle.vc_net.proofs.settling.turn.Goals as goal
+
+pub ask-requires-clause-values : goal.ask-requires-clause-values
+ask-requires-clause-values g c =
+    clear_lies_in_grains c.args.plan.now (set_of c.args.work.now.log) c.requires.going.working.sound.clear
+
+pub ask-requires-clause-room : goal.ask-requires-clause-room
+ask-requires-clause-room g c =
+    let plan = c.args.plan.now in
+    let seen = seen_by c.args.work.now.log in
+    subst (λ rooms. HasRoomFor rooms (found_from plan c.args.sources.now seen (meant c.args.giver)))
+    (sym c.requires.rooms)
+    (rooms_suffice plan c.args.sources.now seen (meant c.args.giver) c.requires.valid
+    (clear_lies_in_grains plan (set_of c.args.work.now.log) c.requires.going.working.sound.clear))
+
+pub returns-in-Some-clause-ends : goal.returns-in-Some-clause-ends
+returns-in-Some-clause-ends g c =
+    let plan = c.args.plan.now in
+    let sources = c.args.sources.now in
+    let work = c.args.work.now in
+    let giver = meant c.args.giver in
+    let premises = c.in-Some.premises.now in
+    let e = c.keep_clash.ensures ∙ ap (λ culprit. clashed work.breaker culprit premises) c.culprit_of.ensures in
+    subst (λ b. IsBrokenOff plan sources giver (with_breaker work b)) (sym e)
+    (clash_breaks_off plan sources work giver premises c.requires.valid c.requires.fits c.requires.going
+    (clash_found c.ask.new.out (found_from plan sources (seen_by work.log) giver) premises c.ask.ensures.found
+    c.in-Some.ensures.some))

@@ -1,0 +1,38 @@
+-- How the work of a net ends.
+use Rattle.std.specs.Prelude.{◌≡◌, ◌<◌, ◌^◌, true, List, [], length, Option, None, Some}
+use Rattle.vc_base.specs.Rounds.{broken, settled}
+use Rattle.vc_base.specs.Sets.{has}
+use Rattle.vc_plan.specs.declared.atoms.Atom.{Atom}
+use Rattle.vc_plan.specs.declared.atoms.Clash.{Clash}
+use Rattle.vc_plan.specs.declared.plans.Plan.{Plan}
+use Rattle.vc_plan.specs.Seen.{same_atom}
+use Rattle.vc_plan.specs.Settle.{settlement_of}
+use Rattle.vc_plan.specs.Sources.{Sources}
+use Rattle.vc_plan.specs.Valid.{IsValid}
+use Rattle.vc_plan_reasons.specs.Refuting.{refutes}
+use Rattle.vc_net_log.specs.Logs.{set_of}
+use Rattle.vc_net.specs.declared.work.Work.{Work}
+use Rattle.vc_net.specs.Breaking.{clash_in}
+use Rattle.vc_net.specs.Going.{IsGoing}
+
+-- the clash of its steps, if anything broke it
+abbrev pub clash_of : Work → Option Clash
+clash_of work = clash_in work.log.steps work.breaker
+
+-- settling with the sources ends at just what stands by the log, where nothing broke it; else it is broken, and the
+-- clash refutes them
+abbrev pub EndsAs : Plan → Sources → Work → Option Clash → Type 0
+EndsAs plan sources work None =
+    (end : List Atom) × (settlement_of plan sources ≡ settled end)
+    × ((atom : Atom) → has same_atom end atom ≡ has same_atom (set_of work.log) atom)
+EndsAs plan sources work (Some clash) = (settlement_of plan sources ≡ broken) × (refutes plan sources clash ≡ true)
+
+-- the work came to an end: then too whoever isn't asked again has nothing more to say
+pub record IsSettled (plan : Plan) (sources : Sources) (work : Work) : Type 0 where
+  pub going : IsGoing plan sources work []
+  pub ends : EndsAs plan sources work (clash_of work)
+
+-- the log of a valid plan's work has fewer steps than a number of 31 bits tells
+abbrev pub LogsAreShort : Type 0
+LogsAreShort = (plan : Plan) (sources : Sources) (work : Work) → IsValid plan → IsGoing plan sources work []
+    → length work.log.steps < 2 ^ 31

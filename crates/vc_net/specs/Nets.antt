@@ -1,0 +1,32 @@
+-- A net: its sources, what it works on, and how settling ended.
+use Rattle.std.specs.Prelude.{◌≡◌, length, Option, None, Some}
+use Rattle.vc_plan.specs.declared.atoms.Culprit.{Culprit}
+use Rattle.vc_plan.specs.declared.atoms.Outcome.{Outcome}
+use Rattle.vc_plan.specs.declared.atoms.Outcome.TheVariants as outcomes
+use Rattle.vc_plan.specs.declared.plans.Plan.{Plan}
+use Rattle.vc_plan.specs.Sources.{Sources}
+use Rattle.vc_rule.specs.Rooms.{rooms_of}
+use Rattle.vc_rule_yield.specs.Yielding.{Rooms}
+use Rattle.vc_net.specs.declared.work.Work.{Work}
+use Rattle.vc_net.specs.Working.{IsWorkOf}
+
+-- the sources, what is worked on, and how much room there is for what a giver says
+pub record Netted : Type 0 where
+  pub sources : Sources
+  pub work : Work
+  pub rooms : Rooms
+
+-- the sources are of as many variables as the plan has
+abbrev pub AreFor : Plan → Sources → Type 0
+AreFor plan sources = (length sources.user ≡ length plan.vars) × (length sources.written ≡ length plan.vars)
+
+-- what doesn't change is the plan's
+pub record IsNetOf (plan : Plan) (net : Netted) : Type 0 where
+  pub work : IsWorkOf plan net.work
+  pub rooms : net.rooms ≡ rooms_of plan
+  pub sources : AreFor plan net.sources
+
+-- the outcome of whom to blame, if anything broke it
+abbrev pub outcome_by : Option Culprit → Outcome
+outcome_by None = outcomes.Settled
+outcome_by (Some culprit) = outcomes.Broken culprit

@@ -1,0 +1,8 @@
+//! Laws of nets, each the contract of a function that does nothing.
+
+ghost use Rattle.vc_net.specs.Ending.{LogsAreShort};
+
+/// The log of a net has so few steps that numbers of 32 bits tell them, and one more.
+pub fn logs_are_short()
+    ensures { LogsAreShort }
+{}

@@ -1,0 +1,16 @@
+//! The net of a plan: it settles the plan's rules with given sources, and keeps each conclusion with what it follows
+//! from, or what contradicts.
+#![tactic(auto)]
+
+pub mod breaker;
+pub mod clashes;
+pub mod laws;
+pub mod net;
+pub mod settling;
+pub mod turn;
+pub mod work;
+
+pub use net::Net;
+
+#[cfg(test)]
+mod tests;

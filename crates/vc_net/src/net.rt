@@ -1,0 +1,134 @@
+//! A net: it settles a plan with given sources.
+
+ghost use Rattle.std.specs.Prelude.{◌≡◌, IfOk};
+ghost use Rattle.vc_plan.specs.Valid.{IsValid};
+ghost use Rattle.vc_net_bounds.specs.Counting.{clash_cells};
+ghost use Rattle.vc_net_places.specs.Cells.{bounds_of};
+ghost use Rattle.vc_net.specs.Nets.{IsNetOf};
+
+use crate::clashes::clash;
+use crate::settling::settle;
+use crate::work::Work;
+use std::alloc::{AllocError, Global};
+use std::marker::Model;
+use std::sync::ledger::Ledger;
+use vc_net_bounds::{Bounds, Counted, bounds_of};
+use vc_plan::{Clash, Outcome, Plan, Step, View};
+use vc_plan_sources::Sources;
+use vc_rule::new_yield;
+use vc_rule_yield::Yield;
+use vc_value::{Listed, Value};
+use vc_value_steps::Steps;
+
+/// What a plan's rules come to with given sources: each conclusion with what it follows from, or what contradicts. All
+/// memory is taken at `new`.
+#[derive(Drop)]
+pub struct Net {
+    sources: Sources,
+    work: Work,
+    out: Yield,
+}
+
+impl Model for Net {
+    ghost use Rattle.vc_net.specs.Nets.{Netted};
+
+    ghost Value = { Netted };
+
+    ghost view = { λ n. record { sources = n.sources; work = n.work; rooms = n.out.rooms } };
+}
+
+impl Net {
+    ghost use Rattle.std.specs.Prelude.{◌≡◌, ◌^◌, ◌<◌, true, length, IfOk};
+    ghost use Rattle.vc_plan.specs.Valid.{IsValid};
+    ghost use Rattle.vc_plan_reasons.specs.Fitting.{sources_fit};
+    ghost use Rattle.vc_net.specs.Ending.{IsSettled, clash_of};
+    ghost use Rattle.vc_net.specs.Nets.{AreFor, IsNetOf, outcome_by};
+
+    /// The net of the plan, without sources; only the root is here. Its outcome is told from the first `sync` on.
+    pub fn new(alloc: Global, plan: &Plan) -> Result<Net, AllocError>
+        requires { IsValid plan.now }
+        ensures { IfOk result (λ net. IsNetOf plan.now net) }
+    {
+        match bounds_of(alloc, plan)? {
+            Counted::Within(bounds) => {
+                let net = with_bounds(alloc, plan, &bounds);
+                drop(bounds);
+                net
+            }
+            Counted::TooMany => unreachable!(),
+        }
+    }
+
+    /// How settling ended with the sources of the last `sync`.
+    pub fn outcome(&self) -> Outcome
+        ensures { result ≡ outcome_by self.now.work.breaker.culprit }
+    {
+        match self.work.breaker.culprit {
+            Some(culprit) => Outcome::Broken(culprit),
+            None => Outcome::Settled,
+        }
+    }
+
+    /// Its conclusions in the order in which they came, each with the numbers of the steps that it follows from.
+    pub fn log(&self, alloc: Global) -> Result<Listed<Step>, AllocError>
+        ensures { IfOk result (λ steps. steps ≡ self.now.work.log.steps) }
+    {
+        self.work.log.steps(alloc)
+    }
+
+    /// What contradicts, if anything does: the steps that lead to it, whom to blame, and which contradict. That it
+    /// may be asked `logs_are_short` shows.
+    pub fn clash(&self, alloc: Global) -> Result<Option<Clash>, AllocError>
+        requires { length self.now.work.log.steps < 2 ^ 31 }
+        ensures { IfOk result (λ clash. clash ≡ clash_of self.now.work) }
+    {
+        clash(alloc, &self.work.log, &self.work.breaker)
+    }
+
+    /// Settles the plan anew with these sources. It takes no memory. Where it is settled just the conclusions of the
+    /// log stand beside that the root is here; where it is broken a clash of the log refutes the sources.
+    pub fn sync<L: Ledger>(&mut self, plan: &Plan, sources: &Sources, steps: &mut Steps<L>)
+        requires valid { IsValid plan.now }
+        requires of { IsNetOf plan.now self.old }
+        requires lengths { AreFor plan.now sources.now }
+        requires fits { sources_fit plan.now sources.now ≡ true }
+        ensures of { IsNetOf plan.now self.new }
+        ensures sources { self.new.sources ≡ sources.now }
+        ensures settled { IsSettled plan.now sources.now self.new.work }
+    {
+        self.sources.copy_from(sources);
+        self.work.restart(plan);
+        settle(plan, &self.sources, &mut self.work, &mut self.out, steps);
+    }
+}
+
+impl View for Net {
+    ghost use Rattle.vc_net_log.specs.Logs.{seen_by};
+
+    ghost seen = { λ n. seen_by n.work.log };
+
+    fn here(&self, slot: u32) -> bool {
+        self.work.log.here(slot)
+    }
+
+    fn out(&self, var: u32, grain: u32) -> bool {
+        self.work.log.out(var, grain)
+    }
+
+    fn value(&self, var: u32) -> Option<Value> {
+        self.work.log.value(var)
+    }
+}
+
+// The net of a plan whose places need so many cells.
+fn with_bounds(alloc: Global, plan: &Plan, bounds: &Bounds) -> Result<Net, AllocError>
+    requires valid { IsValid plan.now }
+    requires places { bounds.now.places ≡ bounds_of plan.now }
+    requires clash { bounds.now.clash ≡ clash_cells plan.now }
+    ensures { IfOk result (λ net. IsNetOf plan.now net) }
+{
+    let sources = Sources::new(alloc, plan)?;
+    let work = Work::new(alloc, plan, bounds)?;
+    let out = new_yield(alloc, plan)?;
+    Ok(Net { sources, work, out })
+}

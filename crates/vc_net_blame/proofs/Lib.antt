@@ -1,0 +1,3 @@
+pub mod CollidingLemmas
+pub mod CulpritLaws
+pub mod RangeLemmas

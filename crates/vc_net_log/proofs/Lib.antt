@@ -1,0 +1,11 @@
+pub mod ComingLaws
+pub mod HoldLaws
+pub mod KeptLaws
+pub mod LogLaws
+pub mod LogRows
+pub mod NewLaws
+pub mod NumberLaws
+pub mod OutLaws
+pub mod PushLaws
+pub mod ScanLaws
+pub mod WritingLaws

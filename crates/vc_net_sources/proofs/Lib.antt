@@ -1,0 +1,2 @@
+pub mod GiverLaws
+pub mod RoomLaws

@@ -1,0 +1,57 @@
+-- What any giver says at what is seen, with what it follows from.
+use Rattle.std.specs.Prelude.{ℕ, List, [], ◌∷◌, Option, None, Some}
+use Rattle.vc_base.specs.Rounds.{Given, clash, atoms}
+use Rattle.vc_plan.specs.declared.atoms.Atom.{Atom}
+use Rattle.vc_plan.specs.declared.atoms.Atom.TheVariants.{Is}
+use Rattle.vc_plan.specs.declared.atoms.Origin.{Origin}
+use Rattle.vc_plan.specs.declared.atoms.Origin.TheVariants as origins
+use Rattle.vc_plan.specs.declared.plans.Plan.{Plan}
+use Rattle.vc_plan.specs.Answers.{nothing}
+use Rattle.vc_plan.specs.Gives.{Giver, by_rule, by_user, by_entry, giver_says, if_here}
+use Rattle.vc_plan.specs.Seen.{Seen}
+use Rattle.vc_plan.specs.Sources.{Sources, Entry, entry_of}
+use Rattle.vc_rule_premises.specs.Cited.{cited_once}
+use Rattle.vc_rule_premises.specs.Saying.{Said, said_from}
+use Rattle.vc_rule_grains.specs.Kinds.{slot_of}
+use Rattle.vc_rule.specs.Evaluating.{found_at}
+use Rattle.vc_net_sources.specs.declared.telling.Telling.{Telling}
+use Rattle.vc_net_sources.specs.declared.telling.Telling.TheVariants.{Nothing, Value, Outside}
+
+-- that the slot of a variable is here, which a source reads; nothing where it is the root, which needs no step
+abbrev pub why_there : Plan → ℕ → List Atom
+why_there plan v = cited_once (slot_of plan v)
+
+-- what a source of the variable says where the slot is here, and doesn't stand yet
+abbrev pub source_said : Plan → Seen → ℕ → Given Atom → Said
+source_said plan seen v given = said_from seen (why_there plan v) (if_here plan seen v given)
+
+-- what is found by a giver: by a rule what it says where it acts, by a source of a variable the value that it has, or a
+-- clash where the variable can't have it
+abbrev pub found_from : Plan → Sources → Seen → Giver → Said
+found_from plan sources seen (by_rule r) = found_at plan seen r
+found_from plan sources seen (by_user v) =
+    said_from seen (why_there plan v) (giver_says plan sources (by_user v) seen)
+found_from plan sources seen (by_entry v) =
+    said_from seen (why_there plan v) (giver_says plan sources (by_entry v) seen)
+
+-- the origin of what a giver concludes. An entry that isn't there concludes nothing
+abbrev pub origin_by : Option Entry → Origin
+origin_by None = origins.User
+origin_by (Some entry) = origins.Written entry.procedure entry.statement
+
+abbrev pub origin_of : Sources → Giver → Origin
+origin_of sources (by_rule r) = origins.Rule r
+origin_of sources (by_user v) = origins.User
+origin_of sources (by_entry v) = origin_by (entry_of sources v)
+
+-- how many evaluations of rules it is to ask a giver
+abbrev pub evaluations : Giver → ℕ
+evaluations (by_rule r) = 1
+evaluations (by_user v) = 0
+evaluations (by_entry v) = 0
+
+-- what a source tells, as said of a variable
+abbrev pub given_by : ℕ → Telling → Given Atom
+given_by v Nothing = nothing
+given_by v (Value a) = atoms (Is v a ∷ [])
+given_by v Outside = clash

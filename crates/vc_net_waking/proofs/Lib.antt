@@ -1,0 +1,3 @@
+pub mod GiverLaws
+pub mod WakingLaws
+pub mod BeginningLaws
