@@ -12,7 +12,7 @@ const MACHINE: &str =
         CLASS K\nHAS A\nOBJECT O CLASS K\nROOT O\n";
 
 // What comes of the model.
-#[derive(Debug, PartialEq, Eq)]
+#[derive(Clone, Copy, Debug, PartialEq, Eq)]
 enum Read {
     Rows(usize),
     Missing,
