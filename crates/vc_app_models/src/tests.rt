@@ -13,7 +13,7 @@ const MACHINE: &str =
 
 // What comes of the model.
 #[derive(Clone, Copy, Debug, PartialEq, Eq)]
-enum Read {
+enum Answer {
     Rows(usize),
     Missing,
     Refused(TableFault),
@@ -21,20 +21,20 @@ enum Read {
 }
 
 // How many rows are read of the table's file, or why the model isn't there.
-fn read(alloc: Global, shelf: &mut MemShelf) -> Read {
+fn read(alloc: Global, shelf: &mut MemShelf) -> Answer {
     match load_plan(alloc, shelf, "m") {
         Ok(plan) => match plan.tables.as_slice() {
-            [table] => Read::Rows(table.rows.len()),
-            _ => Read::Other,
+            [table] => Answer::Rows(table.rows.len()),
+            _ => Answer::Other,
         },
         Err(
             ModelStop::TableUnread {
                 file: _,
                 fault: FileFault::Missing,
             },
-        ) => Read::Missing,
-        Err(ModelStop::TableRefused { table: _, fault }) => Read::Refused(fault),
-        Err(_) => Read::Other,
+        ) => Answer::Missing,
+        Err(ModelStop::TableRefused { table: _, fault }) => Answer::Refused(fault),
+        Err(_) => Answer::Other,
     }
 }
 
@@ -42,9 +42,9 @@ fn read(alloc: Global, shelf: &mut MemShelf) -> Read {
 fn a_model_is_read_with_its_table(rt: HostRuntime) -> Result<(), Fail> {
     let mut shelf = MemShelf::new(rt.alloc());
     shelf.add(rt.alloc(), "m", MACHINE.as_bytes())?;
-    assert!(rt; read(rt.alloc(), &mut shelf) == Read::Missing);
+    assert!(rt; read(rt.alloc(), &mut shelf) == Answer::Missing);
     shelf.add(rt.alloc(), "t.csv", b"A\nX\nY\n".as_slice())?;
-    assert!(rt; read(rt.alloc(), &mut shelf) == Read::Rows(2));
+    assert!(rt; read(rt.alloc(), &mut shelf) == Answer::Rows(2));
     Ok(())
 }
 
@@ -53,7 +53,7 @@ fn a_bad_row_is_told_with_its_table(rt: HostRuntime) -> Result<(), Fail> {
     let mut shelf = MemShelf::new(rt.alloc());
     shelf.add(rt.alloc(), "m", MACHINE.as_bytes())?;
     shelf.add(rt.alloc(), "t.csv", b"A\nX\nZ\n".as_slice())?;
-    let refused = Read::Refused(TableFault::Cell { row: 3 });
+    let refused = Answer::Refused(TableFault::Cell { row: 3 });
     assert!(rt; read(rt.alloc(), &mut shelf) == refused);
     Ok(())
 }
