@@ -121,6 +121,16 @@ fn number_of(names: &Names, name: &Word) -> Result<u32, AllocError>
     Ok(place.unwrap_or(0))
 }
 
+// The number as `number_of` tells it, found at once where it is the one guessed.
+fn number_near(names: &Names, name: &Word, guess: u32) -> Result<u32, AllocError>
+    ensures { IfOk result (λ number. number ≡ models.number_of names.now name.now) }
+{
+    match names.place_near(name.bytes(), guess as usize) {
+        Some(place) => narrow(place),
+        None => Ok(0),
+    }
+}
+
 fn component_of(names: &Names, material: Word) -> Result<Component, AllocError>
     ensures { IfOk result (λ component. component ≡ models.component_or material (place_of names.now material)) }
 {
@@ -141,6 +151,14 @@ impl Below {
             columns: Stack::new(alloc),
             items: Stack::new(alloc),
             operations: Stack::new(alloc),
+        }
+    }
+
+    // The text above the one put last, a guess at the next.
+    fn next_text(&self) -> u32 {
+        match self.texts.front() {
+            Some(value) => value.text.saturating_sub(1),
+            None => 0,
         }
     }
 }
@@ -224,7 +242,7 @@ impl Draft {
     fn put_text(&mut self, alloc: Global, scope: &Scope, text: &Word) -> Result<(), AllocError>
         ensures { OnOk result (PutsAny scope.now (lines.Text text.now) self.old self.new) }
     {
-        let text = number_of(&scope.declared.texts, text)?;
+        let text = number_near(&scope.declared.texts, text, self.below.next_text())?;
         let uses = self.take_uses(alloc);
         self.below.texts.push_front(TextValue { text, uses })?;
         Ok(())

@@ -1,6 +1,6 @@
 //! A list that grows at its front.
 
-ghost use Rattle.std.specs.Prelude.{◌≡◌, [], ◌∷◌, OnOk};
+ghost use Rattle.std.specs.Prelude.{◌≡◌, [], ◌∷◌, option_copied, slice_get, OnOk};
 ghost use Rattle.std.specs.List.{cons_option};
 
 use std::alloc::{AllocError, Global};
@@ -28,6 +28,13 @@ impl<T> Stack<T> {
         Stack {
             inner: Vec::new(alloc),
         }
+    }
+
+    /// The element in front.
+    pub fn front(&self) -> Option<&T>
+        ensures { option_copied result ≡ slice_get self.now 0 }
+    {
+        self.inner.last()
     }
 
     pub fn into_listed(self) -> Listed<T>

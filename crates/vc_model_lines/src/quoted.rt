@@ -44,14 +44,14 @@ fn is_closing(bytes: &[u8]) -> bool
 fn unquoted(alloc: Global, bytes: &[u8]) -> Result<Option<Word>, AllocError>
     ensures { IfOk result (λ text. text ≡ quoted.unquoted bytes.now) }
 {
-    let mut text = Word::new(alloc);
+    let mut text = Vec::with_capacity(alloc, bytes.len())?;
     let mut rest = bytes;
     while let Some((byte, more)) = text_byte(rest) {
-        text.append(&[byte])?;
+        text.push(byte)?;
         rest = more;
     }
     if is_closing(rest) {
-        Ok(Some(text))
+        Ok(Some(Word::from_vec(text)))
     } else {
         Ok(None)
     }

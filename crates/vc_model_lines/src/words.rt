@@ -1,7 +1,7 @@
 //! The words of a line, and the spaces that don't count.
 
-ghost use Rattle.std.specs.Prelude.{◌≡◌, [], ◌∷◌, ◌++◌, map, IfOk, OnOk};
-ghost use Rattle.std.specs.List.{position, slice_split};
+ghost use Rattle.std.specs.Prelude.{◌≡◌, map, IfOk};
+ghost use Rattle.std.specs.List.{position};
 ghost use Rattle.vc_model_lines.specs.LineWords as spelled;
 ghost use Rattle.vc_value.specs.Words.{same_ignoring_case};
 
@@ -40,32 +40,16 @@ pub fn trimmed(line: &[u8]) -> &[u8]
     without_spaces_behind(without_spaces_before(line))
 }
 
-fn parts(alloc: Global, line: &[u8]) -> Result<Vec<&[u8]>, AllocError>
-    ensures { IfOk result (λ parts. map (λ part. part.now) parts.items ≡ slice_split spelled.is_space line.now) }
-{
-    line.split(|byte| *byte == b' ').collect(alloc)
-}
-
-fn put_word<'a>(words: &mut Vec<&'a [u8]>, part: &'a [u8]) -> Result<(), AllocError>
-    ensures { OnOk result (map (λ word. word.now) words.new.items ≡ map (λ word. word.now) words.old.items
-        ++ spelled.kept_parts (part.now ∷ [])) }
-{
-    if !part.is_empty() {
-        words.push(part)?;
-    }
-    Ok(())
-}
-
 /// The words of a line: what stands between spaces and isn't empty.
 pub fn words(alloc: Global, line: &[u8]) -> Result<Vec<&[u8]>, AllocError>
     ensures { IfOk result (λ words. map (λ word. word.now) words.items ≡ spelled.words line.now) }
 {
-    let parts = parts(alloc, line)?;
     let mut words = Vec::new(alloc);
-    let mut rest = parts.as_slice();
-    while let [part, more @ ..] = rest {
-        put_word(&mut words, *part)?;
-        rest = more;
+    let mut rest = without_spaces_before(line);
+    while rest.len() > 0 {
+        let word = first_word(rest);
+        words.push(word)?;
+        rest = after_word(word, rest);
     }
     Ok(words)
 }
@@ -86,10 +70,17 @@ pub fn first_word(line: &[u8]) -> &[u8]
     }
 }
 
+fn after_word<'a>(word: &[u8], line: &'a [u8]) -> &'a [u8]
+    requires { word.now ≡ spelled.first_word line.now }
+    ensures { result.now ≡ spelled.after_word line.now }
+{
+    without_spaces_before(&line[word.len()..])
+}
+
 fn after_first(line: &[u8]) -> &[u8]
     ensures { result.now ≡ spelled.after_word line.now }
 {
-    without_spaces_before(&line[first_word(line).len()..])
+    after_word(first_word(line), line)
 }
 
 /// What follows so many words of a line that doesn't begin with a space.

@@ -1,6 +1,6 @@
 //! Names in the order in which they were met, each found without going over all of them.
 
-ghost use Rattle.std.specs.Prelude.{◌≡◌, ◌==◌, [], length, IfOk, OnOk};
+ghost use Rattle.std.specs.Prelude.{◌≡◌, ◌==◌, [], length, Some, IfOk, IsTrue, OnOk};
 ghost use Rattle.vc_model_scope.specs.Names.{is_among, place_of, with_name};
 
 use indexmap::IndexSet;
@@ -58,6 +58,26 @@ impl Names {
         ensures { result ≡ place_of self.now name.now }
     {
         self.met.get_index_of(name)
+    }
+
+    // Whether the name is the one at that place; none stands twice.
+    fn stands_at(&self, name: &[u8], place: usize) -> bool
+        ensures { IsTrue result → place_of self.now name.now ≡ Some place }
+    {
+        match self.met.as_slice().get(place) {
+            Some(there) => there.as_slice() == name,
+            None => false,
+        }
+    }
+
+    /// The name's number as `place` tells it, found at once where it is the one guessed.
+    pub fn place_near(&self, name: &[u8], guess: usize) -> Option<usize>
+        ensures { result ≡ place_of self.now name.now }
+    {
+        if self.stands_at(name, guess) {
+            return Some(guess);
+        }
+        self.place(name)
     }
 
     /// Puts a name last, unless it is there.
