@@ -1,14 +1,16 @@
 -- Sources that fit a plan: what may be taken for granted of them.
-use Rattle.std.specs.Prelude.{◌≡◌, ℕ, Bool, true, false, ◌&&◌, ◌==◌, [], ◌∷◌, length, slice_get, Option, None, Some}
+use Rattle.std.specs.Prelude.{◌≡◌, ℕ, Bool, true, false, ◌&&◌, ◌==◌, List, [], ◌∷◌, length, slice_get, Option, None, Some}
 use Rattle.std.specs.List.{list_all, list_any}
 use Rattle.vc_value.specs.declared.value.Value.{Value}
+use Rattle.vc_plan.specs.declared.atoms.Atom.{Atom}
 use Rattle.vc_plan.specs.declared.atoms.Mark.{Mark}
 use Rattle.vc_plan.specs.declared.atoms.Mark.TheVariants.{Held, Outside}
 use Rattle.vc_plan.specs.declared.plans.Plan.{Plan}
 use Rattle.vc_plan.specs.declared.procedures.Procedure.{Procedure}
 use Rattle.vc_plan.specs.declared.procedures.Statement.{Statement}
 use Rattle.vc_plan.specs.Domains.{numbers_below, grains_of}
-use Rattle.vc_plan.specs.Evaluate.{Evaluated, broken_at, reached, Users, evaluation_of, sources_of}
+use Rattle.vc_plan.specs.Entries.{Entries, no_entries}
+use Rattle.vc_plan.specs.Evaluate.{Evaluated, between, broken_at, reached, Users, evaluation_of, sources_of}
 use Rattle.vc_plan.specs.Fitting.{users_fit}
 use Rattle.vc_plan.specs.LookUps.{action_writes, writes_own}
 use Rattle.vc_plan.specs.Pieces.{lies_in_some}
@@ -58,3 +60,15 @@ abbrev pub EvaluationsFit : Type 0
 EvaluationsFit = (plan : Plan) (users : Users)
     → list_all (writes_own plan) plan.procedures ≡ true → users_fit plan users ≡ true
     → sources_fit plan (sources_at_end users (evaluation_of plan users)) ≡ true
+
+-- the sources of the first stage fit, where nothing is written yet; and where those of a stage do, so do those of the next
+pub record AllStagesFit (plan : Plan) (users : Users) : Type 0 where
+  pub first : sources_fit plan (sources_of users (no_entries plan)) ≡ true
+  pub next : (later : ℕ) (sets : List (List Atom)) (set : List Atom) (entries : Entries)
+      → sources_fit plan (sources_of users entries) ≡ true
+      → sources_fit plan (sources_of users (between plan users later sets set entries)) ≡ true
+
+-- so do the sources of each stage of an evaluation, where the user's values do
+abbrev pub StagesFit : Type 0
+StagesFit = (plan : Plan) (users : Users)
+    → list_all (writes_own plan) plan.procedures ≡ true → users_fit plan users ≡ true → AllStagesFit plan users

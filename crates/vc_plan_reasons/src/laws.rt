@@ -1,7 +1,7 @@
 //! Laws of reasons, each the contract of a function that does nothing.
 
 ghost use Rattle.vc_plan_reasons.specs.Blaming.{ClashesAreBlamed};
-ghost use Rattle.vc_plan_reasons.specs.Fitting.{EvaluationsFit};
+ghost use Rattle.vc_plan_reasons.specs.Fitting.{EvaluationsFit, StagesFit};
 ghost use Rattle.vc_plan_reasons.specs.Trimming.{TrimmedClashesRefute, TrimmedIsAChain, TrimmingKeepsAcceptance};
 ghost use Rattle.vc_plan_reasons.specs.Laws.{AcceptedUnrefused, ChainsStand, ConclusionsStand, WholeSettles};
 ghost use Rattle.vc_plan_reasons.specs.Laws.{RefutingBreaks, RefutingBlames, KeptIsAccepted, KeptIsLeft};
@@ -64,6 +64,11 @@ pub fn trimmed_lists_are_accepted()
 /// the last.
 pub fn evaluations_fit()
     ensures { EvaluationsFit }
+{}
+
+/// Where the user's values fit the plan, so do the sources of each stage.
+pub fn stages_fit()
+    ensures { StagesFit }
 {}
 
 /// What a rule or source says, whether it stands or not, depends on what it reads alone, and of a rule not on the

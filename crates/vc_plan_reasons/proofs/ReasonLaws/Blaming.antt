@@ -146,7 +146,7 @@ past_none [] v h = refl
 past_none (x ∷ xs) zero h = absurd (omega (arith, h))
 past_none (x ∷ xs) (suc v) h = past_none xs v (omega (arith, h))
 
-entry_fit_at : (plan : Plan) (sources : Sources) (v : ℕ) → sources_fit plan sources ≡ true
+pub entry_fit_at : (plan : Plan) (sources : Sources) (v : ℕ) → sources_fit plan sources ≡ true
     → entry_fits plan v (entry_of sources v) ≡ true
 entry_fit_at plan sources v fit =
     let values = list_all (λ w. value_fits plan w (user_of sources w)) (numbers_below (length sources.user)) in

@@ -1,5 +1,5 @@
 -- What statements write fits the plan, and so do the sources at the end of an evaluation.
-use Rattle.std.proofs.Common.{◌≡◌, ℕ, zero, suc, ◌+◌, Bool, true, false, ◌&&◌, ◌||◌, List, [], ◌∷◌, ◌++◌, length, map, refl, ap, ◌∙◌, subst, arith}
+use Rattle.std.proofs.Common.{◌≡◌, ℕ, zero, suc, ◌+◌, Bool, true, false, ◌&&◌, ◌||◌, List, [], ◌∷◌, ◌++◌, length, map, refl, sym, ap, ◌∙◌, subst, arith}
 use Rattle.std.specs.Prelude.{Option, reverse, flat_map, None, Some, option_map, slice_get, slice_set, slice_index_or, if◌then◌else◌, is_none, ◌==◌}
 use Rattle.std.specs.List.{find, list_all, list_any}
 use Rattle.std.proofs.lemmas.Bool.{and_from, and_parts, eq-eqb}
@@ -19,7 +19,7 @@ use Rattle.vc_plan.specs.declared.procedures.Statement.{Statement}
 use Rattle.vc_plan.specs.Domains.{numbers_below, grains_of, decimals_of, count_of, is_grain_with, passes}
 use Rattle.vc_plan.specs.Entries.{Entries, Written, entry_in, is_soft, no_entries, sources_in, with_entry, written_at}
 use Rattle.vc_plan.specs.Evaluate.{Evaluated, Users, between, broken_at, evaluation_of, holds, if_settled, reached, sources_of, stages_from}
-use Rattle.vc_plan.specs.Fitting.{has_at_most, may_have_if, may_hold}
+use Rattle.vc_plan.specs.Fitting.{has_at_most, may_have_if, may_hold, users_fit}
 use Rattle.vc_plan.specs.Kleene.{is_true}
 use Rattle.vc_plan.specs.LookUps.{action_writes, named_by, writes_own}
 use Rattle.vc_plan.specs.Parts.{procedure_reading}
@@ -34,7 +34,8 @@ use Rattle.vc_plan.specs.Truth.{truth_at, value_at}
 use Rattle.vc_plan.specs.Writes.{all_run, instances_at, is_triggered, last_stage, procedures_at, run_procedure, summing_instances}
 use Rattle.vc_plan.proofs.PlanLaws.Lists.{all_grows}
 use Rattle.vc_plan.proofs.StageProofs.Parents.{all_at}
-use Rattle.vc_plan_reasons.specs.Fitting.{EvaluationsFit, entry_fits, mark_fits, procedure_writes, sources_at_end, sources_fit, statement_writes, value_fits}
+use Rattle.vc_plan_reasons.specs.Fitting.{EvaluationsFit, StagesFit, entry_fits, mark_fits, procedure_writes, sources_at_end, sources_fit, statement_writes, value_fits}
+use Rattle.vc_plan_reasons.proofs.ReasonLaws.Blaming.{entry_fit_at}
 
 -- an entry that fits, and entries that all do
 abbrev Fits : Plan → ℕ → Option Written → Type 0
@@ -261,16 +262,16 @@ record AtEnd (plan : Plan) (users : Users) (e : Evaluated) : Type 0 where
   fit : AllFit plan entries
   are : sources_at_end users e ≡ sources_of users entries
 
-stages_fit : (plan : Plan) (users : Users) (later : ℕ) (sets : List (List Atom)) (entries : Entries)
+stages_fit_from : (plan : Plan) (users : Users) (later : ℕ) (sets : List (List Atom)) (entries : Entries)
     → list_all (writes_own plan) plan.procedures ≡ true → AllFit plan entries → AtEnd plan users (stages_from plan users later sets entries)
-stages_fit plan users zero sets entries own all = step (settlement_of plan (sources_of users entries))
+stages_fit_from plan users zero sets entries own all = step (settlement_of plan (sources_of users entries))
   where
     step : (s : Settlement Atom)
         → AtEnd plan users (if_settled s (broken_at (length sets) entries) (λ set. reached (sets ++ set ∷ []) entries))
     step broken = record { entries = entries; fit = all; are = refl }
     step (settled set) = record { entries = entries; fit = all; are = refl }
-stages_fit plan users (suc later) sets entries own all =
-    step (λ set. stages_fit plan users later (sets ++ set ∷ []) (between plan users later sets set entries) own
+stages_fit_from plan users (suc later) sets entries own all =
+    step (λ set. stages_fit_from plan users later (sets ++ set ∷ []) (between plan users later sets set entries) own
     (between_fits plan users later sets set entries own all)) (settlement_of plan (sources_of users entries))
   where
     step : ((set : List Atom)
@@ -302,21 +303,40 @@ user_fits : (plan : Plan) (v : ℕ) (a : Option Value) → may_have_if plan v a 
 user_fits plan v None e = refl
 user_fits plan v (Some a) e = (and_parts (lies_in_some (grains_of plan v) a) (has_at_most (decimals_of plan v) a) e).0
 
-pub evaluations_fit : EvaluationsFit
-evaluations_fit plan users own fit =
-    let e = evaluation_of plan users in
-    let end : AtEnd plan users e = stages_fit plan users (last_stage plan) [] (no_entries plan) own (λ v. none_fit plan plan.vars v v) in
+-- the sources of a user whose values fit, with entries that all do
+sources_of_fit : (plan : Plan) (users : Users) (entries : Entries) → users_fit plan users ≡ true → AllFit plan entries
+    → sources_fit plan (sources_of users entries) ≡ true
+sources_of_fit plan users entries fit all =
     let chosen : ℕ → Bool = λ v. may_have_if plan v (slice_index_or users.values v None) in
     let held : ℕ → Bool = λ set. may_hold plan set (slice_index_or users.texts set []) in
     let p = and_parts (list_all chosen (numbers_below (length users.values))) (list_all held (numbers_below (length users.texts))) fit in
     let values : list_all (λ v. value_fits plan v (slice_index_or users.values v None)) (numbers_below (length users.values)) ≡ true
     = all_grows chosen (λ v. value_fits plan v (slice_index_or users.values v None))
     (λ v. user_fits plan v (slice_index_or users.values v None)) (numbers_below (length users.values)) p.0 in
-    let entries : list_all (λ v. entry_fits plan v (slice_index_or (sources_in end.entries) v None))
-    (numbers_below (length (sources_in end.entries))) ≡ true
-    = all_pass (λ v. entry_fits plan v (slice_index_or (sources_in end.entries) v None)) (numbers_below (length (sources_in end.entries)))
-    (λ v. ap (entry_fits plan v) (as_source end.entries v) ∙ end.fit v) in
-    ap (sources_fit plan) end.are
-    ∙ and_from (list_all (λ v. value_fits plan v (slice_index_or users.values v None)) (numbers_below (length users.values)))
-    (list_all (λ v. entry_fits plan v (slice_index_or (sources_in end.entries) v None)) (numbers_below (length (sources_in end.entries))))
-    values entries
+    let written : list_all (λ v. entry_fits plan v (slice_index_or (sources_in entries) v None))
+    (numbers_below (length (sources_in entries))) ≡ true
+    = all_pass (λ v. entry_fits plan v (slice_index_or (sources_in entries) v None)) (numbers_below (length (sources_in entries)))
+    (λ v. ap (entry_fits plan v) (as_source entries v) ∙ all v) in
+    and_from (list_all (λ v. value_fits plan v (slice_index_or users.values v None)) (numbers_below (length users.values)))
+    (list_all (λ v. entry_fits plan v (slice_index_or (sources_in entries) v None)) (numbers_below (length (sources_in entries))))
+    values written
+
+pub evaluations_fit : EvaluationsFit
+evaluations_fit plan users own fit =
+    let end : AtEnd plan users (evaluation_of plan users)
+    = stages_fit_from plan users (last_stage plan) [] (no_entries plan) own (λ v. none_fit plan plan.vars v v) in
+    ap (sources_fit plan) end.are ∙ sources_of_fit plan users end.entries fit end.fit
+
+-- entries whose sources fit all do
+all_of_sources : (plan : Plan) (users : Users) (entries : Entries) → sources_fit plan (sources_of users entries) ≡ true
+    → AllFit plan entries
+all_of_sources plan users entries fit v =
+    ap (entry_fits plan v) (sym (as_source entries v)) ∙ entry_fit_at plan (sources_of users entries) v fit
+
+pub stages_fit : StagesFit
+stages_fit plan users own fit = record {
+  first = sources_of_fit plan users (no_entries plan) fit (λ v. none_fit plan plan.vars v v);
+  next = λ later sets set entries fits.
+      sources_of_fit plan users (between plan users later sets set entries) fit
+      (between_fits plan users later sets set entries own (all_of_sources plan users entries fits));
+}
