@@ -80,6 +80,13 @@ impl Names {
         self.place(name)
     }
 
+    /// Lets all names go, and keeps the memory for as many.
+    pub fn clear(&mut self)
+        ensures { self.new ≡ [] }
+    {
+        self.met.clear();
+    }
+
     /// Puts a name last, unless it is there.
     pub fn add(&mut self, alloc: Global, name: &[u8]) -> Result<(), AllocError>
         ensures { OnOk result (self.new ≡ with_name self.old name.now) }

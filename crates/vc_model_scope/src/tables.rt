@@ -31,7 +31,7 @@ pub fn list_name(
         ≡ (if ends then [] else with_option with_name names.old (option_copied name.entry))) }
 {
     if ends {
-        *names = Names::new(alloc);
+        names.clear();
     } else {
         declare(alloc, names, name)?;
     }
