@@ -17,7 +17,7 @@ use Rattle.vc_plan.specs.Settle.{settlement_of}
 use Rattle.vc_plan.specs.Writes.{all_run, depth_of, instances_at, last_stage, procedures_at, set_at, was_here}
 use Rattle.vc_plan.proofs.PlanLaws.Extending.{Extends, extends}
 use Rattle.vc_plan.proofs.PlanLaws.Facts.{part_clear}
-use Rattle.vc_session_stages.specs.Stages.{LateIsSeen, SetsSayTheSame, StagesBegin, StagesBreak, StagesGoOn, StagesSettle, seen_at, was_seen, written_between}
+use Rattle.vc_session_stages.specs.Stages.{LateIsSeen, SetsSayTheSame, StagesBegin, StagesBreak, StagesGoOn, StagesSettle, WritingIsSeen, seen_at, was_seen, written_between}
 
 -- what the set of a stage says
 said_at : (sets : List (List Atom)) (k : ℕ) → seen_at (map seen_of sets) k ≡ seen_of (set_at sets k)
@@ -29,8 +29,7 @@ was_is : (plan : Plan) (sets : List (List Atom)) (i : ℕ) → was_here plan set
 was_is plan sets i = ap (λ seen. seen.here i) (sym (said_at sets (depth_of plan i)))
 
 -- so is what is written between two
-between_is : (plan : Plan) (users : Users) (later : ℕ) (sets : List (List Atom)) (set : List Atom) (entries : Entries)
-    → between plan users later sets set entries ≡ written_between plan users later (map seen_of sets) (seen_of set) entries
+pub between_is : WritingIsSeen
 between_is plan users zero sets set entries =
     let seen : Seen = seen_of set in
     let same : was_here plan sets ≡ was_seen plan (map seen_of sets) = λ j i. was_is plan sets i j in

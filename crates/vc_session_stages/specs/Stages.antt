@@ -9,7 +9,7 @@ use Rattle.vc_plan.specs.declared.plans.Plan.{Plan}
 use Rattle.vc_plan.specs.Clear.{is_clear}
 use Rattle.vc_plan.specs.Domains.{numbers_below}
 use Rattle.vc_plan.specs.Entries.{Entries, no_entries}
-use Rattle.vc_plan.specs.Evaluate.{Users, broken_at, evaluation_of, holds, is_late, reached, sources_of, stages_from}
+use Rattle.vc_plan.specs.Evaluate.{Users, between, broken_at, evaluation_of, holds, is_late, reached, sources_of, stages_from}
 use Rattle.vc_plan.specs.Seen.{Seen, same_atom, seen_of}
 use Rattle.vc_plan.specs.Settle.{settlement_of}
 use Rattle.vc_plan.specs.Writes.{all_run, depth_of, instances_at, last_stage, procedures_at}
@@ -39,6 +39,11 @@ sums_written plan holdings was seen entries =
 abbrev pub written_between : Plan → Users → ℕ → List Seen → Seen → Entries → Entries
 written_between plan users zero before seen entries = sums_written plan (holds users) (was_seen plan before) seen entries
 written_between plan users (suc later) before seen entries = written_at_depth plan (holds users) (length before) seen entries
+
+-- it is what the definition of stages has there
+abbrev pub WritingIsSeen : Type 0
+WritingIsSeen = (plan : Plan) (users : Users) (later : ℕ) (sets : List (List Atom)) (set : List Atom) (entries : Entries)
+    → between plan users later sets set entries ≡ written_between plan users later (map seen_of sets) (seen_of set) entries
 
 -- the stages so far have settled at sets that say this, and with what is written now the evaluation goes on
 pub record HaveSettled (plan : Plan) (users : Users) (stages : List Seen) (entries : Entries) : Type 0 where

@@ -1,7 +1,7 @@
 //! Laws of the stages of an evaluation, each the contract of a function that does nothing.
 
 ghost use Rattle.vc_session_stages.specs.Stages.{LateIsSeen, StagesBegin, StagesBreak, StagesGoOn, StagesSettle};
-ghost use Rattle.vc_session_stages.specs.Stages.{SetsSayTheSame};
+ghost use Rattle.vc_session_stages.specs.Stages.{SetsSayTheSame, WritingIsSeen};
 
 /// An evaluation begins with no stage and nothing written; each stage that settles leads on to the next by what its
 /// set says.
@@ -16,9 +16,10 @@ pub fn stages_end()
     ensures settles { StagesSettle }
 {}
 
-/// Which instances are late is told by what the stages' sets say.
-pub fn late_is_seen()
-    ensures { LateIsSeen }
+/// What is written between two stages, and which instances are late, is told by what the stages' sets say.
+pub fn stages_are_seen()
+    ensures writing { WritingIsSeen }
+    ensures late { LateIsSeen }
 {}
 
 /// Two sets of the same atoms, one of them clear, say the same.
