@@ -1,7 +1,6 @@
 -- Stages by what their sets say.
-use Rattle.std.proofs.Common.{◌≡◌, ℕ, zero, suc, ◌+◌, ◌-◌, true, false, not, ◌&&◌, List, [], ◌∷◌, ◌++◌, length, map, refl, sym, ap, ◌∙◌, arith}
-use Rattle.std.specs.Prelude.{Option, None, Some, reverse}
-use Rattle.std.specs.List.{filter, flat_map}
+use Rattle.std.proofs.Common.{◌≡◌, ℕ, zero, suc, ◌+◌, ◌-◌, not, ◌&&◌, List, [], ◌∷◌, ◌++◌, length, map, refl, sym, ap, ◌∙◌, arith}
+use Rattle.std.specs.Prelude.{Option, None, Some}
 use Rattle.std.proofs.lemmas.List.{length-append, length-map, map-append}
 use Rattle.vc_base.specs.Rounds.{broken, settled}
 use Rattle.vc_base.specs.Sets.{Within}
@@ -9,15 +8,14 @@ use Rattle.vc_value.specs.declared.value.Value.{Value}
 use Rattle.vc_plan.specs.declared.atoms.Atom.{Atom}
 use Rattle.vc_plan.specs.declared.atoms.Atom.TheVariants.{Here, Out}
 use Rattle.vc_plan.specs.declared.plans.Plan.{Plan}
-use Rattle.vc_plan.specs.Domains.{numbers_below}
 use Rattle.vc_plan.specs.Entries.{Entries, no_entries}
-use Rattle.vc_plan.specs.Evaluate.{Users, between, broken_at, holds, if_settled, reached, sources_of, stages_from}
+use Rattle.vc_plan.specs.Evaluate.{Users, between, broken_at, if_settled, reached, sources_of, stages_from}
 use Rattle.vc_plan.specs.Seen.{Seen, same_atom, seen_of, value_in}
 use Rattle.vc_plan.specs.Settle.{settlement_of}
-use Rattle.vc_plan.specs.Writes.{all_run, depth_of, instances_at, last_stage, procedures_at, set_at, was_here}
+use Rattle.vc_plan.specs.Writes.{depth_of, last_stage, set_at, was_here}
 use Rattle.vc_plan.proofs.PlanLaws.Extending.{Extends, extends}
 use Rattle.vc_plan.proofs.PlanLaws.Facts.{part_clear}
-use Rattle.vc_session_stages.specs.Stages.{LateIsSeen, SetsSayTheSame, StagesBegin, StagesBreak, StagesGoOn, StagesSettle, WritingIsSeen, seen_at, was_seen, written_between}
+use Rattle.vc_session_stages.specs.Stages.{LateIsSeen, SetsSayTheSame, StagesBegin, StagesBreak, StagesGoOn, StagesSettle, WasHereIsSeen, seen_at}
 
 -- what the set of a stage says
 said_at : (sets : List (List Atom)) (k : ℕ) → seen_at (map seen_of sets) k ≡ seen_of (set_at sets k)
@@ -25,20 +23,8 @@ said_at [] k = refl
 said_at (set ∷ sets) zero = refl
 said_at (set ∷ sets) (suc k) = said_at sets k
 
-was_is : (plan : Plan) (sets : List (List Atom)) (i : ℕ) → was_here plan sets i ≡ was_seen plan (map seen_of sets) i
+pub was_is : WasHereIsSeen
 was_is plan sets i = ap (λ seen. seen.here i) (sym (said_at sets (depth_of plan i)))
-
--- so is what is written between two
-pub between_is : WritingIsSeen
-between_is plan users zero sets set entries =
-    let seen : Seen = seen_of set in
-    let same : was_here plan sets ≡ was_seen plan (map seen_of sets) = λ j i. was_is plan sets i j in
-    ap (λ was. all_run plan seen (holds users) (flat_map (procedures_at plan true)
-    (reverse (filter (λ i. seen.here i && was i) (numbers_below (length plan.slots))))) entries) same
-between_is plan users (suc later) sets set entries =
-    let seen : Seen = seen_of set in
-    ap (λ depth. all_run plan seen (holds users) (flat_map (procedures_at plan false) (instances_at plan seen depth)) entries)
-    (sym (length-map sets seen_of))
 
 pub stages_begin : StagesBegin
 stages_begin plan users = record {
@@ -66,12 +52,8 @@ stages_go_on plan users stages entries set later so_far more e = record {
   onwards = λ n long.
       let count : length (stages ++ seen_of set ∷ []) ≡ length stages + 1 = length-append stages (seen_of set ∷ []) in
       let same : n ≡ later = omega (arith, long, count, more) in
-      let written : written_between plan users later stages (seen_of set) entries ≡ between plan users later so_far.sets set entries =
-      ap (λ before. written_between plan users later before (seen_of set) entries) (sym so_far.seen)
-      ∙ sym (between_is plan users later so_far.sets set entries) in
-      ap (λ k. stages_from plan users k (so_far.sets ++ set ∷ []) (written_between plan users later stages (seen_of set) entries)) same
-      ∙ (ap (stages_from plan users later (so_far.sets ++ set ∷ [])) written
-      ∙ (sym (settles_on plan users later so_far.sets set entries e) ∙ so_far.onwards (suc later) more));
+      ap (λ k. stages_from plan users k (so_far.sets ++ set ∷ []) (between plan users later so_far.sets set entries)) same
+      ∙ (sym (settles_on plan users later so_far.sets set entries e) ∙ so_far.onwards (suc later) more);
 }
 
 -- as many sets as stages

@@ -1,18 +1,15 @@
--- The stages of an evaluation by what the set of each says, so that who keeps no sets can tell what is written between
--- them, and how it ends.
-use Rattle.std.specs.Prelude.{◌≡◌, ◌≤◌, ℕ, zero, suc, ◌+◌, Bool, true, false, not, ◌&&◌, List, [], ◌∷◌, ◌++◌, length, map, reverse}
-use Rattle.std.specs.List.{filter, flat_map}
+-- The stages of an evaluation by what the set of each says, so that who keeps no sets can tell how they go on and end.
+use Rattle.std.specs.Prelude.{◌≡◌, ◌≤◌, ℕ, zero, suc, ◌+◌, Bool, true, not, ◌&&◌, List, [], ◌∷◌, ◌++◌, length, map}
 use Rattle.vc_base.specs.Rounds.{broken, settled}
 use Rattle.vc_base.specs.Sets.{has}
 use Rattle.vc_plan.specs.declared.atoms.Atom.{Atom}
 use Rattle.vc_plan.specs.declared.plans.Plan.{Plan}
 use Rattle.vc_plan.specs.Clear.{is_clear}
-use Rattle.vc_plan.specs.Domains.{numbers_below}
 use Rattle.vc_plan.specs.Entries.{Entries, no_entries}
-use Rattle.vc_plan.specs.Evaluate.{Users, between, broken_at, evaluation_of, holds, is_late, reached, sources_of, stages_from}
+use Rattle.vc_plan.specs.Evaluate.{Users, between, broken_at, evaluation_of, is_late, reached, sources_of, stages_from}
 use Rattle.vc_plan.specs.Seen.{Seen, same_atom, seen_of}
 use Rattle.vc_plan.specs.Settle.{settlement_of}
-use Rattle.vc_plan.specs.Writes.{all_run, depth_of, instances_at, last_stage, procedures_at}
+use Rattle.vc_plan.specs.Writes.{depth_of, last_stage, was_here}
 
 -- what the set of a stage says, by its number
 abbrev pub seen_at : List Seen → ℕ → Seen
@@ -24,28 +21,11 @@ seen_at (seen ∷ stages) (suc k) = seen_at stages k
 abbrev pub was_seen : Plan → List Seen → ℕ → Bool
 was_seen plan stages i = (seen_at stages (depth_of plan i)).here i
 
--- what the procedures of one depth write, and the summing ones of the instances that were here, from the last slot to
--- the first
-abbrev pub written_at_depth : Plan → (ℕ → ℕ → Bool) → ℕ → Seen → Entries → Entries
-written_at_depth plan holdings depth seen entries =
-    all_run plan seen holdings (flat_map (procedures_at plan false) (instances_at plan seen depth)) entries
+-- which is what the definition of stages asks
+abbrev pub WasHereIsSeen : Type 0
+WasHereIsSeen = (plan : Plan) (sets : List (List Atom)) (i : ℕ) → was_here plan sets i ≡ was_seen plan (map seen_of sets) i
 
-abbrev pub sums_written : Plan → (ℕ → ℕ → Bool) → (ℕ → Bool) → Seen → Entries → Entries
-sums_written plan holdings was seen entries =
-    let instances = filter (λ i. seen.here i && was i) (numbers_below (length plan.slots)) in
-    all_run plan seen holdings (flat_map (procedures_at plan true) (reverse instances)) entries
-
--- what is written between a stage and the next, of those before it; so many stages follow the next
-abbrev pub written_between : Plan → Users → ℕ → List Seen → Seen → Entries → Entries
-written_between plan users zero before seen entries = sums_written plan (holds users) (was_seen plan before) seen entries
-written_between plan users (suc later) before seen entries = written_at_depth plan (holds users) (length before) seen entries
-
--- it is what the definition of stages has there
-abbrev pub WritingIsSeen : Type 0
-WritingIsSeen = (plan : Plan) (users : Users) (later : ℕ) (sets : List (List Atom)) (set : List Atom) (entries : Entries)
-    → between plan users later sets set entries ≡ written_between plan users later (map seen_of sets) (seen_of set) entries
-
--- the stages so far have settled at sets that say this, and with what is written now the evaluation goes on
+-- the stages so far have settled at sets that say this, and with what is written after them the evaluation goes on
 pub record HaveSettled (plan : Plan) (users : Users) (stages : List Seen) (entries : Entries) : Type 0 where
   pub sets : List (List Atom)
   pub seen : map seen_of sets ≡ stages
@@ -62,9 +42,9 @@ StagesBegin = (plan : Plan) (users : Users) → HaveSettled plan users [] (no_en
 
 abbrev pub StagesGoOn : Type 0
 StagesGoOn = (plan : Plan) (users : Users) (stages : List Seen) (entries : Entries) (set : List Atom) (later : ℕ)
-    → HaveSettled plan users stages entries → suc later + length stages ≡ last_stage plan
+    → (so_far : HaveSettled plan users stages entries) → suc later + length stages ≡ last_stage plan
     → settlement_of plan (sources_of users entries) ≡ settled set
-    → HaveSettled plan users (stages ++ seen_of set ∷ []) (written_between plan users later stages (seen_of set) entries)
+    → HaveSettled plan users (stages ++ seen_of set ∷ []) (between plan users later so_far.sets set entries)
 
 abbrev pub StagesBreak : Type 0
 StagesBreak = (plan : Plan) (users : Users) (stages : List Seen) (entries : Entries)

@@ -1,10 +1,9 @@
 //! Laws of the stages of an evaluation, each the contract of a function that does nothing.
 
 ghost use Rattle.vc_session_stages.specs.Stages.{LateIsSeen, StagesBegin, StagesBreak, StagesGoOn, StagesSettle};
-ghost use Rattle.vc_session_stages.specs.Stages.{SetsSayTheSame, WritingIsSeen};
+ghost use Rattle.vc_session_stages.specs.Stages.{SetsSayTheSame, WasHereIsSeen};
 
-/// An evaluation begins with no stage and nothing written; each stage that settles leads on to the next by what its
-/// set says.
+/// An evaluation begins with no stage and nothing written; each stage that settles leads on to the next.
 pub fn stages_go_on()
     ensures begins { StagesBegin }
     ensures goes_on { StagesGoOn }
@@ -16,9 +15,9 @@ pub fn stages_end()
     ensures settles { StagesSettle }
 {}
 
-/// What is written between two stages, and which instances are late, is told by what the stages' sets say.
+/// Which instances were here when their procedures ran, and which are late, is told by what the stages' sets say.
 pub fn stages_are_seen()
-    ensures writing { WritingIsSeen }
+    ensures was_here { WasHereIsSeen }
     ensures late { LateIsSeen }
 {}
 
