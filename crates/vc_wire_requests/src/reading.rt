@@ -1,0 +1,129 @@
+//! Reading a line of a script.
+
+ghost use Rattle.std.specs.Prelude.{◌≡◌, IfOk};
+ghost use Rattle.vc_wire_requests.specs.Requests as asked;
+
+use crate::cutting::{cut_at_space, instance_in};
+use crate::request::Request;
+use crate::verbs::{OfSession, OfValue, Verb, verb_of};
+use std::alloc::{AllocError, Global};
+use vc_value::{Word, is_name, is_session_name};
+
+fn of_session(which: OfSession, session: Word) -> Request
+    ensures { result ≡ asked.of_session which session }
+{
+    match which {
+        OfSession::Start => Request::Start { session },
+        OfSession::Close => Request::Close { session },
+        OfSession::Show => Request::Show { session },
+        OfSession::Bill => Request::Bill { session },
+        OfSession::Routing => Request::Routing { session },
+    }
+}
+
+fn of_value(
+    which: OfValue,
+    session: Word,
+    instance: u32,
+    characteristic: Word,
+    value: Word,
+) -> Request
+    ensures { result ≡ asked.of_value which session instance characteristic value }
+{
+    match which {
+        OfValue::Set => Request::Set {
+            session,
+            instance,
+            characteristic,
+            value,
+        },
+        OfValue::Add => Request::Add {
+            session,
+            instance,
+            characteristic,
+            value,
+        },
+        OfValue::Drop => Request::Drop {
+            session,
+            instance,
+            characteristic,
+            value,
+        },
+    }
+}
+
+// `s`
+fn session_request(
+    alloc: Global,
+    which: OfSession,
+    more: &[u8],
+) -> Result<Option<Request>, AllocError>
+    ensures { IfOk result (λ found. found ≡ asked.session_request which more.now) }
+{
+    if !is_session_name(more) {
+        return Ok(None);
+    }
+    let session = Word::from_bytes(alloc, more)?;
+    Ok(Some(of_session(which, session)))
+}
+
+// `s i C`
+fn retract_request(alloc: Global, more: &[u8]) -> Result<Option<Request>, AllocError>
+    ensures { IfOk result (λ found. found ≡ asked.retract_request more.now) }
+{
+    let Some(instance) = instance_in(more) else {
+        return Ok(None);
+    };
+    if !is_name(instance.rest) {
+        return Ok(None);
+    }
+    let session = Word::from_bytes(alloc, instance.session)?;
+    let characteristic = Word::upper_from(alloc, instance.rest)?;
+    Ok(Some(Request::Retract {
+        session,
+        instance: instance.number,
+        characteristic,
+    }))
+}
+
+// `s i C value`
+fn value_request(alloc: Global, which: OfValue, more: &[u8]) -> Result<Option<Request>, AllocError>
+    ensures { IfOk result (λ found. found ≡ asked.value_request which more.now) }
+{
+    let Some(instance) = instance_in(more) else {
+        return Ok(None);
+    };
+    let Some((name, value)) = cut_at_space(instance.rest) else {
+        return Ok(None);
+    };
+    if !is_name(name) {
+        return Ok(None);
+    }
+    let session = Word::from_bytes(alloc, instance.session)?;
+    let characteristic = Word::upper_from(alloc, name)?;
+    let value = Word::from_bytes(alloc, value)?;
+    Ok(Some(of_value(which, session, instance.number, characteristic, value)))
+}
+
+fn request_by(alloc: Global, verb: Verb, more: &[u8]) -> Result<Option<Request>, AllocError>
+    ensures { IfOk result (λ found. found ≡ asked.request_by verb more.now) }
+{
+    match verb {
+        Verb::Session(which) => session_request(alloc, which, more),
+        Verb::Value(which) => value_request(alloc, which, more),
+        Verb::Retract => retract_request(alloc, more),
+    }
+}
+
+/// The request that a line spells, without its end; None where it spells none. Words are copied once all are there.
+pub fn read_line(alloc: Global, line: &[u8]) -> Result<Option<Request>, AllocError>
+    ensures { IfOk result (λ found. found ≡ asked.request_of line.now) }
+{
+    let Some((word, more)) = cut_at_space(line) else {
+        return Ok(None);
+    };
+    match verb_of(word) {
+        Some(verb) => request_by(alloc, verb, more),
+        None => Ok(None),
+    }
+}
