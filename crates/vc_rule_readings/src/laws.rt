@@ -1,0 +1,8 @@
+//! Laws of readings in full, each the contract of a function that does nothing.
+
+ghost use Rattle.vc_rule_readings.specs.Laws.{FullValues};
+
+/// The value of a term in full is that of a net: neither has sums over parts.
+pub fn full_values()
+    ensures { FullValues }
+{}
