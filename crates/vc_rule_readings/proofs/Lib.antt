@@ -1,2 +1,5 @@
+pub mod BesideLemmas
+pub mod PartLemmas
+pub mod RangeLemmas
 pub mod ReadingLemmas
 pub mod SetLemmas

@@ -58,6 +58,9 @@ operands_fit operator None p m n s t small = tt
 operands_fit operator (Some a) None m n s t small = tt
 operands_fit operator (Some a) (Some b) m n s t small = let h = load_within operator a b m n s t in omega arith
 
+pub operands_as : (operator : Operator) (o p x y : Option ℤ) → OperandsFit operator x y → o ≡ x → p ≡ y → OperandsFit operator o p
+operands_as operator o p x y fit e f = subst (λ k. OperandsFit operator k p) (sym e) (subst (OperandsFit operator x) (sym f) fit)
+
 pub joined_if : (operator : Operator) (o p : Option ℤ) (m n : ℕ) → AtMost o m → AtMost p n → AtMost (joined operator o p) (joined_size operator m n)
 joined_if operator None p m n s t = tt
 joined_if operator (Some a) None m n s t = tt
