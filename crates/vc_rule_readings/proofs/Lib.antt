@@ -3,3 +3,4 @@ pub mod PartLemmas
 pub mod RangeLemmas
 pub mod ReadingLemmas
 pub mod SetLemmas
+pub mod TestLemmas

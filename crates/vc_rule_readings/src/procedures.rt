@@ -2,8 +2,8 @@
 
 ghost use Rattle.std.specs.Prelude.{◌≡◌};
 ghost use Rattle.vc_plan.specs.Parts.{procedure_reading};
-ghost use Rattle.vc_plan.specs.Truth.{truth_at, value_at};
-ghost use Rattle.vc_rule_terms.specs.Computing.{LiesInGrains, number_at};
+ghost use Rattle.vc_plan.specs.Truth.{number_of_value, truth_at, value_at};
+ghost use Rattle.vc_rule_terms.specs.Computing.{ArgumentFits, LiesInGrains, number_at};
 ghost use Rattle.vc_rule_terms.specs.Values.{count_if, meant_if};
 ghost use Rattle.vc_rule_readings.specs.Beside.{seen_beside};
 ghost use Rattle.vc_rule_readings.specs.Parted.{parted_reading};
@@ -117,7 +117,8 @@ pub fn procedure_truth<R: Reading, M: Marks>(
     parted_truth(plan, &Beside { stage, written }, condition)
 }
 
-/// The value of the plan's term of this number as procedures read it, where it has one. It takes no memory.
+/// The value of the plan's term of this number as procedures read it, where it has one. A number leaves room to round
+/// it. It takes no memory.
 pub fn procedure_value<R: Reading, M: Marks>(
     plan: &Plan,
     stage: &R,
@@ -126,8 +127,9 @@ pub fn procedure_value<R: Reading, M: Marks>(
 ) -> Option<TermValue>
     requires fit { SumsFit plan.now }
     requires values { LiesInGrains plan.now (seen_beside (R.seen stage.now) (M.entries written.now)) }
-    ensures { meant_if result ≡ value_at plan.now (procedure_reading plan.now (R.seen stage.now)
+    ensures is { meant_if result ≡ value_at plan.now (procedure_reading plan.now (R.seen stage.now)
         (M.entries written.now) (R.holdings stage.now)) term }
+    ensures fits { ArgumentFits (number_of_value (meant_if result)) }
 {
     parted_value(plan, &Beside { stage, written }, term)
 }
