@@ -1,0 +1,6 @@
+pub mod FindLemmas
+pub mod LyingLemmas
+pub mod OverlayLemmas
+pub mod RunLemmas
+pub mod StageLaws
+pub mod WritingLemmas

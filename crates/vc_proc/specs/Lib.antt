@@ -1,0 +1,4 @@
+pub mod Laws
+pub mod Overlays
+pub mod Stages
+pub mod Writing
