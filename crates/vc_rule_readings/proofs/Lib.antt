@@ -1,2 +1,6 @@
+pub mod BesideLemmas
+pub mod PartLemmas
+pub mod RangeLemmas
 pub mod ReadingLemmas
 pub mod SetLemmas
+pub mod TestLemmas

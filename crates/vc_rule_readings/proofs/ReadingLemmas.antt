@@ -18,7 +18,7 @@ use Rattle.vc_plan.specs.Ranges.{condition_there, is_of, term_there}
 use Rattle.vc_plan.specs.Readings.{Reading, full_reading, net_reading}
 use Rattle.vc_plan.specs.Seen.{Seen}
 use Rattle.vc_plan.specs.Sizes.{applied_size, condition_small, domain_size, is_small, joined_load, joined_size, size_limit, term_size, value_size}
-use Rattle.vc_plan.specs.Truth.{number, number_in, number_of_value, term_value, value_in_term, value_of_number}
+use Rattle.vc_plan.specs.Truth.{number, number_in, number_of_value, term_value, value_at, value_in_term, value_of_number}
 use Rattle.vc_rule_terms.specs.Computing.{ArgumentFits, Computes, ConditionComputes, LiesInGrains, OperandsFit, TermsFit}
 use Rattle.vc_rule_terms.proofs.SizeLemmas.{AtMost, applied_within, load_within, operated_within}
 use Rattle.vc_rule_terms.proofs.TermLemmas.{PassesIf, all_get, size_small}
@@ -57,6 +57,9 @@ pub operands_fit : (operator : Operator) (o p : Option ℤ) (m n : ℕ) → AtMo
 operands_fit operator None p m n s t small = tt
 operands_fit operator (Some a) None m n s t small = tt
 operands_fit operator (Some a) (Some b) m n s t small = let h = load_within operator a b m n s t in omega arith
+
+pub operands_as : (operator : Operator) (o p x y : Option ℤ) → OperandsFit operator x y → o ≡ x → p ≡ y → OperandsFit operator o p
+operands_as operator o p x y fit e f = subst (λ k. OperandsFit operator k p) (sym e) (subst (OperandsFit operator x) (sym f) fit)
 
 pub joined_if : (operator : Operator) (o p : Option ℤ) (m n : ℕ) → AtMost o m → AtMost p n → AtMost (joined operator o p) (joined_size operator m n)
 joined_if operator None p m n s t = tt
@@ -137,6 +140,32 @@ module _ (plan : Plan) (fit : TermsFit plan) (reading : Reading) (bounded : IsBo
       let small : PassesIf (is_small plan) (Some term) = subst (PassesIf (is_small plan)) e (all_get (is_small plan) plan.terms n fit.terms_small) in
       let both = term_computes term there small in
       both.0
+
+-- the number of a term's value is the term's number
+value_has : (o : Option ℤ) → number_of_value (value_of_number o) ≡ o
+value_has None = refl
+value_has (Some z) = refl
+
+number_told : (reading : Reading) (term : Term) → number_of_value (term_value reading term) ≡ number reading term
+number_told reading (Literal a) = refl
+number_told reading (Read v) = refl
+number_told reading (PartSum slot characteristic) = value_has (reading.part_sum slot characteristic)
+number_told reading (PartCount slot) = value_has (reading.part_count slot)
+number_told reading (Applied' function p a) = value_has (number reading (Applied' function p a))
+number_told reading (Joined' operator p a q b) = value_has (number reading (Joined' operator p a q b))
+
+-- and it can be rounded
+pub value_fits : (plan : Plan) → TermsFit plan → (reading : Reading) → IsBounded plan reading → (n : ℕ)
+    → ArgumentFits (number_of_value (value_at plan reading n))
+value_fits plan fit reading bounded n =
+    by (slice_get plan.terms n) (all_get (term_there plan) plan.terms n fit.terms_there) (all_get (is_small plan) plan.terms n fit.terms_small)
+  where
+    by : (o : Option Term) → PassesIf (term_there plan) o → PassesIf (is_small plan) o → ArgumentFits (number_of_value (value_in_term reading o))
+    by None there small = tt
+    by (Some term) there small =
+        let both = term_computes plan fit reading bounded term there small in
+        subst ArgumentFits (sym (number_told reading term))
+        (argument_fits (number reading term) (term_size plan term) both.1 (size_small plan fit.domains_there term there small))
 
 -- a term's number and its value in full are those of a net
 number_is : (plan : Plan) (seen : Seen) (holds : ℕ → ℕ → Bool) (term : Term)

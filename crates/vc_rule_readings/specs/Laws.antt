@@ -4,6 +4,12 @@ use Rattle.vc_plan.specs.declared.plans.Plan.{Plan}
 use Rattle.vc_plan.specs.Readings.{full_reading, net_reading}
 use Rattle.vc_plan.specs.Seen.{Seen}
 use Rattle.vc_plan.specs.Truth.{value_at}
+use Rattle.vc_plan.specs.Valid.{IsValid}
+use Rattle.vc_rule_readings.specs.Summing.{SumsFit}
+
+-- in a valid plan sums over parts can be computed
+abbrev pub ValidSumsFit : Type 0
+ValidSumsFit = (plan : Plan) → IsValid plan → SumsFit plan
 
 -- a term's value in full is that of a net: neither has sums over parts
 abbrev pub FullValues : Type 0

@@ -20,8 +20,8 @@ fn texts_in(domain: &Domain) -> &[u32]
     }
 }
 
-// The texts that the set may have.
-fn texts_of(plan: &Plan, set: u32) -> &[u32]
+/// The texts that the set may have.
+pub fn texts_of(plan: &Plan, set: u32) -> &[u32]
     ensures { result.now ≡ texts_of plan.now set }
 {
     match element(plan.sets.as_slice(), set) {

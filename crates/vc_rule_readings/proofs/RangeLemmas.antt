@@ -1,0 +1,77 @@
+-- Walks over the numbers below a limit: what the numbers from one on give, by the first of them and those after it.
+use Rattle.std.proofs.Common.{◌≡◌, ℕ, suc, ◌+◌, ◌-◌, ◌<◌, ◌≤◌, ℤ, Bool, true, false, cond, ◌&&◌, List, [], ◌∷◌, map, refl, sym, ◌∙◌, ap, arith}
+use Rattle.std.specs.Prelude.{if◌then◌else◌, Option, None, Some}
+use Rattle.std.specs.List.{filter, find, range_with_len}
+use Rattle.vc_plan.specs.declared.terms.Operator.TheVariants.{Plus}
+use Rattle.vc_plan.specs.Numbers.{joined}
+use Rattle.vc_plan.specs.Parts.{total}
+
+range_next : (g n : ℕ) → g < n → range_with_len g (n - g) ≡ g ∷ range_with_len (g + 1) (n - (g + 1))
+range_next g n below = let more : n - g ≡ suc (n - (g + 1)) = omega (arith, below) in ap (range_with_len g) more
+
+range_done : (g n : ℕ) → n ≤ g → range_with_len g (n - g) ≡ []
+range_done g n past = let none : n - g ≡ 0 = omega (arith, past) in ap (range_with_len g) none
+
+-- the first that passes
+pub find_next : (p : ℕ → Bool) (g n : ℕ) → g < n → p g ≡ false
+    → find p (range_with_len g (n - g)) ≡ find p (range_with_len (g + 1) (n - (g + 1)))
+find_next p g n below e =
+    ap (find p) (range_next g n below) ∙ ap (λ b. cond b (Some g) (find p (range_with_len (g + 1) (n - (g + 1))))) e
+
+pub find_here : (p : ℕ → Bool) (g n : ℕ) → g < n → p g ≡ true → find p (range_with_len g (n - g)) ≡ Some g
+find_here p g n below e =
+    ap (find p) (range_next g n below) ∙ ap (λ b. cond b (Some g) (find p (range_with_len (g + 1) (n - (g + 1))))) e
+
+pub find_done : (p : ℕ → Bool) (g n : ℕ) → n ≤ g → find p (range_with_len g (n - g)) ≡ None
+find_done p g n past = ap (find p) (range_done g n past)
+
+pub ruleset finding = (find_next, find_here, find_done)
+
+-- a total over the numbers that pass: that over those from one on, with the number before it
+pub total_next : (w : ℕ → Option ℤ) (p : ℕ → Bool) (g n : ℕ) → g < n
+    → total (map w (filter p (range_with_len g (n - g))))
+    ≡ (let later = total (map w (filter p (range_with_len (g + 1) (n - (g + 1))))) in if p g then joined Plus (w g) later else later)
+total_next w p g n below =
+    let rest = range_with_len (g + 1) (n - (g + 1)) in
+    ap (λ gs. total (map w (filter p gs))) (range_next g n below) ∙ by (filter p rest) (p g)
+  where
+    by : (kept : List ℕ) (b : Bool) → total (map w (if b then g ∷ kept else kept)) ≡ (if b then joined Plus (w g) (total (map w kept)) else total (map w kept))
+    by kept true = refl
+    by kept false = refl
+
+pub total_down : (w : ℕ → Option ℤ) (p : ℕ → Bool) (g n : ℕ) (s t : Option ℤ) → 0 < g → g ≤ n
+    → s ≡ total (map w (filter p (range_with_len g (n - g))))
+    → t ≡ (if p (g - 1) then joined Plus (w (g - 1)) s else s)
+    → (g - 1 ≤ n) × (t ≡ total (map w (filter p (range_with_len (g - 1) (n - (g - 1))))))
+total_down w p g n s t some within e f =
+    let back : g - 1 + 1 ≡ g = omega (arith, some) in
+    let same : total (map w (filter p (range_with_len (g - 1 + 1) (n - (g - 1 + 1))))) ≡ s =
+    ap (λ k. total (map w (filter p (range_with_len k (n - k))))) back ∙ sym e in (
+      omega (arith, within),
+      f
+          ∙ (ap (λ (o : Option ℤ). if p (g - 1) then joined Plus (w (g - 1)) o else o) (sym same)
+          ∙ sym (total_next w p (g - 1) n (omega (arith, some, within)))),
+    )
+
+pub total_begun : (w : ℕ → Option ℤ) (p : ℕ → Bool) (g n : ℕ) → n ≤ g → total (map w (filter p (range_with_len g (n - g)))) ≡ total []
+total_begun w p g n past = ap (λ gs. total (map w (filter p gs))) (range_done g n past)
+
+-- those that pass two tests pass both at once
+pub filter_both : (p q : ℕ → Bool) (gs : List ℕ) → filter q (filter p gs) ≡ filter (λ g. p g && q g) gs
+filter_both p q [] = refl
+filter_both p q (g ∷ gs) = by (p g) (q g) (filter_both p q gs)
+  where
+    by : (b c : Bool) → filter q (filter p gs) ≡ filter (λ h. p h && q h) gs
+        → filter q (if b then g ∷ filter p gs else filter p gs) ≡ (if b && q g then g ∷ filter (λ h. p h && q h) gs else filter (λ h. p h && q h) gs)
+    by true c e = ap (λ hs. if q g then g ∷ hs else hs) e
+    by false c e = e
+
+pub filter_all : (p : ℕ → Bool) (gs : List ℕ) → filter p gs ≡ filter (λ g. p g && true) gs
+filter_all p [] = refl
+filter_all p (g ∷ gs) = by (p g) (filter_all p gs)
+  where
+    by : (b : Bool) → filter p gs ≡ filter (λ h. p h && true) gs
+        → (if b then g ∷ filter p gs else filter p gs)
+        ≡ (if b && true then g ∷ filter (λ h. p h && true) gs else filter (λ h. p h && true) gs)
+    by true e = ap (λ hs. g ∷ hs) e
+    by false e = e
