@@ -1,0 +1,17 @@
+-- What the calls take for granted of a plan.
+use Rattle.std.specs.Prelude.{◌≡◌, ◌<◌, ◌^◌, true, length}
+use Rattle.vc_plan.specs.declared.plans.Plan.{Plan}
+use Rattle.vc_plan.specs.Valid.{IsValid}
+use Rattle.vc_rule_terms.specs.Computing.{TermsFit}
+use Rattle.vc_show.specs.Places.{are_by_slot}
+
+-- conditions and terms fit, preconditions come by their slots, and numbers of 32 bits name all variables and sets
+pub record ShownFits (plan : Plan) : Type 0 where
+  pub terms : TermsFit plan
+  pub guards : are_by_slot plan plan.guards ≡ true
+  pub vars : length plan.vars < 2 ^ 32
+  pub sets : length plan.sets < 2 ^ 32
+
+-- a valid plan's do
+abbrev pub ValidPlansShow : Type 0
+ValidPlansShow = (plan : Plan) → IsValid plan → ShownFits plan
