@@ -22,7 +22,7 @@ use Rattle.vc_compile_plan.specs.PlanOf.{IsPlanOf}
 use Rattle.vc_compile_plan.specs.Sites.{named_at}
 use Rattle.vc_compile_plan.specs.Slots.{slots_of}
 use Rattle.vc_compile_plan.specs.Variables.{by_slot, members_of, set_at, set_number, sets_at, sets_of, var_at, var_number, vars_at, vars_of}
-use Rattle.vc_compile_laws.proofs.EachLaws.{Each, each_more}
+use Rattle.vc_compile_valid.proofs.EachLaws.{Each, each_more}
 
 -- the first that passes, where one does
 one_found : {X : Type 0} (p : X → Bool) (xs : List X) → list_any p xs ≡ true

@@ -1,0 +1,13 @@
+pub mod DraftLaws
+pub mod EachLaws
+pub mod LineNumberLaws
+pub mod LineSlotLaws
+pub mod ListLaws
+pub mod NamedLaws
+pub mod NumberingLaws
+pub mod OneBillLaws
+pub mod OrderedLaws
+pub mod PlacedLaws
+pub mod PreorderLaws
+pub mod RuleLaws
+pub mod SlotwiseLaws

@@ -1,0 +1,4 @@
+pub mod Models
+pub mod Plans
+pub mod Rules
+pub mod Slots

@@ -1,0 +1,31 @@
+//! What every plan of a model keeps, each law the contract of a function that does nothing.
+
+ghost use Rattle.std.specs.Prelude.{◌≡◌, true};
+ghost use Rattle.std.specs.List.{list_all};
+ghost use Rattle.vc_plan.specs.Ranges.{slot_there};
+ghost use Rattle.vc_compile_valid.specs.Models.{KeepsParts};
+ghost use Rattle.vc_compile_valid.specs.Plans.{PlansKeep};
+ghost use Rattle.vc_compile_valid.specs.Rules.{HasRules};
+ghost use Rattle.vc_compile_valid.specs.Slots.{HasLineSlots, HasOneBill, HasPreorder};
+
+/// Its rules are numbered, none stands twice, each variable has one Last and each slot but the root a Line; what is of no
+/// dependency asks nothing, and no variable alone is compared with a literal.
+pub fn plans_have_rules()
+    ensures { PlansKeep (λ model plan. HasRules plan) }
+{}
+
+/// Its slots are in preorder, each one level below the slot whose line it stands for, and by item.
+pub fn plans_have_preorder()
+    ensures { PlansKeep (λ model plan. HasPreorder plan) }
+{}
+
+/// A line that has an object has one slot, of that object, and its selection conditions stand in rules; another line has
+/// none.
+pub fn plans_have_line_slots()
+    ensures { PlansKeep (λ model plan. KeepsParts model → list_all (slot_there plan) plan.slots ≡ true → HasLineSlots plan) }
+{}
+
+/// Slots of one object have its lines and its operations.
+pub fn plans_have_one_bill()
+    ensures { PlansKeep (λ model plan. HasOneBill plan) }
+{}
