@@ -1,5 +1,7 @@
+pub mod CountLaws
 pub mod DraftLaws
 pub mod EachLaws
+pub mod EntryLaws
 pub mod LineNumberLaws
 pub mod LineSlotLaws
 pub mod ListLaws
@@ -8,6 +10,7 @@ pub mod NumberingLaws
 pub mod OneBillLaws
 pub mod OrderedLaws
 pub mod PlacedLaws
+pub mod PlaceLaws
 pub mod PreorderLaws
 pub mod RuleLaws
 pub mod SlotwiseLaws

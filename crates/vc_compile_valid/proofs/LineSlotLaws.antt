@@ -36,7 +36,7 @@ use Rattle.vc_compile_valid.specs.Models.{KeepsParts, is_plain}
 use Rattle.vc_compile_valid.specs.Slots.{HasLineSlots}
 use Rattle.vc_compile_valid.proofs.EachLaws.{Each, each_by_slot, each_mapped, each_more, each_passes, each_tested}
 use Rattle.vc_compile_valid.proofs.LineNumberLaws.{IsOfBill, before_apart, bill_found, bill_sizes, lines_of_slot, number_is}
-use Rattle.vc_compile_valid.proofs.ListLaws.{none_past}
+use Rattle.vc_compile_valid.proofs.ListLaws.{none_past, passes_there}
 use Rattle.vc_compile_valid.proofs.NumberingLaws.{StandFrom, first_of_more, rest_of_more}
 use Rattle.vc_compile_valid.proofs.PlacedLaws.{EachFrom, IsPart, IsPlacedBelow, from_at, from_joined, placed_at, stand_first, stand_rest, whole_stands}
 use Rattle.vc_compile_valid.proofs.PreorderLaws.{all_earlier, is_earlier}
@@ -376,12 +376,6 @@ bill_pass model p all o = by (slice_get model.objects o) refl
     by : (x : Option configurable.Object) → slice_get model.objects o ≡ x → list_all p (bill_in x) ≡ true
     by None e = refl
     by (Some x) e = pass_at model.objects o x all e
-
-passes_there : {X : Type 0} (p : X → Bool) (xs : List X) (k : ℕ) (x : X) → list_all p xs ≡ true → slice_get xs k ≡ Some x → p x ≡ true
-passes_there p [] k x h e = absurd (cc)
-passes_there p (y ∷ xs) zero x h e =
-    let same : y ≡ x = cc in ap p (sym same) ∙ (and_parts (p y) (list_all p xs) h).0
-passes_there p (y ∷ xs) (suc k) x h e = passes_there p xs k x (and_parts (p y) (list_all p xs) h).1 e
 
 -- whether a line is configurable is told by its component
 plain_apart : (model : Model) (tables : List VariantTable) (plan : Plan) → IsPlanOf model tables plan → (material : List ℕ)

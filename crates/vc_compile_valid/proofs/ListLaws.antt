@@ -137,3 +137,10 @@ pub there : {X : Type 0} (xs : List X) (k : ℕ) → k < length xs → (x : X) �
 there [] k h = absurd (omega (arith, h))
 there (x ∷ xs) zero h = (x, refl)
 there (x ∷ xs) (suc k) h = there xs k (omega (arith, h))
+
+-- one that is there passes what all pass
+pub passes_there : {X : Type 0} (p : X → Bool) (xs : List X) (k : ℕ) (x : X) → list_all p xs ≡ true → slice_get xs k ≡ Some x → p x ≡ true
+passes_there p [] k x h e = absurd (cc)
+passes_there p (y ∷ xs) zero x h e =
+    let same : y ≡ x = cc in ap p (sym same) ∙ (and_parts (p y) (list_all p xs) h).0
+passes_there p (y ∷ xs) (suc k) x h e = passes_there p xs k x (and_parts (p y) (list_all p xs) h).1 e

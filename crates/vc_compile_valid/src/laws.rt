@@ -3,7 +3,8 @@
 ghost use Rattle.std.specs.Prelude.{◌≡◌, true};
 ghost use Rattle.std.specs.List.{list_all};
 ghost use Rattle.vc_plan.specs.Ranges.{slot_there};
-ghost use Rattle.vc_compile_valid.specs.Models.{KeepsParts};
+ghost use Rattle.vc_compile_valid.specs.Models.{KeepsParts, KeepsUses, KeepsValues};
+ghost use Rattle.vc_compile_valid.specs.Places.{HasFew, HasFewProcedures, HasOnce, HasPlaces};
 ghost use Rattle.vc_compile_valid.specs.Plans.{PlansKeep};
 ghost use Rattle.vc_compile_valid.specs.Rules.{HasRules};
 ghost use Rattle.vc_compile_valid.specs.Slots.{HasLineSlots, HasOneBill, HasPreorder};
@@ -28,4 +29,15 @@ pub fn plans_have_line_slots()
 /// Slots of one object have its lines and its operations.
 pub fn plans_have_one_bill()
     ensures { PlansKeep (λ model plan. HasOneBill plan) }
+{}
+
+/// Its procedures and preconditions are by slot, class order and list order, and what stands at a value stands at a listed
+/// one.
+pub fn plans_have_places()
+    ensures { PlansKeep (λ model plan. KeepsValues model → HasOnce plan → HasPlaces plan) }
+{}
+
+/// It has fewer procedures than 2^32.
+pub fn plans_have_few_procedures()
+    ensures { PlansKeep (λ model plan. KeepsValues model → KeepsUses model → HasFew plan → HasFewProcedures plan) }
 {}
