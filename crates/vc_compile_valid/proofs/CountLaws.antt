@@ -1,7 +1,7 @@
 -- A plan has fewer procedures than 2^32: a slot has at most 50,050,100.
-use Rattle.std.proofs.Common.{◌≡◌, ℕ, zero, suc, ◌+◌, ◌*◌, ◌<◌, ◌≤◌, Bool, true, nat_lt, List, [], ◌∷◌, ◌++◌, length, map, flat_map, Option, Some, None, refl, sym, ap, ◌∙◌, arith, length-append}
+use Rattle.std.proofs.Common.{◌≡◌, ℕ, suc, ◌+◌, ◌*◌, ◌≤◌, true, List, [], ◌∷◌, ◌++◌, length, flat_map, Option, Some, None, refl, sym, ap, ◌∙◌, arith, length-append}
 use Rattle.std.specs.Prelude.{◌^◌, nat_le, slice_get, option_map}
-use Rattle.std.specs.List.{cons_option, list_all}
+use Rattle.std.specs.List.{cons_option}
 use Rattle.std.proofs.Math.Nat.{mul-suc}
 use Rattle.std.proofs.lemmas.Bool.{leb-true, lt-ltb}
 use Rattle.std.proofs.lemmas.List.{length-map}
@@ -25,13 +25,13 @@ use Rattle.vc_compile_plan.specs.Layouts.{Layout, layout_of, tree_of}
 use Rattle.vc_compile_plan.specs.Numbering.{Brings, drafts_of, numbered, procedure_brings, procedure_from, procedure_terms_begin, procedures_begin}
 use Rattle.vc_compile_plan.specs.PlanOf.{IsPlanOf}
 use Rattle.vc_compile_plan.specs.Places.{statements_in}
-use Rattle.vc_compile_plan.specs.Procedures.{ProcedureDraft, entries_in, procedure_at, procedure_drafts, procedures_among, procedures_at, profile_in, trigger_of, uses_in, value_procedures}
+use Rattle.vc_compile_plan.specs.Procedures.{ProcedureDraft, entries_in, procedure_at, procedures_among, procedures_at, profile_in, trigger_of, uses_in, value_procedures}
 use Rattle.vc_compile_plan.specs.Shown.{Entry, entries_of, entry_of_numbers, entry_of_text}
 use Rattle.vc_compile_plan.specs.Sites.{named_at}
 use Rattle.vc_compile_plan.specs.Slots.{slots_of}
 use Rattle.vc_compile_plan.specs.Tables.{characteristic_from}
 use Rattle.vc_compile_plan.specs.Variables.{by_slot, members_of}
-use Rattle.vc_compile_valid.specs.Models.{KeepsUses, KeepsValues, all_values, have_few_uses}
+use Rattle.vc_compile_valid.specs.Models.{KeepsUses, KeepsValues, have_few_uses}
 use Rattle.vc_compile_valid.specs.Places.{HasFew, HasFewProcedures}
 use Rattle.vc_compile_valid.proofs.EachLaws.{Each, each_mapped, each_more, each_tested}
 use Rattle.vc_compile_valid.proofs.EntryLaws.{pieces_are}

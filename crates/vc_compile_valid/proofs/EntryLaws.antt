@@ -1,5 +1,5 @@
 -- The values of a characteristic: pieces of its list, each once and in its order.
-use Rattle.std.proofs.Common.{◌≡◌, ℕ, zero, suc, ◌+◌, ◌<◌, ◌≤◌, Bool, true, false, cond, not, ◌&&◌, nat_lt, List, [], ◌∷◌, ◌++◌, length, map, Option, Some, None, refl, sym, ap, ◌∙◌, arith, subst, ℤ}
+use Rattle.std.proofs.Common.{◌≡◌, ℕ, zero, suc, ◌+◌, ◌<◌, Bool, true, false, cond, not, ◌&&◌, nat_lt, List, [], ◌∷◌, map, Some, refl, sym, ap, ◌∙◌, arith, subst, ℤ}
 use Rattle.std.specs.Prelude.{◌==◌, slice_get}
 use Rattle.std.specs.List.{list_all, list_any, position_or_len}
 use Rattle.std.specs.Int.Signed.{le_z, lt_z}
@@ -23,7 +23,7 @@ use Rattle.vc_plan.specs.declared.conditions.Piece.{Piece}
 use Rattle.vc_plan.specs.declared.conditions.Piece.TheVariants.{OneText, Stretch}
 use Rattle.vc_types.specs.Settings.{are_multiple}
 use Rattle.vc_compile_plan.specs.Conditions.{text_in_piece}
-use Rattle.vc_compile_plan.specs.Shown.{Entry, entries_of, entry_of_numbers, entry_of_text}
+use Rattle.vc_compile_plan.specs.Shown.{entries_of, entry_of_numbers, entry_of_text}
 use Rattle.vc_compile_valid.specs.Models.{all_values}
 use Rattle.vc_compile_valid.proofs.EachLaws.{Each}
 use Rattle.vc_compile_valid.proofs.ListLaws.{apart_mapped, from_each}

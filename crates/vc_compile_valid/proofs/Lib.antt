@@ -1,10 +1,13 @@
 pub mod CountLaws
+pub mod CuttingLaws
+pub mod DomainLaws
 pub mod DraftLaws
 pub mod EachLaws
 pub mod EntryLaws
 pub mod LineNumberLaws
 pub mod LineSlotLaws
 pub mod ListLaws
+pub mod MultipleLaws
 pub mod NamedLaws
 pub mod NumberingLaws
 pub mod OneBillLaws

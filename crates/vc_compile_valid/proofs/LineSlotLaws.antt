@@ -36,7 +36,7 @@ use Rattle.vc_compile_valid.specs.Models.{KeepsParts, is_plain}
 use Rattle.vc_compile_valid.specs.Slots.{HasLineSlots}
 use Rattle.vc_compile_valid.proofs.EachLaws.{Each, each_by_slot, each_mapped, each_more, each_passes, each_tested}
 use Rattle.vc_compile_valid.proofs.LineNumberLaws.{IsOfBill, before_apart, bill_found, bill_sizes, lines_of_slot, number_is}
-use Rattle.vc_compile_valid.proofs.ListLaws.{none_past, passes_there}
+use Rattle.vc_compile_valid.proofs.ListLaws.{any_there, none_past, passes_there, some_there}
 use Rattle.vc_compile_valid.proofs.NumberingLaws.{StandFrom, first_of_more, rest_of_more}
 use Rattle.vc_compile_valid.proofs.PlacedLaws.{EachFrom, IsPart, IsPlacedBelow, from_at, from_joined, placed_at, stand_first, stand_rest, whole_stands}
 use Rattle.vc_compile_valid.proofs.PreorderLaws.{all_earlier, is_earlier}
@@ -45,13 +45,6 @@ use Rattle.vc_compile_valid.proofs.SlotwiseLaws.{below_count, none_left}
 -- what stands for a line of a slot
 abbrev is_for : ℕ → ℕ → Standing → Bool
 is_for p k s = is_number p s.parent && (s.item == k)
-
--- one that is there passes
-any_there : {X : Type 0} (test : X → Bool) (xs : List X) (k : ℕ) (x : X) → slice_get xs k ≡ Some x → test x ≡ true
-    → list_any test xs ≡ true
-any_there test [] k x e h = absurd (cc)
-any_there test (y ∷ xs) zero x e h = let same : y ≡ x = cc in or_left (test y) (list_any test xs) (ap test same ∙ h)
-any_there test (y ∷ xs) (suc k) x e h = or_right (test y) (list_any test xs) (any_there test xs k x e h)
 
 -- what each line brings
 lines_each : (P : ℕ → Standing → Type 0) (all : List Standing) (brought : ℕ → ℕ → ℕ → List Standing) (item n : ℕ) (lines : List BillItem)
@@ -385,18 +378,6 @@ plain_apart model tables plan is material h =
     ap (list_any (λ object. same_bytes object.material material)) is.objects ∙ materials_same model material 0 model.objects
     ∙ not-true (list_any (λ object. same_bytes object.material material) model.objects) h
 
--- one that stands for it, by its number
-some_at : (test : Standing → Bool) (xs : List Standing) → list_any test xs ≡ true
-    → (n : ℕ) × (s : Standing) × (slice_get xs n ≡ Some s) × (test s ≡ true)
-some_at test [] h = absurd (cc)
-some_at test (x ∷ xs) h = by (test x) refl h (λ k. some_at test xs k)
-  where
-    by : (b : Bool) → test x ≡ b → (b || list_any test xs) ≡ true
-        → (list_any test xs ≡ true → (n : ℕ) × (s : Standing) × (slice_get xs n ≡ Some s) × (test s ≡ true))
-        → (n : ℕ) × (s : Standing) × (slice_get (x ∷ xs) n ≡ Some s) × (test s ≡ true)
-    by true t k later = (0, x, refl, t)
-    by false t k later = let found = later k in (suc found.0, found.1, found.2, found.3)
-
 slots_of_line : (model : Model) (tables : List VariantTable) (plan : Plan) → KeepsParts model → IsPlanOf model tables plan
     → list_all (slot_there plan) plan.slots ≡ true → (l : ℕ) (line : Line) → slice_get plan.lines l ≡ Some line
     → has_its_slots plan l (Some line) ≡ true
@@ -453,7 +434,7 @@ slots_of_line model tables plan keeps is there l line e =
         → length (filter (is_for bill.p bill.k) (standings_of model)) ≡ (if is_configurable plan line then 1 else 0)
     count (components.Object o) has =
         let some = one_there o (ap object_in has) in
-        let found = some_at (is_for bill.p bill.k) (standings_of model) some in
+        let found = some_there (is_for bill.p bill.k) (standings_of model) some in
         one_left is_earlier (is_for bill.p bill.k) (not_twice bill.p bill.k) (standings_of model) (all_earlier model) some
         ∙ sym (ap (λ b. if b then 1 else 0)
         (object_found line.material plan.objects found.1.object (material found.0 found.1 found.2 found.3)))

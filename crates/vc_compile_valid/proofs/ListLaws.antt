@@ -3,7 +3,7 @@ use Rattle.std.proofs.Common.{◌≡◌, ℕ, zero, suc, Bool, true, false, cond
 use Rattle.std.proofs.Common.{Option, None, Some, refl, sym, ap, ◌∙◌, arith}
 use Rattle.std.specs.Prelude.{option_map, slice_get}
 use Rattle.std.specs.List.{filter, list_all, list_any}
-use Rattle.std.proofs.lemmas.Bool.{and_parts, and_from, or_parts, or_from, not-true, not_from_false}
+use Rattle.std.proofs.lemmas.Bool.{and_parts, and_from, or_left, or_parts, or_from, or_right, not-true, not_from_false}
 use Rattle.std.proofs.lemmas.List.Folds.{list_all-append, list_any-append}
 use Rattle.std.proofs.lemmas.Option.{slice_get-map}
 use Rattle.vc_plan.specs.Orders.{are_apart}
@@ -144,3 +144,21 @@ passes_there p [] k x h e = absurd (cc)
 passes_there p (y ∷ xs) zero x h e =
     let same : y ≡ x = cc in ap p (sym same) ∙ (and_parts (p y) (list_all p xs) h).0
 passes_there p (y ∷ xs) (suc k) x h e = passes_there p xs k x (and_parts (p y) (list_all p xs) h).1 e
+
+-- one that is there and passes, and the other way
+pub any_there : {X : Type 0} (test : X → Bool) (xs : List X) (k : ℕ) (x : X) → slice_get xs k ≡ Some x → test x ≡ true
+    → list_any test xs ≡ true
+any_there test [] k x e h = absurd (cc)
+any_there test (y ∷ xs) zero x e h = let same : y ≡ x = cc in or_left (test y) (list_any test xs) (ap test same ∙ h)
+any_there test (y ∷ xs) (suc k) x e h = or_right (test y) (list_any test xs) (any_there test xs k x e h)
+
+pub some_there : {X : Type 0} (test : X → Bool) (xs : List X) → list_any test xs ≡ true
+    → (n : ℕ) × (x : X) × (slice_get xs n ≡ Some x) × (test x ≡ true)
+some_there test [] h = absurd (cc)
+some_there {X = X} test (y ∷ xs) h = by (test y) refl h (λ k. some_there test xs k)
+  where
+    by : (b : Bool) → test y ≡ b → (b || list_any test xs) ≡ true
+        → (list_any test xs ≡ true → (n : ℕ) × (x : X) × (slice_get xs n ≡ Some x) × (test x ≡ true))
+        → (n : ℕ) × (x : X) × (slice_get (y ∷ xs) n ≡ Some x) × (test x ≡ true)
+    by true t k later = (0, y, refl, t)
+    by false t k later = let found = later k in (suc found.0, found.1, found.2, found.3)

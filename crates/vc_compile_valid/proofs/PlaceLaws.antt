@@ -1,19 +1,16 @@
 -- Procedures and preconditions of a plan are by slot, in class order and list order.
-use Rattle.std.proofs.Common.{◌≡◌, ℕ, zero, suc, ◌+◌, ◌<◌, ◌≤◌, Bool, true, false, cond, not, ◌&&◌, ◌||◌, nat_lt, List, [], ◌∷◌, ◌++◌, length, map, flat_map, Option, Some, None, refl, sym, ap, ◌∙◌, arith, subst, if◌then◌else◌, inl, inr}
+use Rattle.std.proofs.Common.{◌≡◌, ℕ, zero, suc, ◌+◌, ◌<◌, ◌≤◌, Bool, true, false, not, ◌&&◌, ◌||◌, nat_lt, List, [], ◌∷◌, ◌++◌, flat_map, Option, Some, None, refl, sym, ap, ◌∙◌, arith, subst, if◌then◌else◌, inl, inr}
 use Rattle.std.specs.Prelude.{◌==◌, slice_get, option_map}
 use Rattle.std.specs.List.{cons_option, list_all, list_any, position_or_len}
 use Rattle.std.proofs.lemmas.Bool.{and_from, and_parts, cases_order, eq-eqb, eqb-true, lt-ltb, ltb-true, ne_eqb, or_left, or_right}
-use Rattle.std.proofs.lemmas.List.Folds.{list_all-append}
 use Rattle.std.proofs.lemmas.Option.{slice_get-map}
-use Rattle.vc_value.specs.declared.table_header.Domain.{Domain}
-use Rattle.vc_model_parts.specs.Headers.{domain_of}
 use Rattle.vc_model_parts.specs.declared.parts.Characteristic.{Characteristic}
 use Rattle.vc_model_parts.specs.declared.parts.Model.{Model}
 use Rattle.vc_model_parts.specs.declared.parts.Object as configurable
 use Rattle.vc_plan.specs.Alike.{is_proper}
 use Rattle.vc_plan.specs.Classes.{are_guards_in_order, are_procedures_in_order, class_at, class_in, class_of_slot, class_place, characteristic_at, is_not_behind, list_at, number_or_zero, place_in, trigger_place, value_place}
 use Rattle.vc_plan.specs.Lists.{is_entry, list_in, list_of, list_place}
-use Rattle.vc_plan.specs.LookUps.{is_value_of, trigger_listed}
+use Rattle.vc_plan.specs.LookUps.{trigger_listed}
 use Rattle.vc_plan.specs.Orders.{are_apart, are_in_order, is_number}
 use Rattle.vc_plan.specs.Showing.{slot_of_named}
 use Rattle.vc_plan.specs.declared.conditions.Piece.{Piece}
@@ -23,9 +20,8 @@ use Rattle.vc_plan.specs.declared.plans.Named.TheVariants.{Var, Set}
 use Rattle.vc_plan.specs.declared.plans.Object.{Object}
 use Rattle.vc_plan.specs.declared.plans.Plan.{Plan}
 use Rattle.vc_plan.specs.declared.plans.Slot.{Slot}
-use Rattle.vc_plan.specs.declared.procedures.Procedure.{Procedure}
 use Rattle.vc_plan.specs.declared.procedures.Trigger.{Trigger}
-use Rattle.vc_plan.specs.declared.procedures.Trigger.TheVariants.{Anyway, ValueIn, TextIn}
+use Rattle.vc_plan.specs.declared.procedures.Trigger.TheVariants.{Anyway}
 use Rattle.vc_syntax_terms.specs.Trees.{Statement}
 use Rattle.vc_table.specs.declared.table.VariantTable.{VariantTable}
 use Rattle.vc_types.specs.Looking as looking
@@ -34,8 +30,8 @@ use Rattle.vc_compile_plan.specs.Conditions.{text_in_piece}
 use Rattle.vc_compile_plan.specs.Layouts.{Layout, layout_of, tree_of}
 use Rattle.vc_compile_plan.specs.Numbering.{drafts_of, guard_brings, guard_from, guards_begin, procedure_brings, procedure_from, procedure_terms_begin, procedures_begin}
 use Rattle.vc_compile_plan.specs.PlanOf.{IsPlanOf}
-use Rattle.vc_compile_plan.specs.Places.{Asked, characteristic_site, preconditions_among, statements_in}
-use Rattle.vc_compile_plan.specs.Procedures.{ProcedureDraft, entries_in, procedure_at, procedure_drafts, procedures_among, procedures_at, profile_in, trigger_of, uses_in, value_procedures}
+use Rattle.vc_compile_plan.specs.Places.{characteristic_site, preconditions_among, statements_in}
+use Rattle.vc_compile_plan.specs.Procedures.{ProcedureDraft, entries_in, procedure_at, procedures_among, procedures_at, profile_in, trigger_of, uses_in, value_procedures}
 use Rattle.vc_compile_plan.specs.Shown.{Entry, GuardDraft, choice_at, entries_of, guard_drafts, guards_among, guards_at, guards_of}
 use Rattle.vc_compile_plan.specs.Sites.{Site, named_at}
 use Rattle.vc_compile_plan.specs.Slots.{slots_of}

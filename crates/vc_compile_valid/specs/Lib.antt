@@ -1,3 +1,4 @@
+pub mod Domains
 pub mod Models
 pub mod Places
 pub mod Plans

@@ -3,6 +3,7 @@
 ghost use Rattle.std.specs.Prelude.{◌≡◌, true};
 ghost use Rattle.std.specs.List.{list_all};
 ghost use Rattle.vc_plan.specs.Ranges.{slot_there};
+ghost use Rattle.vc_compile_valid.specs.Domains.{HasDomains, HasLists};
 ghost use Rattle.vc_compile_valid.specs.Models.{KeepsParts, KeepsUses, KeepsValues};
 ghost use Rattle.vc_compile_valid.specs.Places.{HasFew, HasFewProcedures, HasOnce, HasPlaces};
 ghost use Rattle.vc_compile_valid.specs.Plans.{PlansKeep};
@@ -40,4 +41,9 @@ pub fn plans_have_places()
 /// It has fewer procedures than 2^32.
 pub fn plans_have_few_procedures()
     ensures { PlansKeep (λ model plan. KeepsValues model → KeepsUses model → HasFew plan → HasFewProcedures plan) }
+{}
+
+/// Its domains are the lists of characteristics cut up: no number is lost or new, and each variable has a grain.
+pub fn plans_have_domains()
+    ensures { PlansKeep (λ model plan. KeepsValues model → HasLists plan → HasDomains plan) }
 {}
