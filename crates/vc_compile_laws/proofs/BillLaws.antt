@@ -42,8 +42,8 @@ use Rattle.vc_compile_plan.specs.Slots.{bill_in, bill_of, slots_of}
 use Rattle.vc_types.specs.declared.place.At.TheVariants as at
 use Rattle.vc_compile_laws.specs.Bills.{HasBills}
 use Rattle.vc_compile_laws.specs.Compiles.{CompiledKeeps}
-use Rattle.vc_compile_laws.proofs.EachLaws.{Each, each_both, each_by_slot, each_mapped, each_more, each_passes, each_tested}
-use Rattle.vc_compile_laws.proofs.NumberingLaws.{StandFrom, condition_count, line_conditions, line_terms, numbered_each, operation_conditions, operation_terms, stand_within, term_count}
+use Rattle.vc_compile_valid.proofs.EachLaws.{Each, each_both, each_by_slot, each_mapped, each_more, each_passes, each_tested}
+use Rattle.vc_compile_valid.proofs.NumberingLaws.{StandFrom, condition_count, line_conditions, line_terms, numbered_each, operation_conditions, operation_terms, stand_within, term_count}
 use Rattle.vc_compile_laws.proofs.VariableLaws.{slots_same}
 
 -- a dependency that is asked is one of the model's

@@ -23,9 +23,9 @@ use Rattle.vc_compile_plan.specs.Tables.{object_from, objects_from}
 use Rattle.vc_compile_plan.specs.Variables.{members_if, members_of, set_at, sets_at, sets_of, var_at, vars_at}
 use Rattle.vc_compile_laws.specs.Classes.{HasClasses}
 use Rattle.vc_compile_laws.specs.Compiles.{CompiledKeeps}
-use Rattle.vc_compile_laws.proofs.AtSlotLaws.{at_slot, below_count}
-use Rattle.vc_compile_laws.proofs.EachLaws.{Each, each_mapped, each_more, each_of_all, each_passes}
-use Rattle.vc_compile_laws.proofs.NamedLaws.{any_by_slot, any_made, each_among}
+use Rattle.vc_compile_valid.proofs.SlotwiseLaws.{at_slot, below_count}
+use Rattle.vc_compile_valid.proofs.EachLaws.{Each, each_mapped, each_more, each_of_all, each_passes}
+use Rattle.vc_compile_valid.proofs.NamedLaws.{any_by_slot, any_made, each_among}
 use Rattle.vc_compile_laws.proofs.VariableLaws.{all_sets, no_sets, numbers_same, slots_same}
 
 objects_at : (model : Model) (s : ℕ) (xs : List configurable.Object) (k n : ℕ) → n ≡ s + k

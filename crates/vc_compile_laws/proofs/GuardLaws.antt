@@ -45,10 +45,10 @@ use Rattle.vc_compile_plan.specs.Variables.{members_of}
 use Rattle.vc_compile_laws.specs.Compiles.{CompiledKeeps}
 use Rattle.vc_compile_laws.specs.Guards.{HasGuards}
 use Rattle.vc_compile_laws.proofs.BillLaws.{asked_there}
-use Rattle.vc_compile_laws.proofs.EachLaws.{Each, each_both, each_by_slot, each_flat, each_joined, each_mapped, each_more, each_passes}
+use Rattle.vc_compile_valid.proofs.EachLaws.{Each, each_both, each_by_slot, each_flat, each_joined, each_mapped, each_more, each_passes}
 use Rattle.vc_compile_laws.proofs.ListedLaws.{list_same, list_there}
-use Rattle.vc_compile_laws.proofs.NamedLaws.{IsNamed, each_among, named_found}
-use Rattle.vc_compile_laws.proofs.NumberingLaws.{StandFrom, condition_count, guard_conditions, no_terms, numbered_each, requirement_conditions, stand_within}
+use Rattle.vc_compile_valid.proofs.NamedLaws.{IsNamed, each_among, named_found}
+use Rattle.vc_compile_valid.proofs.NumberingLaws.{StandFrom, condition_count, guard_conditions, no_terms, numbered_each, requirement_conditions, stand_within}
 
 -- a piece is the same as itself
 not_above : (z : ℤ) → le_z z z ≡ true

@@ -1,12 +1,8 @@
 pub mod AtSlotLaws
 pub mod BillLaws
 pub mod ClassLaws
-pub mod EachLaws
 pub mod GuardLaws
-pub mod ListLaws
 pub mod ListedLaws
-pub mod NamedLaws
-pub mod NumberingLaws
 pub mod OrderLaws
 pub mod SizeLaws
 pub mod SlotLaws

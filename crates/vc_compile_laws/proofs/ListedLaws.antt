@@ -41,7 +41,7 @@ use Rattle.vc_compile_plan.specs.Tables.{characteristic_from}
 use Rattle.vc_compile_plan.specs.Texts.{unlisted_texts}
 use Rattle.vc_compile_laws.specs.Compiles.{CompiledKeeps}
 use Rattle.vc_compile_laws.specs.Lists.{HasLists}
-use Rattle.vc_compile_laws.proofs.ListLaws.{from_each}
+use Rattle.vc_compile_valid.proofs.ListLaws.{from_each}
 use Rattle.vc_compile_laws.proofs.ThingLaws.{objects_pass}
 
 -- a number of a text of the model is one of the plan's

@@ -1,5 +1,5 @@
 -- Lines and operations of a plan are in the order of slots, and at a slot in that of its object.
-use Rattle.std.proofs.Common.{◌≡◌, ℕ, suc, ◌+◌, ◌≤◌, Bool, true, ◌&&◌, ◌||◌, nat_lt, List, [], ◌∷◌, length, map}
+use Rattle.std.proofs.Common.{◌≡◌, ℕ, suc, ◌+◌, ◌≤◌, Bool, true, ◌&&◌, ◌||◌, nat_lt, List, [], ◌∷◌, map}
 use Rattle.std.proofs.Common.{Option, Some, None, refl, sym, ap, ◌∙◌, arith}
 use Rattle.std.specs.Prelude.{◌==◌, slice_get}
 use Rattle.std.specs.List.{list_all}
@@ -15,44 +15,14 @@ use Rattle.vc_plan.specs.Orders.{are_in_order}
 use Rattle.vc_plan.specs.Valid.{is_line_before, is_operation_before}
 use Rattle.vc_plan.specs.declared.plans.Slot.{Slot}
 use Rattle.vc_compile_plan.specs.Layouts.{layout_of}
-use Rattle.vc_compile_plan.specs.Numbering.{Brings, drafts_of, item_brings, line_from, line_terms_begin, lines_begin, numbered, operation_from, operation_terms_begin, operations_begin}
+use Rattle.vc_compile_plan.specs.Numbering.{drafts_of, item_brings, line_from, line_terms_begin, lines_begin, operation_from, operation_terms_begin, operations_begin}
 use Rattle.vc_compile_plan.specs.Shown.{ItemDraft, line_at, operation_at, operations_in}
 use Rattle.vc_compile_plan.specs.Slots.{bill_in, bill_of, slots_of}
 use Rattle.vc_compile_plan.specs.Variables.{by_slot}
 use Rattle.vc_compile_laws.specs.Compiles.{CompiledKeeps}
 use Rattle.vc_compile_laws.specs.Orders.{HasOrders}
-use Rattle.vc_compile_laws.proofs.EachLaws.{Each, each_by_slot, each_mapped, each_more, each_of_all, each_passes, order_joined}
-
--- an order of what is made of a list
-order_mapped : {X Y : Type 0} (before : Y → Y → Bool) (f : X → Y) (xs : List X)
-    → are_in_order before (map f xs) ≡ are_in_order (λ a b. before (f a) (f b)) xs
-order_mapped before f [] = refl
-order_mapped before f (x ∷ xs) =
-    ap (λ b. b && are_in_order before (map f xs)) (list_all-map (before (f x)) f xs)
-    ∙ ap (λ b. list_all (λ y. before (f x) (f y)) xs && b) (order_mapped before f xs)
-
--- an order of drafts is one of what they are numbered to
-numbered_behind : {D X : Type 0} (brings : Brings D) (make : ℕ → ℕ → D → X) (test : X → Bool) (earlier : D → Bool)
-    → ((c t : ℕ) (d : D) → earlier d ≡ true → test (make c t d) ≡ true) → (c t : ℕ) (drafts : List D)
-    → list_all earlier drafts ≡ true → list_all test (numbered brings make c t drafts) ≡ true
-numbered_behind brings make test earlier of c t [] h = refl
-numbered_behind brings make test earlier of c t (d ∷ drafts) h =
-    let parts = and_parts (earlier d) (list_all earlier drafts) h in
-    let rest = numbered brings make (c + length (brings.conditions d)) (t + length (brings.terms d)) drafts in
-    and_from (test (make c t d)) (list_all test rest) (of c t d parts.0)
-    (numbered_behind brings make test earlier of (c + length (brings.conditions d)) (t + length (brings.terms d)) drafts parts.1)
-
-numbered_ordered : {D X : Type 0} (brings : Brings D) (make : ℕ → ℕ → D → X) (before : X → X → Bool) (earlier : D → D → Bool)
-    → ((c t m n : ℕ) (a b : D) → earlier a b ≡ true → before (make c t a) (make m n b) ≡ true) → (c t : ℕ) (drafts : List D)
-    → are_in_order earlier drafts ≡ true → are_in_order before (numbered brings make c t drafts) ≡ true
-numbered_ordered brings make before earlier of c t [] h = refl
-numbered_ordered brings make before earlier of c t (d ∷ drafts) h =
-    let parts = and_parts (list_all (earlier d) drafts) (are_in_order earlier drafts) h in
-    let m = c + length (brings.conditions d) in
-    let n = t + length (brings.terms d) in
-    and_from (list_all (before (make c t d)) (numbered brings make m n drafts)) (are_in_order before (numbered brings make m n drafts))
-    (numbered_behind brings make (before (make c t d)) (earlier d) (λ k l b e. of c t k l d b e) m n drafts parts.0)
-    (numbered_ordered brings make before earlier of m n drafts parts.1)
+use Rattle.vc_compile_valid.proofs.EachLaws.{Each, each_by_slot, each_mapped, each_more, each_of_all, each_passes, order_joined}
+use Rattle.vc_compile_valid.proofs.OrderedLaws.{numbered_ordered, order_mapped}
 
 -- by slot, and at one slot by number
 abbrev is_before : ItemDraft → ItemDraft → Bool

@@ -25,7 +25,7 @@ use Rattle.vc_compile_plan.specs.PlanOf.{IsPlanOf}
 use Rattle.vc_compile_plan.specs.Slots.{bill_in, bill_of, object_in, slot_of, standings_of}
 use Rattle.vc_compile_laws.specs.Compiles.{CompiledKeeps}
 use Rattle.vc_compile_laws.specs.Slots.{HasSlots}
-use Rattle.vc_compile_laws.proofs.EachLaws.{Each, each_passes}
+use Rattle.vc_compile_valid.proofs.EachLaws.{Each, each_passes}
 use Rattle.vc_compile_laws.proofs.StandingLaws.{Goes, Stand, stand_pass}
 use Rattle.vc_compile_laws.proofs.ThingLaws.{object_count}
 

@@ -5,7 +5,7 @@ use Rattle.vc_model_parts.specs.declared.parts.BillItem.{BillItem}
 use Rattle.vc_model_parts.specs.declared.parts.Model.{Model}
 use Rattle.vc_compile_plan.specs.declared.standings.Standing.{Standing}
 use Rattle.vc_compile_plan.specs.Slots.{bill_of, object_in, for_line, for_lines, standings_from}
-use Rattle.vc_compile_laws.proofs.EachLaws.{Each, each_joined}
+use Rattle.vc_compile_valid.proofs.EachLaws.{Each, each_joined}
 
 -- an object that stands so many levels above the last, with its slot's number and that of the first slot behind all below it
 pub record Stand : Type 0 where

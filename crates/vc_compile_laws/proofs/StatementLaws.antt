@@ -25,8 +25,8 @@ use Rattle.vc_compile_plan.specs.Slots.{slots_of}
 use Rattle.vc_compile_plan.specs.Variables.{members_of}
 use Rattle.vc_compile_laws.specs.Compiles.{CompiledKeeps}
 use Rattle.vc_compile_laws.specs.Statements.{HasFewStatements}
-use Rattle.vc_compile_laws.proofs.EachLaws.{Each, each_by_slot, each_flat, each_joined, each_of_all, each_passes}
-use Rattle.vc_compile_laws.proofs.NumberingLaws.{numbered_each, procedure_conditions, procedure_terms}
+use Rattle.vc_compile_valid.proofs.EachLaws.{Each, each_by_slot, each_flat, each_joined, each_of_all, each_passes}
+use Rattle.vc_compile_valid.proofs.NumberingLaws.{numbered_each, procedure_conditions, procedure_terms}
 
 abbrev IsShort : ProcedureDraft → Type 0
 IsShort draft = length draft.statements ≤ 4_001

@@ -31,7 +31,7 @@ use Rattle.vc_compile_plan.specs.PlanOf.{IsPlanOf}
 use Rattle.vc_compile_plan.specs.Tables.{characteristic_from, column_from, rows_in, table_from}
 use Rattle.vc_compile_laws.specs.Compiles.{AreRead, CompiledKeeps}
 use Rattle.vc_compile_laws.specs.Tables.{HasTables}
-use Rattle.vc_compile_laws.proofs.ListLaws.{apart_mapped}
+use Rattle.vc_compile_valid.proofs.ListLaws.{apart_mapped}
 use Rattle.vc_compile_laws.proofs.ListedLaws.{list_same, list_there, listed_there}
 use Rattle.vc_compile_laws.proofs.ThingLaws.{tables_pass}
 

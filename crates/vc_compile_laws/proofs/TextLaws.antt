@@ -31,7 +31,7 @@ use Rattle.vc_compile_plan.specs.Texts.{each_once, is_text_of, named_texts, text
 use Rattle.vc_table.specs.declared.table.VariantTable.{VariantTable}
 use Rattle.vc_compile_laws.specs.Compiles.{CompiledKeeps}
 use Rattle.vc_compile_laws.specs.Words.{HasTexts}
-use Rattle.vc_compile_laws.proofs.ListLaws.{all_flat, all_joined, all_left, apart_joined, apart_left, from_each, left_pass, none_from}
+use Rattle.vc_compile_valid.proofs.ListLaws.{all_flat, all_joined, all_left, apart_joined, apart_left, from_each, left_pass, none_from}
 
 -- of a list each once
 all_once : (p : List ℕ → Bool) (xs : List (List ℕ)) → list_all p xs ≡ true → list_all p (each_once xs) ≡ true

@@ -40,8 +40,8 @@ use Rattle.vc_compile_plan.specs.Tables.{characteristic_from, column_from}
 use Rattle.vc_compile_plan.specs.Variables.{members_of, restrictable_in, set_at, sets_at, sets_of, var_at, vars_at, vars_of}
 use Rattle.vc_compile_laws.specs.Compiles.{CompiledKeeps}
 use Rattle.vc_compile_laws.specs.Variables.{HasVariables}
-use Rattle.vc_compile_laws.proofs.EachLaws.{Each, each_by_slot, each_left, each_mapped, each_more, each_of_all, each_passes, each_tested, order_by_slot}
-use Rattle.vc_compile_laws.proofs.ListLaws.{none_from}
+use Rattle.vc_compile_valid.proofs.EachLaws.{Each, each_by_slot, each_left, each_mapped, each_more, each_of_all, each_passes, each_tested, order_by_slot}
+use Rattle.vc_compile_valid.proofs.ListLaws.{none_from}
 use Rattle.vc_compile_laws.proofs.ListedLaws.{list_same}
 use Rattle.vc_compile_laws.proofs.ThingLaws.{members_pass, tables_pass}
 

@@ -23,7 +23,7 @@ use Rattle.vc_compile_plan.specs.Tables as made
 use Rattle.vc_compile_laws.specs.Compiles.{CompiledKeeps}
 use Rattle.vc_compile_laws.specs.Sizes.{HasCounts}
 use Rattle.vc_compile_laws.specs.Words.{HasWords}
-use Rattle.vc_compile_laws.proofs.ListLaws.{apart_mapped}
+use Rattle.vc_compile_valid.proofs.ListLaws.{apart_mapped}
 use Rattle.vc_compile_laws.proofs.ThingLaws.{objects_pass, object_materials, object_count, table_names, table_count, tables_pass}
 
 -- an order of names or materials is that of what has them

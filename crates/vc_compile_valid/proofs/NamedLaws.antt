@@ -9,6 +9,8 @@ use Rattle.std.proofs.lemmas.Option.{slice_get_within}
 use Rattle.vc_model_parts.specs.declared.parts.Model.{Model}
 use Rattle.vc_plan.specs.BillRanges.{named_there}
 use Rattle.vc_plan.specs.Classes.{characteristic_at, characteristic_of_set, characteristic_of_var}
+use Rattle.vc_plan.specs.Seen.{slot_in}
+use Rattle.vc_plan.specs.Showing.{slot_of_named, slot_of_set}
 use Rattle.vc_plan.specs.declared.plans.Named.{Named}
 use Rattle.vc_plan.specs.declared.plans.Named.TheVariants as named
 use Rattle.vc_plan.specs.declared.plans.Plan.{Plan}
@@ -22,7 +24,7 @@ use Rattle.vc_compile_plan.specs.PlanOf.{IsPlanOf}
 use Rattle.vc_compile_plan.specs.Sites.{named_at}
 use Rattle.vc_compile_plan.specs.Slots.{slots_of}
 use Rattle.vc_compile_plan.specs.Variables.{by_slot, members_of, set_at, set_number, sets_at, sets_of, var_at, var_number, vars_at, vars_of}
-use Rattle.vc_compile_laws.proofs.EachLaws.{Each, each_more}
+use Rattle.vc_compile_valid.proofs.EachLaws.{Each, each_more}
 
 -- the first that passes, where one does
 one_found : {X : Type 0} (p : X → Bool) (xs : List X) → list_any p xs ≡ true
@@ -91,51 +93,77 @@ pub record IsNamed (plan : Plan) (c : ℕ) (n : Named) : Type 0 where
   pub is_there : named_there plan n ≡ true
   pub characteristic : characteristic_at plan n ≡ Some c
 
-pub named_found : (model : Model) (tables : List VariantTable) (plan : Plan) → IsPlanOf model tables plan → (k : ℕ) (slot : Slot)
+-- and of a slot
+pub record IsNamedAt (plan : Plan) (i c : ℕ) (n : Named) : Type 0 where
+  pub named : IsNamed plan c n
+  pub slot : slot_of_named plan n ≡ Some i
+
+-- the variable, and the set, of a characteristic of a slot's class
+pub var_found : (model : Model) (k : ℕ) (slot : Slot) → slice_get (slots_of model) k ≡ Some slot → (c : ℕ)
+    → list_any (λ d. c == d) (members_of model slot.object) ≡ true → is_multiple model c ≡ false
+    → (x : Var) × (slice_get (vars_of model (slots_of model)) (var_number (vars_of model (slots_of model)) (0 + k) c) ≡ Some x)
+    × (x.slot ≡ 0 + k) × (x.characteristic ≡ c)
+var_found model k slot at c member single =
+    let test : Var → Bool = λ x. (x.slot == (0 + k)) && (x.characteristic == c) in
+    let found = first_found test (vars_of model (slots_of model))
+    (any_by_slot test (vars_at model) 0 (slots_of model) k slot at
+    (any_made test (var_at model (0 + k)) (λ d. not (is_multiple model d)) c
+    (and_from (0 + k == 0 + k) (c == c) (eq-eqb (0 + k) (0 + k) refl) (eq-eqb c c refl)) (not_from_false (is_multiple model c) single)
+    (members_of model slot.object) member)) in
+    let parts = and_parts (found.0.slot == (0 + k)) (found.0.characteristic == c) found.2 in
+    (found.0, found.1, eqb-true found.0.slot (0 + k) parts.0, eqb-true found.0.characteristic c parts.1)
+
+pub set_found : (model : Model) (k : ℕ) (slot : Slot) → slice_get (slots_of model) k ≡ Some slot → (c : ℕ)
+    → list_any (λ d. c == d) (members_of model slot.object) ≡ true → is_multiple model c ≡ true
+    → (x : TextSet) × (slice_get (sets_of model (slots_of model)) (set_number (sets_of model (slots_of model)) (0 + k) c) ≡ Some x)
+    × (x.slot ≡ 0 + k) × (x.characteristic ≡ c)
+set_found model k slot at c member multiple =
+    let test : TextSet → Bool = λ x. (x.slot == (0 + k)) && (x.characteristic == c) in
+    let found = first_found test (sets_of model (slots_of model))
+    (any_by_slot test (sets_at model) 0 (slots_of model) k slot at
+    (any_made test (set_at (0 + k)) (is_multiple model) c
+    (and_from (0 + k == 0 + k) (c == c) (eq-eqb (0 + k) (0 + k) refl) (eq-eqb c c refl)) multiple (members_of model slot.object) member)) in
+    let parts = and_parts (found.0.slot == (0 + k)) (found.0.characteristic == c) found.2 in
+    (found.0, found.1, eqb-true found.0.slot (0 + k) parts.0, eqb-true found.0.characteristic c parts.1)
+
+pub named_at_slot : (model : Model) (tables : List VariantTable) (plan : Plan) → IsPlanOf model tables plan → (k : ℕ) (slot : Slot)
     → slice_get (slots_of model) k ≡ Some slot → (c : ℕ) → list_any (λ d. c == d) (members_of model slot.object) ≡ true
-    → IsNamed plan c (named_at (layout_of model) (0 + k) c)
-named_found model tables plan is k slot at c member = by (is_multiple model c) refl
+    → IsNamedAt plan (0 + k) c (named_at (layout_of model) (0 + k) c)
+named_at_slot model tables plan is k slot at c member = by (is_multiple model c) refl
   where
-    vars : List Var
-    vars = vars_of model (slots_of model)
-
-    sets : List TextSet
-    sets = sets_of model (slots_of model)
-
-    own : ((0 + k == 0 + k) && (c == c)) ≡ true
-    own = and_from (0 + k == 0 + k) (c == c) (eq-eqb (0 + k) (0 + k) refl) (eq-eqb c c refl)
-
-    var_is : is_multiple model c ≡ false → IsNamed plan c (named.Var (var_number (vars_of model (slots_of model)) (0 + k) c))
+    var_is : is_multiple model c ≡ false → IsNamedAt plan (0 + k) c (named.Var (var_number (vars_of model (slots_of model)) (0 + k) c))
     var_is single =
-        let test : Var → Bool = λ x. (x.slot == (0 + k)) && (x.characteristic == c) in
-        let found = first_found test (vars_of model (slots_of model))
-        (any_by_slot test (vars_at model) 0 (slots_of model) k slot at
-        (any_made test (var_at model (0 + k)) (λ d. not (is_multiple model d)) c own (not_from_false (is_multiple model c) single)
-        (members_of model slot.object) member)) in
+        let found = var_found model k slot at c member single in
         let n = var_number (vars_of model (slots_of model)) (0 + k) c in
         let here : slice_get plan.vars n ≡ Some found.0 = ap (λ xs. slice_get xs n) is.vars ∙ found.1 in
         record {
-          is_there = lt-ltb n (length plan.vars) (slice_get_within plan.vars n found.0 here);
-          characteristic = ap characteristic_of_var here
-              ∙ ap Some (eqb-true found.0.characteristic c (and_parts (found.0.slot == (0 + k)) (found.0.characteristic == c) found.2).1);
+          named = record {
+            is_there = lt-ltb n (length plan.vars) (slice_get_within plan.vars n found.0 here);
+            characteristic = ap characteristic_of_var here ∙ ap Some found.3;
+          };
+          slot = ap slot_in here ∙ ap Some found.2;
         }
 
-    set_is : is_multiple model c ≡ true → IsNamed plan c (named.Set (set_number (sets_of model (slots_of model)) (0 + k) c))
+    set_is : is_multiple model c ≡ true → IsNamedAt plan (0 + k) c (named.Set (set_number (sets_of model (slots_of model)) (0 + k) c))
     set_is multiple =
-        let test : TextSet → Bool = λ x. (x.slot == (0 + k)) && (x.characteristic == c) in
-        let found = first_found test (sets_of model (slots_of model))
-        (any_by_slot test (sets_at model) 0 (slots_of model) k slot at
-        (any_made test (set_at (0 + k)) (is_multiple model) c own multiple (members_of model slot.object) member)) in
+        let found = set_found model k slot at c member multiple in
         let n = set_number (sets_of model (slots_of model)) (0 + k) c in
         let here : slice_get plan.sets n ≡ Some found.0 = ap (λ xs. slice_get xs n) is.sets ∙ found.1 in
         record {
-          is_there = lt-ltb n (length plan.sets) (slice_get_within plan.sets n found.0 here);
-          characteristic = ap characteristic_of_set here
-              ∙ ap Some (eqb-true found.0.characteristic c (and_parts (found.0.slot == (0 + k)) (found.0.characteristic == c) found.2).1);
+          named = record {
+            is_there = lt-ltb n (length plan.sets) (slice_get_within plan.sets n found.0 here);
+            characteristic = ap characteristic_of_set here ∙ ap Some found.3;
+          };
+          slot = ap slot_of_set here ∙ ap Some found.2;
         }
 
     by : (b : Bool) → is_multiple model c ≡ b
-        → IsNamed plan c (if b then named.Set (set_number (sets_of model (slots_of model)) (0 + k) c)
+        → IsNamedAt plan (0 + k) c (if b then named.Set (set_number (sets_of model (slots_of model)) (0 + k) c)
         else named.Var (var_number (vars_of model (slots_of model)) (0 + k) c))
     by true e = set_is e
     by false e = var_is e
+
+pub named_found : (model : Model) (tables : List VariantTable) (plan : Plan) → IsPlanOf model tables plan → (k : ℕ) (slot : Slot)
+    → slice_get (slots_of model) k ≡ Some slot → (c : ℕ) → list_any (λ d. c == d) (members_of model slot.object) ≡ true
+    → IsNamed plan c (named_at (layout_of model) (0 + k) c)
+named_found model tables plan is k slot at c member = (named_at_slot model tables plan is k slot at c member).named

@@ -7,7 +7,7 @@ use Rattle.vc_compile_plan.specs.Layouts.{Layout}
 use Rattle.vc_compile_plan.specs.Numbering.{Brings, Drafts, numbered, conditions_of, terms_of, rule_brings, guard_brings, requirement_brings, item_brings, procedure_brings, brought_conditions, brought_terms, guards_begin, requirements_begin, lines_begin, operations_begin, line_terms_begin, operation_terms_begin, procedures_begin, procedure_terms_begin}
 use Rattle.vc_compile_plan.specs.PlanOf.{IsPlanOver}
 use Rattle.vc_compile_plan.specs.Trees.{Condition, Term, Always, condition_of, term_of}
-use Rattle.vc_compile_laws.proofs.EachLaws.{Each}
+use Rattle.vc_compile_valid.proofs.EachLaws.{Each}
 
 -- these stand in the list from this number on
 pub record StandFrom {X : Type 0} (all : List X) (n : ℕ) (xs : List X) : Type 0 where

@@ -1,12 +1,19 @@
 -- Laws of lists under tests, and of lists without doubles.
-use Rattle.std.proofs.Common.{◌≡◌, ℕ, zero, suc, Bool, true, false, cond, not, ◌&&◌, ◌||◌, List, [], ◌∷◌, ◌++◌, map, flat_map}
-use Rattle.std.proofs.Common.{Some, refl, ap, ◌∙◌}
-use Rattle.std.specs.Prelude.{slice_get}
+use Rattle.std.proofs.Common.{◌≡◌, ℕ, zero, suc, Bool, true, false, cond, not, ◌&&◌, ◌||◌, ◌<◌, ◌≤◌, List, [], ◌∷◌, ◌++◌, length, map, flat_map}
+use Rattle.std.proofs.Common.{Option, None, Some, refl, sym, ap, ◌∙◌, arith}
+use Rattle.std.specs.Prelude.{option_map, slice_get}
 use Rattle.std.specs.List.{filter, list_all, list_any}
-use Rattle.std.proofs.lemmas.Bool.{and_parts, and_from, or_parts, or_from, not-true, not_from_false}
+use Rattle.std.proofs.lemmas.Bool.{and_parts, and_from, or_left, or_parts, or_from, or_right, not-true, not_from_false}
 use Rattle.std.proofs.lemmas.List.Folds.{list_all-append, list_any-append}
+use Rattle.std.proofs.lemmas.Option.{slice_get-map}
 use Rattle.vc_plan.specs.Orders.{are_apart}
-use Rattle.vc_model_laws.proofs.TextsLaws.{weaker}
+
+-- a test that follows from another
+pub weaker : {X : Type 0} (p q : X → Bool) (xs : List X) → ((x : X) → p x ≡ true → q x ≡ true) → list_all p xs ≡ true
+    → list_all q xs ≡ true
+weaker p q [] of h = refl
+weaker p q (x ∷ xs) of h =
+    let parts = and_parts (p x) (list_all p xs) h in and_from (q x) (list_all q xs) (of x parts.0) (weaker p q xs of parts.1)
 
 -- each passes where each one does
 pub from_each : {X : Type 0} (p : X → Bool) (xs : List X) → ((k : ℕ) (x : X) → slice_get xs k ≡ Some x → p x ≡ true)
@@ -105,3 +112,53 @@ apart_joined same (x ∷ xs) ys a b h =
     and_from (not (list_any (same x) (xs ++ ys))) (are_apart same (xs ++ ys)) (not_from_false (list_any (same x) (xs ++ ys)) none)
     (apart_joined same xs ys parts.1 b
     (weaker (λ y. not (same x y || list_any (λ x. same x y) xs)) (λ y. not (list_any (λ x. same x y) xs)) ys (λ y e. (of y e).1) h))
+
+-- what is made of a list has something at a number of which the list has it
+pub made_from : {X Y : Type 0} (f : X → Y) (xs : List X) (ys : List Y) → map f xs ≡ ys → (n : ℕ) (y : Y) → slice_get ys n ≡ Some y
+    → (x : X) × (slice_get xs n ≡ Some x) × (f x ≡ y)
+made_from {X = X} {Y = Y} f xs ys e n y at = by (slice_get xs n) refl
+  where
+    whole : slice_get (map f xs) n ≡ Some y
+    whole = ap (λ l. slice_get l n) e ∙ at
+
+    by : (o : Option X) → slice_get xs n ≡ o → (x : X) × (slice_get xs n ≡ Some x) × (f x ≡ y)
+    by None h = absurd (let gone : None ≡ Some y = sym (ap (option_map f) h) ∙ sym (slice_get-map f xs n) ∙ whole in cc)
+    by (Some x) h =
+        let same : Some (f x) ≡ Some y = sym (ap (option_map f) h) ∙ sym (slice_get-map f xs n) ∙ whole in (x, h, cc)
+
+-- what isn't there is past the end
+pub none_past : {X : Type 0} (xs : List X) (k : ℕ) → slice_get xs k ≡ None → length xs ≤ k
+none_past [] k e = omega arith
+none_past (x ∷ xs) zero e = absurd (cc)
+none_past (x ∷ xs) (suc k) e = let more = none_past xs k e in omega (arith, more)
+
+-- what is below the end is there
+pub there : {X : Type 0} (xs : List X) (k : ℕ) → k < length xs → (x : X) × (slice_get xs k ≡ Some x)
+there [] k h = absurd (omega (arith, h))
+there (x ∷ xs) zero h = (x, refl)
+there (x ∷ xs) (suc k) h = there xs k (omega (arith, h))
+
+-- one that is there passes what all pass
+pub passes_there : {X : Type 0} (p : X → Bool) (xs : List X) (k : ℕ) (x : X) → list_all p xs ≡ true → slice_get xs k ≡ Some x → p x ≡ true
+passes_there p [] k x h e = absurd (cc)
+passes_there p (y ∷ xs) zero x h e =
+    let same : y ≡ x = cc in ap p (sym same) ∙ (and_parts (p y) (list_all p xs) h).0
+passes_there p (y ∷ xs) (suc k) x h e = passes_there p xs k x (and_parts (p y) (list_all p xs) h).1 e
+
+-- one that is there and passes, and the other way
+pub any_there : {X : Type 0} (test : X → Bool) (xs : List X) (k : ℕ) (x : X) → slice_get xs k ≡ Some x → test x ≡ true
+    → list_any test xs ≡ true
+any_there test [] k x e h = absurd (cc)
+any_there test (y ∷ xs) zero x e h = let same : y ≡ x = cc in or_left (test y) (list_any test xs) (ap test same ∙ h)
+any_there test (y ∷ xs) (suc k) x e h = or_right (test y) (list_any test xs) (any_there test xs k x e h)
+
+pub some_there : {X : Type 0} (test : X → Bool) (xs : List X) → list_any test xs ≡ true
+    → (n : ℕ) × (x : X) × (slice_get xs n ≡ Some x) × (test x ≡ true)
+some_there test [] h = absurd (cc)
+some_there {X = X} test (y ∷ xs) h = by (test y) refl h (λ k. some_there test xs k)
+  where
+    by : (b : Bool) → test y ≡ b → (b || list_any test xs) ≡ true
+        → (list_any test xs ≡ true → (n : ℕ) × (x : X) × (slice_get xs n ≡ Some x) × (test x ≡ true))
+        → (n : ℕ) × (x : X) × (slice_get (y ∷ xs) n ≡ Some x) × (test x ≡ true)
+    by true t k later = (0, y, refl, t)
+    by false t k later = let found = later k in (suc found.0, found.1, found.2, found.3)
