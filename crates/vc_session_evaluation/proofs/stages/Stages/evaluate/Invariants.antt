@@ -1,0 +1,11 @@
+-- The stages before this one have settled.
+use Rattle.std.proofs.Common.{◌≡◌, None}
+use Rattle.vc_plan_users.specs.Choosing.{users_of}
+use Rattle.vc_session_evaluation.proofs.GoingLaws.{IsAt}
+use Rattle.vc_session_evaluation.proofs.stages.Stages.evaluate.Given as goal
+
+abbrev pub invariant-loop-stage : goal.invariant-loop-stage
+invariant-loop-stage g l = record {
+  at : IsAt l.plan (users_of l.users) l.self l.stage;
+  calm : l.self.broken ≡ None;
+}

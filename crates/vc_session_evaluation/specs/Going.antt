@@ -1,0 +1,60 @@
+-- What each stage does to what an evaluation works on.
+use Rattle.std.specs.Prelude.{◌≡◌, ℕ, suc, ◌+◌, Bool, not, ◌==◌, List, length, map, slice_get, slice_set, Some, if◌then◌else◌}
+use Rattle.vc_plan.specs.declared.plans.Plan.{Plan}
+use Rattle.vc_plan.specs.Domains.{numbers_below}
+use Rattle.vc_plan.specs.Evaluate.{Users, holds, sources_of}
+use Rattle.vc_plan.specs.Writes.{last_stage}
+use Rattle.vc_net.specs.Nets.{Netted}
+use Rattle.vc_proc.specs.Overlays.{EntriesLie}
+use Rattle.vc_proc.specs.Stages.{stage_written}
+use Rattle.vc_rule_terms.specs.Computing.{LiesInGrains}
+use Rattle.vc_session_stages.specs.Stages.{is_late_seen, was_seen}
+use Rattle.vc_session_evaluation.specs.Evaluating.{AreStagesOf, HasSettled, said_by}
+use Rattle.vc_session_evaluation.specs.declared.stages.Stages.{Stages}
+
+-- the net of a stage has settled, or not, with the user's values and what was written; all else is as before
+pub record SettlesAt (plan : Plan) (users : Users) (stage : ℕ) (old new : Stages) (whole : Bool) : Type 0 where
+  pub of : AreStagesOf plan new
+  pub net : Netted
+  pub nets : new.nets.items ≡ slice_set old.nets.items stage net
+  pub settled : HasSettled plan (sources_of users old.overlay) net whole
+  pub overlay : new.overlay ≡ old.overlay
+  pub late : new.late ≡ old.late
+  pub broken : new.broken ≡ old.broken
+
+-- what the net of a stage says lies in grains
+abbrev pub LiesAt : Plan → List Netted → ℕ → Type 0
+LiesAt plan nets stage = (net : Netted) → slice_get nets stage ≡ Some net → LiesInGrains plan (said_by net)
+
+-- before the last stage those are flagged who weren't here when their own procedures ran
+abbrev pub flags_before : Plan → ℕ → Stages → List Bool
+flags_before plan stage old =
+    if suc stage == last_stage plan
+    then map (λ i. not (was_seen plan (map said_by old.nets.items) i)) (numbers_below (length plan.slots)) else old.late
+
+abbrev pub with_late : Stages → List Bool → Stages
+with_late old flags = record {
+  nets = old.nets;
+  overlay = old.overlay;
+  sources = old.sources;
+  late = flags;
+  broken = old.broken;
+}
+
+-- what procedures write by what the net of a stage says is written; all else is as before
+pub record WritesAfter (plan : Plan) (users : Users) (stage : ℕ) (old new : Stages) : Type 0 where
+  pub of : AreStagesOf plan new
+  pub nets : new.nets.items ≡ old.nets.items
+  pub late : new.late ≡ flags_before plan stage old
+  pub written : (net : Netted) → slice_get old.nets.items stage ≡ Some net
+      → new.overlay ≡ stage_written plan (holds users) (suc stage) new.late (said_by net) old.overlay
+  pub lie : EntriesLie plan new.overlay
+  pub broken : new.broken ≡ old.broken
+
+-- who is late is flagged; all else is as before
+pub record FlagsLateOnes (plan : Plan) (old new : Stages) : Type 0 where
+  pub of : AreStagesOf plan new
+  pub nets : new.nets.items ≡ old.nets.items
+  pub late : new.late ≡ map (is_late_seen plan (map said_by old.nets.items)) (numbers_below (length plan.slots))
+  pub overlay : new.overlay ≡ old.overlay
+  pub broken : new.broken ≡ old.broken

@@ -1,0 +1,9 @@
+//! The evaluation of a user's values through all stages of a plan: nets settle, and between them procedures write.
+#![tactic(auto)]
+
+pub mod filling;
+pub mod lateness;
+pub mod settling;
+pub mod stages;
+
+pub use stages::Stages;

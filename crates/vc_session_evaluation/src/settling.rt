@@ -1,0 +1,34 @@
+//! A stage: its net settles with the user's values and what is written so far.
+
+ghost use Rattle.std.specs.Prelude.{◌≡◌, true};
+ghost use Rattle.vc_plan.specs.Valid.{IsValid};
+ghost use Rattle.vc_plan_reasons.specs.Fitting.{sources_fit};
+ghost use Rattle.vc_net.specs.Nets.{AreFor, IsNetOf};
+ghost use Rattle.vc_session_evaluation.specs.Evaluating.{HasSettled};
+
+use std::sync::ledger::Ledger;
+use vc_net::Net;
+use vc_plan::{Outcome, Plan};
+use vc_plan_sources::Sources;
+use vc_value_steps::Steps;
+
+/// Settles the net with the sources, and says whether nothing contradicts. It takes no memory.
+pub fn settle<L: Ledger>(
+    plan: &Plan,
+    sources: &Sources,
+    net: &mut Net,
+    steps: &mut Steps<L>,
+) -> bool
+    requires valid { IsValid plan.now }
+    requires of { IsNetOf plan.now net.old }
+    requires lengths { AreFor plan.now sources.now }
+    requires fits { sources_fit plan.now sources.now ≡ true }
+    ensures of { IsNetOf plan.now net.new }
+    ensures settled { HasSettled plan.now sources.now net.new result }
+{
+    net.sync(plan, sources, steps);
+    match net.outcome() {
+        Outcome::Settled => true,
+        Outcome::Broken(_) => false,
+    }
+}

@@ -1,0 +1,180 @@
+//! What an evaluation works on, and how it goes from stage to stage.
+
+ghost use Rattle.std.specs.Prelude.{◌≡◌, suc, false, length, replicate, IfOk};
+ghost use Rattle.std.specs.List.{AllByRecursion};
+ghost use Rattle.vc_plan.specs.Valid.{IsValid};
+ghost use Rattle.vc_plan.specs.Writes.{last_stage};
+ghost use Rattle.vc_net.specs.Nets.{IsNetOf};
+
+use crate::filling::fill;
+use crate::lateness::{flag_late, flag_missing};
+use crate::settling::settle;
+use std::alloc::{AllocError, Global};
+use std::sync::ledger::Ledger;
+use vc_net::Net;
+use vc_plan::{Plan, stages};
+use vc_plan_sources::Sources;
+use vc_plan_users::UserValues;
+use vc_proc::{Overlay, run_stage};
+use vc_value::Listed;
+use vc_value_steps::Steps;
+
+/// For each stage of a plan a net; what procedures wrote; which instances are late; and the first stage that is broken,
+/// if one is. All memory is taken at `new`.
+#[derive(Drop)]
+pub struct Stages {
+    pub nets: Vec<Net>,
+    pub overlay: Overlay,
+    pub sources: Sources,
+    pub late: Listed<bool>,
+    pub broken: Option<u32>,
+}
+
+impl Stages {
+    ghost use Rattle.std.specs.Prelude.{◌≡◌, ◌+◌, ◌<◌, true, None, length, IfOk};
+    ghost use Rattle.vc_plan.specs.Evaluate.{holds, sources_of};
+    ghost use Rattle.vc_plan.specs.Fitting.{users_fit};
+    ghost use Rattle.vc_plan.specs.Valid.{IsValid};
+    ghost use Rattle.vc_plan.specs.Writes.{last_stage};
+    ghost use Rattle.vc_plan_reasons.specs.Fitting.{sources_fit};
+    ghost use Rattle.vc_plan_users.specs.Choosing.{users_of};
+    ghost use Rattle.vc_proc.specs.Overlays.{EntriesLie};
+    ghost use Rattle.vc_session_evaluation.specs.Evaluating.{AreStagesOf, IsEvaluated};
+    ghost use Rattle.vc_session_evaluation.specs.Going.{FlagsLateOnes, LiesAt, SettlesAt, WritesAfter, flags_before, with_late};
+
+    /// Nets that haven't settled, and nothing written.
+    pub fn new(alloc: Global, plan: &Plan) -> Result<Stages, AllocError>
+        requires valid { IsValid plan.now }
+        ensures { IfOk result (λ stages. AreStagesOf plan.now stages) }
+    {
+        let nets = new_nets(alloc, plan)?;
+        let overlay = Overlay::new(alloc, plan)?;
+        let sources = Sources::new(alloc, plan)?;
+        let late = no_flags(alloc, plan)?;
+        Ok(Stages {
+            nets,
+            overlay,
+            sources,
+            late,
+            broken: None,
+        })
+    }
+
+    /// Evaluates the user's values from nothing, stage by stage, up to the first that is broken. It takes no memory.
+    pub fn evaluate<L: Ledger>(&mut self, plan: &Plan, users: &UserValues, steps: &mut Steps<L>)
+        requires valid { IsValid plan.now }
+        requires of { AreStagesOf plan.now self.old }
+        requires users { length users.now.values ≡ length plan.now.vars }
+        requires fit { users_fit plan.now (users_of users.now) ≡ true }
+        ensures of { AreStagesOf plan.now self.new }
+        ensures evaluated { IsEvaluated plan.now (users_of users.now) self.new }
+    {
+        self.overlay.clear();
+        self.broken = None;
+        let last = stages(plan) - 1;
+        for stage in 0..last {
+            if !self.settle(plan, users, stage, steps) {
+                self.broken = Some(stage);
+                return;
+            }
+            self.write(plan, users, stage, last);
+        }
+        if self.settle(plan, users, last, steps) {
+            self.mark_late(plan, last);
+        } else {
+            self.broken = Some(last);
+        }
+    }
+
+    // Settles the net of a stage, and says whether nothing contradicts.
+    fn settle<L: Ledger>(
+        &mut self,
+        plan: &Plan,
+        users: &UserValues,
+        stage: u32,
+        steps: &mut Steps<L>,
+    ) -> bool
+        requires valid { IsValid plan.now }
+        requires of { AreStagesOf plan.now self.old }
+        requires users { length users.now.values ≡ length plan.now.vars }
+        requires fits { sources_fit plan.now (sources_of (users_of users.now) self.old.overlay) ≡ true }
+        requires there { stage < length self.old.nets.items }
+        ensures { SettlesAt plan.now (users_of users.now) stage self.old self.new result }
+    {
+        fill(plan, users, &self.overlay, &mut self.sources);
+        settle(plan, &self.sources, &mut self.nets[stage as usize], steps)
+    }
+
+    // Lets procedures write between a stage and the next.
+    fn write(&mut self, plan: &Plan, users: &UserValues, stage: u32, last: u32)
+        requires valid { IsValid plan.now }
+        requires of { AreStagesOf plan.now self.old }
+        requires last { last ≡ last_stage plan.now }
+        requires there { stage < last }
+        requires lies { LiesAt plan.now self.old.nets.items stage }
+        requires entries { EntriesLie plan.now self.old.overlay }
+        ensures { WritesAfter plan.now (users_of users.now) stage self.old self.new }
+    {
+        self.flag_before(plan, stage, last);
+        run_stage(
+            plan,
+            stage + 1,
+            &self.nets[stage as usize],
+            self.late.as_slice(),
+            users,
+            &mut self.overlay,
+        );
+    }
+
+    // Flags before the last stage those who weren't here when their own procedures ran.
+    fn flag_before(&mut self, plan: &Plan, stage: u32, last: u32)
+        requires valid { IsValid plan.now }
+        requires late { length self.old.late ≡ length plan.now.slots }
+        requires last { last ≡ last_stage plan.now }
+        requires there { stage < last }
+        ensures { self.new ≡ with_late self.old (flags_before plan.now stage self.old) }
+    {
+        if stage + 1 == last {
+            flag_missing(plan, self.nets.as_slice(), &mut self.late);
+        }
+    }
+
+    // Flags the instances that are late.
+    fn mark_late(&mut self, plan: &Plan, last: u32)
+        requires valid { IsValid plan.now }
+        requires of { AreStagesOf plan.now self.old }
+        requires last { last ≡ last_stage plan.now }
+        ensures { FlagsLateOnes plan.now self.old self.new }
+    {
+        flag_late(
+            plan,
+            self.nets.as_slice(),
+            &self.nets[last as usize],
+            &mut self.late,
+        );
+    }
+}
+
+// A net for each stage.
+fn new_nets(alloc: Global, plan: &Plan) -> Result<Vec<Net>, AllocError>
+    requires valid { IsValid plan.now }
+    ensures nets { IfOk result (λ nets. AllByRecursion (IsNetOf plan.now) nets.items) }
+    ensures many { IfOk result (λ nets. length nets.items ≡ suc (last_stage plan.now)) }
+{
+    let mut nets = Vec::new(alloc);
+    for stage in 0..stages(plan) {
+        nets.push(Net::new(alloc, plan)?)?;
+    }
+    Ok(nets)
+}
+
+// No slot flagged.
+fn no_flags(alloc: Global, plan: &Plan) -> Result<Listed<bool>, AllocError>
+    ensures { IfOk result (λ flags. flags ≡ replicate (length plan.now.slots) false) }
+{
+    let mut flags = Listed::new(alloc);
+    for slot in 0..plan.slots.len() {
+        flags.push(false)?;
+    }
+    Ok(flags)
+}
