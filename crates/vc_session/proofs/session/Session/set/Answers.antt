@@ -1,0 +1,25 @@
+-- What the user chose stays of the plan, and is evaluated.
+use Rattle.std.proofs.Common.{◌∙◌, subst, sym}
+use Rattle.vc_session.specs.Sessions.{AreUsersOf, IsSessionOf}
+use Rattle.vc_session.proofs.UserLaws.{given_alone_of, may_give}
+use Rattle.vc_session.proofs.session.Session.set.Goals as goal
+
+pub evaluate-requires-clause-fit : goal.evaluate-requires-clause-fit
+evaluate-requires-clause-fit g c =
+    let plan = c.args.plan.now in
+    let of : IsSessionOf plan (record { users = c.self.inside.users; stages = c.self.inside.stages }) =
+    subst (IsSessionOf plan) (sym c.self.view_is) c.requires.of in
+    let users : AreUsersOf plan c.give_alone.new.users =
+    subst (AreUsersOf plan) (sym c.give_alone.ensures) (given_alone_of plan c.self.inside.users c.args.named c.args.value of.users
+    (may_give plan c.args.self.now c.args.named c.args.value (sym c.fault.ensures ∙ c.in-None.is))) in
+    users.fit
+
+pub returns-in-None-clause-of : goal.returns-in-None-clause-of
+returns-in-None-clause-of g c =
+    let plan = c.args.plan.now in
+    let of : IsSessionOf plan (record { users = c.self.inside.users; stages = c.self.inside.stages }) =
+    subst (IsSessionOf plan) (sym c.self.view_is) c.requires.of in
+    let users : AreUsersOf plan c.give_alone.new.users =
+    subst (AreUsersOf plan) (sym c.give_alone.ensures) (given_alone_of plan c.self.inside.users c.args.named c.args.value of.users
+    (may_give plan c.args.self.now c.args.named c.args.value (sym c.fault.ensures ∙ c.in-None.is))) in
+    record { users = users; stages = c.evaluate.ensures.of; evaluated = c.evaluate.ensures.evaluated }

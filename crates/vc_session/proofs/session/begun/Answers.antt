@@ -1,0 +1,15 @@
+-- Nothing chosen is of the plan, and is evaluated.
+use Rattle.std.proofs.Common.{subst, sym}
+use Rattle.vc_session.specs.Sessions.{AreUsersOf}
+use Rattle.vc_session.proofs.UserLaws.{none_of}
+use Rattle.vc_session.proofs.session.begun.Goals as goal
+
+pub evaluate-requires-clause-fit : goal.evaluate-requires-clause-fit
+evaluate-requires-clause-fit g c =
+    let users : AreUsersOf c.args.plan.now c.in_ok-users.users = subst (AreUsersOf c.args.plan.now) (sym c.in_ok-users.ensures) (none_of c.args.plan.now) in
+    users.fit
+
+pub returns-clause-of : goal.returns-clause-of
+returns-clause-of g c =
+    let users : AreUsersOf c.args.plan.now c.in_ok-users.users = subst (AreUsersOf c.args.plan.now) (sym c.in_ok-users.ensures) (none_of c.args.plan.now) in
+    record { users = users; stages = c.evaluate.ensures.of; evaluated = c.evaluate.ensures.evaluated }

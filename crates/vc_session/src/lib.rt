@@ -1,0 +1,8 @@
+//! A session: what a user chose of a plan, evaluated through all stages after each edit.
+#![tactic(auto)]
+
+pub mod choosing;
+pub mod listing;
+pub mod session;
+
+pub use session::{NotSet, Session, SetFault};

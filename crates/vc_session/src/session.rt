@@ -1,0 +1,304 @@
+//! A session of a plan.
+
+ghost use Rattle.std.specs.Prelude.{◌≡◌, ◌<◌, IfOk};
+ghost use Rattle.vc_plan.specs.Valid.{IsValid};
+ghost use Rattle.vc_plan_users.specs.Choosing.{none_chosen};
+ghost use Rattle.vc_session.specs.Sessions.{IsSessionOf};
+
+use crate::choosing::{give, give_alone, has_choice, has_chosen, take, take_value};
+use crate::listing::may_be_given;
+use std::alloc::{AllocError, Global};
+use std::marker::{Brand, Model};
+use std::sync::ledger::{Blank, Ledger};
+use vc_net::Net;
+use vc_plan::{Named, Outcome, Plan, Reading, View};
+use vc_plan_users::UserValues;
+use vc_proc::Overlay;
+use vc_session_evaluation::Stages;
+use vc_show::naming::slot_of_named;
+use vc_value::Value;
+use vc_value_steps::Steps;
+
+/// Why a value can't be given.
+#[derive(Clone, Copy, Debug, PartialEq, Eq)]
+pub enum SetFault {
+    /// It is none of the values that may be given there.
+    NotInList,
+    /// The instance isn't there.
+    NotHere,
+}
+
+/// That the user has no such value.
+#[derive(Clone, Copy, Debug, PartialEq, Eq)]
+pub struct NotSet;
+
+/// What a user chose of a plan, evaluated through all stages after each edit. All memory is taken at `start`.
+#[derive(Drop)]
+pub struct Session {
+    users: UserValues,
+    stages: Stages,
+}
+
+impl Model for Session {
+    ghost use Rattle.vc_session.specs.Sessions.{Opened};
+
+    ghost Value = { Opened };
+
+    ghost view = { λ s. record { users = s.users; stages = s.stages } };
+}
+
+impl Session {
+    ghost use Rattle.std.specs.Prelude.{◌≡◌, ◌<◌, false, length, slice_index_or, IfOk, None};
+    ghost use Rattle.vc_plan.specs.Valid.{IsValid};
+    ghost use Rattle.vc_plan_users.specs.Choosing.{none_chosen};
+    ghost use Rattle.vc_session.specs.Edits as edits;
+    ghost use Rattle.vc_session.specs.Sessions.{Gives, IsSessionOf, Takes, outcome_of};
+
+    /// Nothing chosen, evaluated.
+    pub fn start(alloc: Global, plan: &Plan) -> Result<Session, AllocError>
+        requires { IsValid plan.now }
+        ensures of { IfOk result (λ session. IsSessionOf plan.now session) }
+        ensures none { IfOk result (λ session. session.users ≡ none_chosen plan.now) }
+    {
+        begun::<Brand>(alloc, plan, Blank::new(1))
+    }
+
+    /// Gives it the value, a set this alone.
+    pub fn set<L: Ledger>(
+        &mut self,
+        plan: &Plan,
+        named: Named,
+        value: Value,
+        steps: &mut Steps<L>,
+    ) -> Result<(), SetFault>
+        requires valid { IsValid plan.now }
+        requires of { IsSessionOf plan.now self.old }
+        ensures of { IsSessionOf plan.now self.new }
+        ensures gives { Gives plan.now self.old self.new named value (edits.given_alone self.old.users named value) result }
+    {
+        match self.fault(plan, named, value) {
+            Some(fault) => Err(fault),
+            None => {
+                give_alone(&mut self.users, named, value);
+                self.stages.evaluate(plan, &self.users, steps);
+                Ok(())
+            }
+        }
+    }
+
+    /// Gives it the value, a set beside those that it holds.
+    pub fn add<L: Ledger>(
+        &mut self,
+        plan: &Plan,
+        named: Named,
+        value: Value,
+        steps: &mut Steps<L>,
+    ) -> Result<(), SetFault>
+        requires valid { IsValid plan.now }
+        requires of { IsSessionOf plan.now self.old }
+        ensures of { IsSessionOf plan.now self.new }
+        ensures gives { Gives plan.now self.old self.new named value (edits.given self.old.users named value) result }
+    {
+        match self.fault(plan, named, value) {
+            Some(fault) => Err(fault),
+            None => {
+                give(&mut self.users, named, value);
+                self.stages.evaluate(plan, &self.users, steps);
+                Ok(())
+            }
+        }
+    }
+
+    /// Takes all of the user's values there back.
+    pub fn retract<L: Ledger>(
+        &mut self,
+        plan: &Plan,
+        named: Named,
+        steps: &mut Steps<L>,
+    ) -> Result<(), NotSet>
+        requires valid { IsValid plan.now }
+        requires of { IsSessionOf plan.now self.old }
+        ensures of { IsSessionOf plan.now self.new }
+        ensures takes { Takes self.old self.new (edits.has_choice self.old.users named) (edits.taken self.old.users named) result }
+    {
+        if !has_choice(&self.users, named) {
+            return Err(NotSet);
+        }
+        take(&mut self.users, named);
+        self.stages.evaluate(plan, &self.users, steps);
+        Ok(())
+    }
+
+    /// Takes this value back, and no other.
+    pub fn drop_value<L: Ledger>(
+        &mut self,
+        plan: &Plan,
+        named: Named,
+        value: Value,
+        steps: &mut Steps<L>,
+    ) -> Result<(), NotSet>
+        requires valid { IsValid plan.now }
+        requires of { IsSessionOf plan.now self.old }
+        ensures of { IsSessionOf plan.now self.new }
+        ensures takes { Takes self.old self.new (edits.has_chosen self.old.users named value)
+            (edits.taken_value self.old.users named value) result }
+    {
+        if !has_chosen(&self.users, named, value) {
+            return Err(NotSet);
+        }
+        take_value(&mut self.users, named, value);
+        self.stages.evaluate(plan, &self.users, steps);
+        Ok(())
+    }
+
+    /// What the user chose.
+    pub fn users(&self) -> &UserValues
+        ensures { result.now ≡ self.now.users }
+    {
+        &self.users
+    }
+
+    /// What procedures wrote, up to the first broken stage.
+    pub fn overlay(&self) -> &Overlay
+        ensures { result.now ≡ self.now.stages.overlay }
+    {
+        &self.stages.overlay
+    }
+
+    /// Whether the instance came too late for its own procedures; told where no stage is broken.
+    pub fn late(&self, slot: u32) -> bool
+        ensures { result ≡ slice_index_or self.now.stages.late slot false }
+    {
+        match self.stages.late.as_slice().get(slot as usize) {
+            Some(late) => *late,
+            None => false,
+        }
+    }
+
+    /// The number of the first broken stage, if one is.
+    pub fn broken(&self) -> Option<u32>
+        ensures { result ≡ self.now.stages.broken }
+    {
+        self.stages.broken
+    }
+
+    /// Whether all stages settled, or whom to blame in the first broken one.
+    pub fn outcome(&self) -> Outcome
+        ensures { result ≡ outcome_of self.now.stages self.now.stages.broken }
+    {
+        match self.stages.broken {
+            Some(stage) => match self.stages.nets.get(stage as usize) {
+                Some(net) => net.outcome(),
+                None => Outcome::Settled,
+            },
+            None => Outcome::Settled,
+        }
+    }
+}
+
+impl Session {
+    ghost use Rattle.std.specs.Prelude.{◌≡◌, ◌<◌, Some, length, option_copied, pred, slice_get};
+    ghost use Rattle.vc_plan.specs.Showing.{is_named_here};
+    ghost use Rattle.vc_session.specs.Sessions.{is_away, last_seen, set_fault};
+
+    /// The net of the last stage; it has settled where no stage is broken.
+    pub fn last(&self) -> &Net
+        requires { 0 < length self.now.stages.nets.items }
+        ensures { slice_get self.now.stages.nets.items (pred (length self.now.stages.nets.items)) ≡ Some result.now }
+    {
+        &self.stages.nets[self.stages.nets.len() - 1]
+    }
+
+    fn last_net(&self) -> Option<&Net>
+        ensures { option_copied result ≡ slice_get self.now.stages.nets.items (pred (length self.now.stages.nets.items)) }
+    {
+        let nets = self.stages.nets.as_slice();
+        nets.get(nets.len().saturating_sub(1))
+    }
+
+    // Why the value can't be given there, if it can't.
+    fn fault(&self, plan: &Plan, named: Named, value: Value) -> Option<SetFault>
+        ensures { result ≡ set_fault plan.now self.now named value }
+    {
+        if !may_be_given(plan, named, value) {
+            return Some(SetFault::NotInList);
+        }
+        if self.is_away(plan, named) {
+            return Some(SetFault::NotHere);
+        }
+        None
+    }
+
+    fn is_away(&self, plan: &Plan, named: Named) -> bool
+        ensures { result ≡ is_away plan.now self.now named }
+    {
+        match self.stages.broken {
+            Some(_) => false,
+            None => !self.is_named_here(plan, named),
+        }
+    }
+
+    fn is_named_here(&self, plan: &Plan, named: Named) -> bool
+        ensures { result ≡ is_named_here plan.now (last_seen self.now.stages) named }
+    {
+        match slot_of_named(plan, named) {
+            Some(slot) => self.here(slot),
+            None => false,
+        }
+    }
+}
+
+impl View for Session {
+    ghost use Rattle.vc_session.specs.Sessions.{last_seen};
+
+    ghost seen = { λ s. last_seen s.stages };
+
+    fn here(&self, slot: u32) -> bool {
+        match self.last_net() {
+            Some(net) => net.here(slot),
+            None => false,
+        }
+    }
+
+    fn out(&self, var: u32, grain: u32) -> bool {
+        match self.last_net() {
+            Some(net) => net.out(var, grain),
+            None => false,
+        }
+    }
+
+    fn value(&self, var: u32) -> Option<Value> {
+        match self.last_net() {
+            Some(net) => net.value(var),
+            None => None,
+        }
+    }
+}
+
+impl Reading for Session {
+    ghost use Rattle.vc_plan.specs.Evaluate.{holds};
+    ghost use Rattle.vc_plan_users.specs.Choosing.{users_of};
+
+    ghost holdings = { λ s. holds (users_of s.users) };
+
+    fn holds(&self, set: u32, text: u32) -> bool {
+        self.users.holds(set, text)
+    }
+}
+
+// A session with nothing chosen, evaluated on a counter of its own.
+fn begun<L: Ledger>(alloc: Global, plan: &Plan, blank: Blank) -> Result<Session, AllocError>
+    requires valid { IsValid plan.now }
+    requires name { blank.name ≡ L.name }
+    requires parts { blank.parts ≡ L.parts }
+    requires some { 0 < blank.parts }
+    ensures of { IfOk result (λ session. IsSessionOf plan.now session) }
+    ensures none { IfOk result (λ session. session.users ≡ none_chosen plan.now) }
+{
+    let users = UserValues::new(alloc, plan)?;
+    let mut stages = Stages::new(alloc, plan)?;
+    let mut steps: Steps<L> = Steps::new(blank);
+    stages.evaluate(plan, &users, &mut steps);
+    drop(steps);
+    Ok(Session { users, stages })
+}
