@@ -7,8 +7,8 @@ use Rattle.vc_model_parts.specs.declared.parts.Model.{Model}
 use Rattle.vc_model_parts.specs.declared.parts.NamedDependency.{NamedDependency}
 use Rattle.vc_syntax_terms.specs.Trees.{Dependency, dependency_of}
 use Rattle.vc_types.specs.Faults.{all_kinds, fault_of, faults_of, first_of, stands}
-use Rattle.vc_types.specs.NameFaults.{double_name, is_self_in_constraint, is_self_in_line, is_unknown, is_variable_outside, lacks_parent, parent_missing, self_named, self_of_line, some_operand, strays, too_many_objects, unknown_name}
-use Rattle.vc_types.specs.Occurrences.{Use, uses_in}
+use Rattle.vc_types.specs.NameFaults.{double_name, is_of_no_part, is_self_in_constraint, is_undeclared, is_unknown_call, is_unknown_object, objects_in, is_self_in_line, is_unknown, is_variable_outside, lacks_parent, parent_missing, self_named, self_of_line, some_operand, strays, too_many_objects, unknown_name}
+use Rattle.vc_types.specs.Occurrences.{Use, calls_in, parted_names, summed_names, uses_in}
 use Rattle.vc_types.specs.PlaceFaults.{no_key, not_a_term, not_monotone, part_of_place, sum_place}
 use Rattle.vc_types.specs.RangeFaults.{range_too_wide}
 use Rattle.vc_types.specs.Settings.{Setting, is_multiple, is_set, meaning, setting_of}
@@ -141,6 +141,17 @@ all_used setting tree sound =
     let variables = or_parts _ _ kinds.0 in
     let sets = or_parts _ _ (or_parts _ _ kinds.1).0 in
     used setting (uses_in tree) first.0 self.0 sound.parent line.0 outside.0 variables.0 sets.0
+
+-- each object and each call is known
+pub names_known : (setting : Setting) (tree : Dependency) → IsSound setting tree
+    → (list_any (is_unknown_object setting) (objects_in tree) ≡ false) × (list_any (is_unknown_call setting) (calls_in tree) ≡ false)
+names_known setting tree sound =
+    let all = or_parts
+    (some_operand is_unknown setting tree || (list_any (is_unknown_object setting) (objects_in tree) || list_any (is_unknown_call setting) (calls_in tree)))
+    (list_any (is_undeclared setting) (parted_names tree) || list_any (is_of_no_part setting) (summed_names tree)) sound.unknown in
+    let first = or_parts (some_operand is_unknown setting tree)
+    (list_any (is_unknown_object setting) (objects_in tree) || list_any (is_unknown_call setting) (calls_in tree)) all.0 in
+    or_parts (list_any (is_unknown_object setting) (objects_in tree)) (list_any (is_unknown_call setting) (calls_in tree)) first.1
 
 -- no fault is told, so each place has none
 none_told : (faults : List TypeFault) → refusals.first_of faults ≡ None → faults ≡ []

@@ -129,7 +129,7 @@ meant_within model tables plan is slots W n t e h =
     ∙ term_reads plan slots W found.0 (subst (TermHas (VarIn plan slots) W) (sym found.2) h)
 
 -- what can be named at a slot
-in_scope : (i k : ℕ) (slot : Slot) (at : At) → Where slot i at k → is_among (with_parent slot.parent (line_scope i)) (Some k) ≡ true
+pub in_scope : (i k : ℕ) (slot : Slot) (at : At) → Where slot i at k → is_among (with_parent slot.parent (line_scope i)) (Some k) ≡ true
 in_scope i k slot at place = by slot.parent refl place
   where
     own : k ≡ i → is_among (line_scope i) (Some k) ≡ true
@@ -148,7 +148,7 @@ in_scope i k slot at place = by slot.parent refl place
         let both : Some p ≡ Some k = sym e ∙ above.1 in
         let same : p ≡ k = cc in or_left (p == k) (is_among (line_scope i) (Some k)) (eq-eqb p k same)
 
-in_line_scope : (i k : ℕ) (slot : Slot) (at : At) → is_line at ≡ true → Where slot i at k → is_among (line_scope i) (Some k) ≡ true
+pub in_line_scope : (i k : ℕ) (slot : Slot) (at : At) → is_line at ≡ true → Where slot i at k → is_among (line_scope i) (Some k) ≡ true
 in_line_scope i k slot at line (inl same) = or_left (i == k) ((0 == k) || false) (eq-eqb i k (sym same))
 in_line_scope i k slot at line (inr (inl first)) =
     or_right (i == k) ((0 == k) || false) (or_left (0 == k) false (eq-eqb 0 k (sym first)))
@@ -212,7 +212,7 @@ means_at model tables plan is i slot there at place slots inside t h =
     (good_use model tables plan is i slot there at place slots inside) (uses_in (Counts t)) used in
     used_term_has (VarIn plan slots) AnySum (SetIn plan slots) (layout_of model) site tt t (uses_by_term Good (Counts t) good).0
 
-precondition_asks : (model : Model) (tables : List VariantTable) (plan : Plan) → IsPlanOf model tables plan → (i : ℕ) (slot : Slot)
+pub precondition_asks : (model : Model) (tables : List VariantTable) (plan : Plan) → IsPlanOf model tables plan → (i : ℕ) (slot : Slot)
     → slice_get (slots_of model) i ≡ Some slot → (at : At) → is_constraint at ≡ false → (slots : List ℕ)
     → ((k : ℕ) → Where slot i at k → is_among slots (Some k) ≡ true) → (c : Condition)
     → fault_of model (place_at (layout_of model) slot at) (Precondition c) ≡ None
@@ -222,7 +222,7 @@ precondition_asks model tables plan is i slot there at place slots inside c h =
     (all_used (site_at (layout_of model) i slot at).setting (Precondition c)
     (is_sound model (place_at (layout_of model) slot at) (Precondition c) h))
 
-selection_asks : (model : Model) (tables : List VariantTable) (plan : Plan) → IsPlanOf model tables plan → (i : ℕ) (slot : Slot)
+pub selection_asks : (model : Model) (tables : List VariantTable) (plan : Plan) → IsPlanOf model tables plan → (i : ℕ) (slot : Slot)
     → slice_get (slots_of model) i ≡ Some slot → (at : At) → is_constraint at ≡ false → (slots : List ℕ)
     → ((k : ℕ) → Where slot i at k → is_among slots (Some k) ≡ true) → (c : Condition)
     → fault_of model (place_at (layout_of model) slot at) (Selection c) ≡ None
@@ -233,14 +233,14 @@ selection_asks model tables plan is i slot there at place slots inside c h =
     (is_sound model (place_at (layout_of model) slot at) (Selection c) h))
 
 -- the dependencies that ask
-precondition_is : (tree : Dependency) (c : Condition) → precondition_in (Some tree) ≡ Some c → tree ≡ Precondition c
+pub precondition_is : (tree : Dependency) (c : Condition) → precondition_in (Some tree) ≡ Some c → tree ≡ Precondition c
 precondition_is (Precondition condition) c e = let same : condition ≡ c = cc in ap Precondition same
 precondition_is (Selection condition) c e = absurd (cc)
 precondition_is (Procedure statements) c e = absurd (cc)
 precondition_is (Constrains constraint) c e = absurd (cc)
 precondition_is (Counts term) c e = absurd (cc)
 
-selection_is : (tree : Dependency) (c : Condition) → selection_in (Some tree) ≡ Some c → tree ≡ Selection c
+pub selection_is : (tree : Dependency) (c : Condition) → selection_in (Some tree) ≡ Some c → tree ≡ Selection c
 selection_is (Selection condition) c e = let same : condition ≡ c = cc in ap Selection same
 selection_is (Precondition condition) c e = absurd (cc)
 selection_is (Procedure statements) c e = absurd (cc)
@@ -254,7 +254,7 @@ record IsOwnGuard (plan : Plan) (d : GuardDraft) : Type 0 where
 record IsOwnRequirement (plan : Plan) (d : RequirementDraft) : Type 0 where
   asks : Asks plan (scope_if (scope plan) (slot_of_named plan d.at)) d.choice.condition
 
-scope_is : (model : Model) (tables : List VariantTable) (plan : Plan) → IsPlanOf model tables plan → (i : ℕ) (slot : Slot)
+pub scope_is : (model : Model) (tables : List VariantTable) (plan : Plan) → IsPlanOf model tables plan → (i : ℕ) (slot : Slot)
     → slice_get (slots_of model) i ≡ Some slot → scope plan i ≡ with_parent slot.parent (line_scope i)
 scope_is model tables plan is i slot there =
     ap (λ ss. with_parent (parent_in (slice_get ss i)) (line_scope i)) is.slots
