@@ -1,6 +1,7 @@
 pub mod ComponentLaws
 pub mod FaultLaws
 pub mod MeaningLaws
+pub mod NetLaws
 pub mod ProcedureLaws
 pub mod ScopeLaws
 pub mod SoundLaws

@@ -43,7 +43,7 @@ found_member (m ∷ members) c d e = by (m == c) refl e (λ f. found_member memb
         let one : m ≡ d = cc in or_left (d == m) (list_any (λ e. d == e) members) (eq-eqb d m (sym one))
     by false other f later = or_right (d == m) (list_any (λ e. d == e) members) (later f)
 
-known_is : (o : Option ℕ) (c : ℕ) → known o ≡ meanings.Characteristic c → o ≡ Some c
+pub known_is : (o : Option ℕ) (c : ℕ) → known o ≡ meanings.Characteristic c → o ≡ Some c
 known_is None c e = absurd (cc)
 known_is (Some d) c e = let same : d ≡ c = cc in ap Some same
 
