@@ -4,5 +4,7 @@ pub mod MeaningLaws
 pub mod NetLaws
 pub mod ProcedureLaws
 pub mod ScopeLaws
+pub mod ScopeRecords
 pub mod SoundLaws
 pub mod TreeLaws
+pub mod TupleLaws

@@ -80,7 +80,7 @@ used_term_has V W S layout site own term h =
     term_has V W layout site own term (values_of V S layout site (operands_of term) h)
 
 -- the left side of a comparison
-left_uses : (P : Use → Type 0) (b : Bool) (term : Term) → lone_of term ≡ None → Each P (uses_of_left b term) → Each P (uses_of_term term)
+pub left_uses : (P : Use → Type 0) (b : Bool) (term : Term) → lone_of term ≡ None → Each P (uses_of_left b term) → Each P (uses_of_term term)
 left_uses P false term none h = h
 left_uses P true (Number leaf) none h = h
 left_uses P true (Text leaf) none h = h
@@ -91,7 +91,7 @@ left_uses P true (Applied function term) none h = h
 left_uses P true (SumOfParts name) none h = h
 left_uses P true CountOfParts none h = h
 
-lone_good : (V S : ℕ → Type 0) (layout : Layout) (site : Site) (b : Bool) (operand : Name)
+pub lone_good : (V S : ℕ → Type 0) (layout : Layout) (site : Site) (b : Bool) (operand : Name)
     → Each (IsGoodUse V S layout site) (uses_of_left b (Operand operand)) → IsGood V S layout site operand
 lone_good V S layout site true operand h = let first = h.0 in first.good
 lone_good V S layout site false operand h = let first = h.0 in first.good

@@ -1,1 +1,16 @@
-//! What every plan of a model keeps that is typed without a fault, each law the contract of a function that does nothing.
+//! What every plan keeps of a model whose dependencies are typed without a fault, each law the contract of a function that
+//! does nothing.
+
+ghost use Rattle.vc_compile_meant.specs.Scopes.{HasOwnSlots, HasScopes, IsTyped};
+ghost use Rattle.vc_compile_meant.specs.Trees.{KeepsObjects};
+ghost use Rattle.vc_compile_valid.specs.Plans.{PlansKeep};
+
+/// All but constraints reads what can be named where it stands, and procedures write to their own slot.
+pub fn typed_plans_have_scopes()
+    ensures { PlansKeep (λ model plan. IsTyped model → HasScopes plan) }
+{}
+
+/// A constraint's rule stands at one slot to four, and reads and infers variables of these alone.
+pub fn typed_plans_have_own_slots()
+    ensures { PlansKeep (λ model plan. KeepsObjects model → IsTyped model → HasOwnSlots plan) }
+{}
