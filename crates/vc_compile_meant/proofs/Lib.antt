@@ -5,6 +5,7 @@ pub mod NetLaws
 pub mod ProcedureLaws
 pub mod ScopeLaws
 pub mod ScopeRecords
+pub mod SortLaws
 pub mod SoundLaws
 pub mod TreeLaws
 pub mod TupleLaws

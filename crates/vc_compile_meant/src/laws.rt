@@ -2,7 +2,9 @@
 //! does nothing.
 
 ghost use Rattle.vc_compile_meant.specs.Scopes.{HasOwnSlots, HasScopes, IsTyped};
+ghost use Rattle.vc_compile_meant.specs.Sorts.{HasAmounts};
 ghost use Rattle.vc_compile_meant.specs.Trees.{KeepsObjects};
+ghost use Rattle.vc_compile_valid.specs.Domains.{HasLists};
 ghost use Rattle.vc_compile_valid.specs.Plans.{PlansKeep};
 
 /// All but constraints reads what can be named where it stands, and procedures write to their own slot.
@@ -13,4 +15,9 @@ pub fn typed_plans_have_scopes()
 /// A constraint's rule stands at one slot to four, and reads and infers variables of these alone.
 pub fn typed_plans_have_own_slots()
     ensures { PlansKeep (λ model plan. KeepsObjects model → IsTyped model → HasOwnSlots plan) }
+{}
+
+/// Quantities and times are numbers made of numbers.
+pub fn typed_plans_have_amounts()
+    ensures { PlansKeep (λ model plan. HasLists plan → IsTyped model → HasAmounts plan) }
 {}
