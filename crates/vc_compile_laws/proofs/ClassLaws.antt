@@ -23,30 +23,11 @@ use Rattle.vc_compile_plan.specs.Tables.{object_from, objects_from}
 use Rattle.vc_compile_plan.specs.Variables.{members_if, members_of, set_at, sets_at, sets_of, var_at, vars_at}
 use Rattle.vc_compile_laws.specs.Classes.{HasClasses}
 use Rattle.vc_compile_laws.specs.Compiles.{CompiledKeeps}
+use Rattle.vc_compile_valid.proofs.PlaceLaws.{class_same}
 use Rattle.vc_compile_valid.proofs.SlotwiseLaws.{at_slot, below_count}
 use Rattle.vc_compile_valid.proofs.EachLaws.{Each, each_mapped, each_more, each_of_all, each_passes}
 use Rattle.vc_compile_valid.proofs.NamedLaws.{any_by_slot, any_made, each_among}
 use Rattle.vc_compile_laws.proofs.VariableLaws.{all_sets, no_sets, numbers_same, slots_same}
-
-objects_at : (model : Model) (s : ℕ) (xs : List configurable.Object) (k n : ℕ) → n ≡ s + k
-    → slice_get (objects_from model s xs) k ≡ option_map (object_from model n) (slice_get xs k)
-objects_at model s [] k n is = refl
-objects_at model s (x ∷ xs) zero n is =
-    let same : s ≡ n = omega (arith, is) in ap (λ m. Some (object_from model m x)) same
-objects_at model s (x ∷ xs) (suc k) n is = objects_at model (suc s) xs k n (omega (arith, is))
-
--- the class of a slot's object in the plan is that in the model
-class_same : (model : Model) (o : ℕ) → class_in (slice_get (objects_from model 0 model.objects) o) ≡ members_of model o
-class_same model o =
-    ap class_in (objects_at model 0 model.objects o o (no_front o)) ∙ by (slice_get model.objects o) refl
-  where
-    no_front : (i : ℕ) → i ≡ 0 + i
-    no_front i = omega arith
-
-    by : (x : Option configurable.Object) → slice_get model.objects o ≡ x
-        → class_in (option_map (object_from model o) x) ≡ members_of model o
-    by None e = sym (ap (λ y. members_if model (looking.class_in y)) e)
-    by (Some x) e = refl
 
 filter_same : (p q : ℕ → Bool) (xs : List ℕ) → Each (λ x. p x ≡ q x) xs → filter p xs ≡ filter q xs
 filter_same p q [] h = refl
