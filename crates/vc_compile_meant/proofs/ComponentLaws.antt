@@ -53,7 +53,7 @@ OwnerScope plan i = scope_if line_scope (parent_in (slice_get plan.slots i))
 abbrev IsOwnRule : Plan → Draft → Type 0
 IsOwnRule plan d = (i : ℕ) → line_slot (kind_of d.demand) ≡ Some i → Asks plan (OwnerScope plan i) (condition_if d.condition)
 
-configurable_is : (x : Component) (o : ℕ) → object_in x ≡ Some o → is_configurable x ≡ true
+pub configurable_is : (x : Component) (o : ℕ) → object_in x ≡ Some o → is_configurable x ≡ true
 configurable_is (components.Object c) o e = refl
 configurable_is (components.Plain material) o e = absurd (cc)
 

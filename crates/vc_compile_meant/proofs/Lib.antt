@@ -1,6 +1,8 @@
+pub mod ColumnLaws
 pub mod ComponentLaws
 pub mod FaultLaws
 pub mod MeaningLaws
+pub mod MonotoneLaws
 pub mod NetLaws
 pub mod ProcedureLaws
 pub mod ScopeLaws

@@ -221,16 +221,16 @@ all_good model tables plan is constraint tuple kinds typed =
     (each_false (uses_set setting) (uses_in tree) sets.1))
 
 -- what is asked of values is a part of CONDITION, and the restriction's own
-abbrev AreGood : (ℕ → Type 0) → Layout → Site → syntax.Condition → Type 0
+abbrev pub AreGood : (ℕ → Type 0) → Layout → Site → syntax.Condition → Type 0
 AreGood V layout site c =
     (Each (λ r. Each (IsGoodUse V NoSet layout site) (uses_of_relation r)) (relations_of c))
     × (Each (λ o. IsGoodUse V NoSet layout site (as_set o)) (specified_in c))
 
-abbrev IfGood : (ℕ → Type 0) → Layout → Site → Option syntax.Condition → Type 0
+abbrev pub IfGood : (ℕ → Type 0) → Layout → Site → Option syntax.Condition → Type 0
 IfGood V layout site None = Unit {0}
 IfGood V layout site (Some c) = AreGood V layout site c
 
-both_good : (V : ℕ → Type 0) (layout : Layout) (site : Site) (a b : Option syntax.Condition) → IfGood V layout site a
+pub both_good : (V : ℕ → Type 0) (layout : Layout) (site : Site) (a b : Option syntax.Condition) → IfGood V layout site a
     → IfGood V layout site b → IfGood V layout site (both a b)
 both_good V layout site None b h k = k
 both_good V layout site (Some a) None h k = h
@@ -252,12 +252,12 @@ without_good V layout site (syntax.Not condition) h = h
 without_good V layout site (syntax.Related relation) h = h
 without_good V layout site (syntax.Specified operand) h = h
 
-asked_good : (V : ℕ → Type 0) (layout : Layout) (site : Site) (o : Option syntax.Condition)
+pub asked_good : (V : ℕ → Type 0) (layout : Layout) (site : Site) (o : Option syntax.Condition)
     → Each (AreGood V layout site) (if_there (λ c. c ∷ []) o) → IfGood V layout site (asked_of o)
 asked_good V layout site None h = tt
 asked_good V layout site (Some c) h = without_good V layout site c h.0
 
-own_good : (V : ℕ → Type 0) (layout : Layout) (site : Site) (o : Option syntax.Condition)
+pub own_good : (V : ℕ → Type 0) (layout : Layout) (site : Site) (o : Option syntax.Condition)
     → Each (AreGood V layout site) (if_there (λ c. c ∷ []) o) → IfGood V layout site o
 own_good V layout site None h = tt
 own_good V layout site (Some c) h = h.0

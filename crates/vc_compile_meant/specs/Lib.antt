@@ -1,3 +1,4 @@
+pub mod Calls
 pub mod Scopes
 pub mod Sorts
 pub mod Trees

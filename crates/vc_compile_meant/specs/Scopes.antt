@@ -3,8 +3,10 @@ use Rattle.std.specs.Prelude.{◌≡◌, true, None}
 use Rattle.std.specs.List.{list_all}
 use Rattle.vc_model_parts.specs.declared.parts.Model.{Model}
 use Rattle.vc_plan.specs.LookUps.{writes_own}
+use Rattle.vc_plan.specs.Monotone.{is_for_nets}
 use Rattle.vc_plan.specs.RuleShapes.{stays_at_its_slots}
 use Rattle.vc_plan.specs.Scopes.{guard_own, line_own, operation_own, reads_own, requirement_own, rule_own}
+use Rattle.vc_plan.specs.Valid.{asks}
 use Rattle.vc_plan.specs.declared.plans.Plan.{Plan}
 use Rattle.vc_compile_plan.specs.Layouts.{layout_of}
 use Rattle.vc_compile_plan.specs.Refusals.{first_of, type_faults}
@@ -24,3 +26,7 @@ pub record HasScopes (plan : Plan) : Type 0 where
 
 pub record HasOwnSlots (plan : Plan) : Type 0 where
   pub own_slots : list_all (stays_at_its_slots plan) plan.rules ≡ true
+
+-- what nets ask is monotone
+pub record HasNets (plan : Plan) : Type 0 where
+  pub nets : list_all (λ rule. asks plan is_for_nets rule.condition) plan.rules ≡ true
