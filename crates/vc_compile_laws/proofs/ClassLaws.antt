@@ -1,11 +1,10 @@
 -- A slot has a set for each characteristic of its class that has several values, and a variable for each other.
-use Rattle.std.proofs.Common.{◌≡◌, ℕ, zero, suc, ◌+◌, ◌<◌, Bool, true, false, cond, not, List, [], ◌∷◌, length, map}
-use Rattle.std.proofs.Common.{Option, Some, None, refl, sym, ap, ◌∙◌, arith}
-use Rattle.std.specs.Prelude.{◌==◌, slice_get, option_map}
+use Rattle.std.proofs.Common.{◌≡◌, ℕ, ◌+◌, ◌<◌, Bool, true, false, cond, not, List, [], ◌∷◌, length, map}
+use Rattle.std.proofs.Common.{Some, refl, sym, ap, ◌∙◌, arith}
+use Rattle.std.specs.Prelude.{◌==◌, slice_get}
 use Rattle.std.specs.List.{filter, list_any}
 use Rattle.std.proofs.lemmas.Bool.{eq-eqb, lt-ltb, not-true}
 use Rattle.vc_model_parts.specs.declared.parts.Model.{Model}
-use Rattle.vc_model_parts.specs.declared.parts.Object as configurable
 use Rattle.vc_model_drafts.specs.Seen.{seen_model}
 use Rattle.vc_model_laws.specs.Keeps.{Keeps}
 use Rattle.vc_model_laws.proofs.HeadersLaws.{there}
@@ -16,11 +15,9 @@ use Rattle.vc_plan.specs.Domains.{numbers_below}
 use Rattle.vc_plan.specs.Orders.{same_numbers}
 use Rattle.vc_plan.specs.declared.plans.Plan.{Plan}
 use Rattle.vc_plan.specs.declared.plans.Slot.{Slot}
-use Rattle.vc_types.specs.Looking as looking
 use Rattle.vc_types.specs.Settings.{is_multiple}
 use Rattle.vc_compile_plan.specs.Slots.{slots_of}
-use Rattle.vc_compile_plan.specs.Tables.{object_from, objects_from}
-use Rattle.vc_compile_plan.specs.Variables.{members_if, members_of, set_at, sets_at, sets_of, var_at, vars_at}
+use Rattle.vc_compile_plan.specs.Variables.{members_of, set_at, sets_at, sets_of, var_at, vars_at}
 use Rattle.vc_compile_laws.specs.Classes.{HasClasses}
 use Rattle.vc_compile_laws.specs.Compiles.{CompiledKeeps}
 use Rattle.vc_compile_valid.proofs.PlaceLaws.{class_same}

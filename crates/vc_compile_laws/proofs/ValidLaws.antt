@@ -1,5 +1,5 @@
 -- What plans keep by how they are made, of models that texts spell: what they rest on is what such a model keeps.
-use Rattle.std.proofs.Common.{◌≡◌, ℕ, Bool, true, false, not, ◌&&◌, ◌||◌, nat_lt, List, [], ◌∷◌, length, map, refl, sym, ap, ◌∙◌}
+use Rattle.std.proofs.Common.{◌≡◌, ℕ, true, false, not, ◌&&◌, ◌||◌, nat_lt, List, [], ◌∷◌, length, map, refl, sym, ap, ◌∙◌}
 use Rattle.std.specs.Prelude.{nat_le}
 use Rattle.std.specs.List.{list_all, list_any}
 use Rattle.std.proofs.lemmas.Bool.{and_parts}
@@ -33,8 +33,9 @@ use Rattle.vc_compile_valid.proofs.OneBillLaws as one_bill
 use Rattle.vc_compile_valid.proofs.PlaceLaws as places
 use Rattle.vc_compile_valid.proofs.PreorderLaws as preorder
 use Rattle.vc_compile_valid.proofs.RuleLaws as rules
-use Rattle.vc_compile_meant.specs.Scopes.{HasScopes}
+use Rattle.vc_compile_meant.specs.Scopes.{HasNets, HasScopes}
 use Rattle.vc_compile_meant.specs.Sorts.{HasAmounts}
+use Rattle.vc_compile_meant.proofs.MonotoneLaws as monotone
 use Rattle.vc_compile_meant.proofs.ScopeRecords as scopes
 use Rattle.vc_compile_meant.proofs.SortLaws as sorts
 use Rattle.vc_compile_laws.specs.Compiles.{CompiledKeeps}
@@ -152,3 +153,6 @@ has_scopes text model tables plan spells read compiles = scopes.has_scopes model
 pub has_amounts : CompiledKeeps HasAmounts
 has_amounts text model tables plan spells read compiles =
     sorts.has_amounts model tables plan compiles.is_its (plan_lists text model tables plan spells read compiles) compiles.typed
+
+pub has_nets : CompiledKeeps HasNets
+has_nets text model tables plan spells read compiles = monotone.has_nets model tables plan compiles.is_its compiles.typed

@@ -13,7 +13,7 @@ ghost use Rattle.vc_compile_laws.specs.Statements.{HasFewStatements};
 ghost use Rattle.vc_compile_laws.specs.Tables.{HasTables};
 ghost use Rattle.vc_compile_laws.specs.Variables.{HasVariables};
 ghost use Rattle.vc_compile_laws.specs.Words.{HasTexts, HasWords};
-ghost use Rattle.vc_compile_meant.specs.Scopes.{HasScopes};
+ghost use Rattle.vc_compile_meant.specs.Scopes.{HasNets, HasScopes};
 ghost use Rattle.vc_compile_meant.specs.Sorts.{HasAmounts};
 ghost use Rattle.vc_compile_valid.specs.Domains.{HasDomains};
 ghost use Rattle.vc_compile_valid.specs.Places.{HasFewProcedures, HasPlaces};
@@ -137,4 +137,9 @@ pub fn compiled_plans_have_scopes()
 /// Quantities and times are numbers made of numbers.
 pub fn compiled_plans_have_amounts()
     ensures { CompiledKeeps HasAmounts }
+{}
+
+/// Rules ask no set, and SPECIFIED under no NOT.
+pub fn compiled_plans_have_nets()
+    ensures { CompiledKeeps HasNets }
 {}

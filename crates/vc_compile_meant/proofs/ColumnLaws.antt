@@ -1,10 +1,10 @@
 -- A table call of a constraint names columns, each once.
-use Rattle.std.proofs.Common.{◌≡◌, ℕ, zero, suc, ◌+◌, ◌<◌, Bool, true, false, cond, not, ◌&&◌, ◌||◌, nat_lt, List, [], ◌∷◌, ◌++◌, length, map, flat_map, Option, Some, None, refl, sym, ap, ◌∙◌, arith, subst}
-use Rattle.std.specs.Prelude.{◌==◌, find, is_none, option_map, position, slice_get}
+use Rattle.std.proofs.Common.{◌≡◌, ℕ, Bool, true, false, cond, not, nat_lt, List, [], ◌∷◌, ◌++◌, length, map, flat_map, Option, Some, None, refl, sym, ap, ◌∙◌, subst}
+use Rattle.std.specs.Prelude.{◌==◌, find, is_none, option_map, slice_get}
 use Rattle.std.specs.Cmp.Lexicographic.{bytes_decides}
 use Rattle.std.specs.List.{list_all, list_any, position_or_len}
 use Rattle.std.specs.Str.{bytes_eq}
-use Rattle.std.proofs.lemmas.Bool.{and_from, eqb-true, eq-eqb, ltb-true, ne_eqb, not_from_false, or_parts}
+use Rattle.std.proofs.lemmas.Bool.{and_from, eqb-true, ltb-true, ne_eqb, not_from_false, or_parts}
 use Rattle.std.proofs.lemmas.List.{length-map}
 use Rattle.std.proofs.lemmas.Option.{cond_some}
 use Rattle.std.proofs.lemmas.List.Folds.{find_at}
@@ -22,18 +22,17 @@ use Rattle.vc_syntax_terms.specs.declared.tree.Relator.{Relator}
 use Rattle.vc_syntax_terms.specs.declared.tree.Relator.TheVariants as relators
 use Rattle.vc_syntax_terms.specs.Trees as syntax
 use Rattle.vc_table.specs.declared.table.VariantTable.{VariantTable}
-use Rattle.vc_types.specs.Looking.{characteristic_named, column_if, column_in, column_of, table_named}
+use Rattle.vc_types.specs.Looking.{characteristic_named, column_if, column_in, table_named}
 use Rattle.vc_types.specs.NameFaults.{is_unknown_call, is_unknown_column, names_column_twice, some_twice}
-use Rattle.vc_types.specs.Occurrences.{call_of_demand, calls_in}
-use Rattle.vc_types.specs.Settings.{Setting}
+use Rattle.vc_types.specs.Occurrences.{call_of_demand}
 use Rattle.vc_compile_plan.specs.Layouts.{Layout, layout_of, tree_of}
 use Rattle.vc_compile_plan.specs.Numbering.{drafts_of, kind_from, rule_brings, rule_from}
 use Rattle.vc_compile_plan.specs.PlanOf.{IsPlanOf}
-use Rattle.vc_compile_plan.specs.Rules.{Demand, Draft, among, binding_at, by_table, compare, constraint_site, constraints_drafts, demand_at, equate, in_net, last, last_drafts, line, never, of_left_operand, of_right_operand, of_terms, relation_demand, restriction_draft, rule_drafts, slot_drafts_from}
+use Rattle.vc_compile_plan.specs.Rules.{Demand, Draft, binding_at, by_table, constraint_site, constraints_drafts, demand_at, in_net, last_drafts, of_left_operand, of_right_operand, of_terms, relation_demand, restriction_draft, rule_drafts, slot_drafts_from}
 use Rattle.vc_compile_plan.specs.Sites.{Site, number_or_zero}
 use Rattle.vc_compile_plan.specs.Tables.{column_number, column_place, table_number}
 use Rattle.vc_compile_plan.specs.Terms.{literal_of, lone_of}
-use Rattle.vc_compile_valid.proofs.DraftLaws.{each_last, each_slot_draft, kind_of}
+use Rattle.vc_compile_valid.proofs.DraftLaws.{each_last, each_slot_draft}
 use Rattle.vc_compile_valid.proofs.EachLaws.{Each, each_joined, each_more, each_passes, each_tested}
 use Rattle.vc_compile_valid.proofs.LineSlotLaws.{numbered_made}
 use Rattle.vc_compile_valid.proofs.ListLaws.{none_from, passes_there, there}

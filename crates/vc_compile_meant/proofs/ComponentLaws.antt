@@ -1,16 +1,14 @@
 -- What brings a component reads its owner and the root.
-use Rattle.std.proofs.Common.{◌≡◌, ℕ, zero, suc, ◌+◌, ◌<◌, Bool, true, false, List, [], ◌∷◌, ◌++◌, length, map, Option, Some, None, refl, sym, ap, ◌∙◌, arith, subst}
+use Rattle.std.proofs.Common.{◌≡◌, ℕ, zero, suc, ◌+◌, true, List, [], ◌∷◌, ◌++◌, Option, Some, None, refl, sym, ap, ◌∙◌, arith, subst}
 use Rattle.std.specs.Prelude.{option_map, slice_get}
 use Rattle.std.specs.List.{list_all}
-use Rattle.vc_model_parts.specs.declared.parts.BillItem.{BillItem}
 use Rattle.vc_model_parts.specs.declared.parts.Component.{Component}
 use Rattle.vc_model_parts.specs.declared.parts.Component.TheVariants as components
 use Rattle.vc_model_parts.specs.declared.parts.Model.{Model}
 use Rattle.vc_plan.specs.RuleShapes.{line_slot}
-use Rattle.vc_plan.specs.Scopes.{asks_within, kind_own, line_scope, rule_own, scope_if}
+use Rattle.vc_plan.specs.Scopes.{kind_own, line_scope, rule_own, scope_if}
 use Rattle.vc_plan.specs.Seen.{parent_in}
 use Rattle.vc_plan.specs.declared.plans.Plan.{Plan}
-use Rattle.vc_plan.specs.declared.plans.Slot.{Slot}
 use Rattle.vc_syntax_terms.specs.Trees.{Selection}
 use Rattle.vc_table.specs.declared.table.VariantTable.{VariantTable}
 use Rattle.vc_types.specs.Faults.{fault_of}
@@ -22,10 +20,10 @@ use Rattle.vc_compile_plan.specs.PlanOf.{IsPlanOf}
 use Rattle.vc_compile_plan.specs.Places.{Asked, selection_in, selections_among, site_at}
 use Rattle.vc_compile_plan.specs.Refusals as refusals
 use Rattle.vc_compile_plan.specs.Refusals.{type_faults}
-use Rattle.vc_compile_plan.specs.Rules.{Demand, Draft, among, by_table, compare, constraint_site, constraints_drafts, drafts_of_line, drafts_of_slot, equate, last, last_drafts, line, line_draft, line_drafts, line_drafts_from, never, own_draft, restriction_draft, rule_drafts, slot_drafts_from}
+use Rattle.vc_compile_plan.specs.Rules.{Demand, Draft, among, by_table, compare, constraint_site, constraints_drafts, drafts_of_line, drafts_of_slot, equate, last, last_drafts, line, line_drafts, line_drafts_from, never, restriction_draft, rule_drafts, slot_drafts_from}
 use Rattle.vc_compile_plan.specs.Shown.{is_configurable}
 use Rattle.vc_compile_plan.specs.Sites.{Site}
-use Rattle.vc_compile_plan.specs.Slots.{bill_if, bill_in, object_in, slot_of, slots_of, standings_of}
+use Rattle.vc_compile_plan.specs.Slots.{bill_if, bill_in, object_in, slot_of, standings_of}
 use Rattle.vc_compile_plan.specs.Trees as trees
 use Rattle.vc_compile_plan.specs.declared.standings.Standing.{Standing}
 use Rattle.vc_compile_valid.proofs.DraftLaws.{demand_constrains, each_constraint, each_last, kind_of, no_slot}

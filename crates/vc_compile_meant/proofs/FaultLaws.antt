@@ -1,5 +1,5 @@
 -- What a dependency has that is typed without a fault: each operand means a characteristic.
-use Rattle.std.proofs.Common.{◌≡◌, ℕ, zero, suc, ◌+◌, Bool, true, false, cond, not, ◌&&◌, ◌||◌, List, [], ◌∷◌, ◌++◌, map, flat_map, Option, Some, None, refl, sym, ap, ◌∙◌, subst}
+use Rattle.std.proofs.Common.{◌≡◌, ℕ, zero, suc, Bool, true, false, cond, not, ◌&&◌, ◌||◌, List, [], ◌∷◌, ◌++◌, flat_map, Option, Some, None, refl, sym, ap, ◌∙◌, subst}
 use Rattle.std.specs.Prelude.{filter_map, option_map, slice_get}
 use Rattle.std.specs.List.{cons_option, filter, list_any}
 use Rattle.std.proofs.lemmas.Bool.{or_parts}
@@ -17,7 +17,7 @@ use Rattle.vc_types.specs.declared.fault.TypeFaultKind.{TypeFaultKind}
 use Rattle.vc_types.specs.declared.meaning.Meaning.{Meaning}
 use Rattle.vc_types.specs.declared.meaning.Meaning.TheVariants as meanings
 use Rattle.vc_types.specs.declared.place.Place.{Place}
-use Rattle.vc_compile_plan.specs.Layouts.{Layout, layout_of, tree_of}
+use Rattle.vc_compile_plan.specs.Layouts.{Layout, tree_of}
 use Rattle.vc_compile_plan.specs.Refusals as refusals
 use Rattle.vc_compile_plan.specs.Refusals.{TypeFault, Typed, fault_at, type_faults, typed_at, typed_if, typed_of}
 use Rattle.vc_compile_valid.proofs.EachLaws.{Each}

@@ -1,8 +1,8 @@
 -- What an operand means at a slot: a characteristic of the class of the slot that it names.
-use Rattle.std.proofs.Common.{◌≡◌, ℕ, zero, suc, ◌+◌, ◌⊎◌, inl, inr, Bool, true, false, cond, not, ◌&&◌, ◌||◌, List, [], ◌∷◌, map, Option, Some, None, refl, sym, ap, ◌∙◌, arith, subst, if◌then◌else◌}
+use Rattle.std.proofs.Common.{◌≡◌, ℕ, ◌+◌, ◌⊎◌, inl, inr, Bool, true, false, cond, ◌||◌, List, [], ◌∷◌, Option, Some, None, refl, sym, ap, ◌∙◌, arith}
 use Rattle.std.specs.Prelude.{◌==◌, find, option_map, slice_get}
 use Rattle.std.specs.List.{list_any}
-use Rattle.std.proofs.lemmas.Bool.{eq-eqb, eqb-true, or_left, or_right}
+use Rattle.std.proofs.lemmas.Bool.{eq-eqb, or_left, or_right}
 use Rattle.vc_model_parts.specs.declared.parts.Class.{Class}
 use Rattle.vc_model_parts.specs.declared.parts.Model.{Model}
 use Rattle.vc_plan.specs.declared.plans.Slot.{Slot}
@@ -11,16 +11,15 @@ use Rattle.vc_plan.specs.declared.plans.Var.{Var}
 use Rattle.vc_syntax_terms.specs.declared.tree.Operand.{Operand}
 use Rattle.vc_syntax_terms.specs.declared.tree.Operand.TheVariants as operands
 use Rattle.vc_syntax_terms.specs.declared.tree.Owner.TheVariants as owners
-use Rattle.vc_types.specs.Looking.{characteristic_named, class_of, if_member, member_in, member_of}
+use Rattle.vc_types.specs.Looking.{characteristic_named, class_of, member_in, member_of}
 use Rattle.vc_types.specs.Meanings.{known, of_object, of_parent}
 use Rattle.vc_types.specs.Settings.{is_constraint, is_line, is_multiple, meaning}
-use Rattle.vc_types.specs.declared.meaning.Meaning.{Meaning}
 use Rattle.vc_types.specs.declared.meaning.Meaning.TheVariants as meanings
 use Rattle.vc_types.specs.declared.place.At.{At}
 use Rattle.vc_types.specs.declared.place.At.TheVariants as at
-use Rattle.vc_compile_plan.specs.Layouts.{Layout, layout_of, object_if}
+use Rattle.vc_compile_plan.specs.Layouts.{layout_of, object_if}
 use Rattle.vc_compile_plan.specs.Places.{site_at}
-use Rattle.vc_compile_plan.specs.Sites.{Site, characteristic_in, characteristic_meant, is_set_meant, number_or_zero, set_meant, slot_meant, var_meant}
+use Rattle.vc_compile_plan.specs.Sites.{Site, characteristic_in, number_or_zero, set_meant, slot_meant, var_meant}
 use Rattle.vc_compile_plan.specs.Slots.{slots_of}
 use Rattle.vc_compile_plan.specs.Variables.{members_if, members_in, members_of, set_number, sets_of, var_number, vars_of}
 use Rattle.vc_compile_valid.proofs.NamedLaws.{set_found, var_found}
@@ -158,8 +157,7 @@ pub var_is : (model : Model) (site : Site) (operand : Operand) (c : ℕ) → mea
     × (x.slot ≡ slot_meant site operand) × (x.characteristic ≡ c)
 var_is model site operand c means meant single =
     let k = slot_meant site operand in
-    let found = var_found model k meant.slot meant.there c meant.member single in
-    (
+    let found = var_found model k meant.slot meant.there c meant.member single in (
       found.0,
       ap (λ d. slice_get (vars_of model (slots_of model)) (var_number (vars_of model (slots_of model)) k d)) (ap characteristic_in means)
           ∙ ap (λ j. slice_get (vars_of model (slots_of model)) (var_number (vars_of model (slots_of model)) j c)) (no_front k) ∙ found.1,
@@ -176,8 +174,7 @@ pub set_is : (model : Model) (site : Site) (operand : Operand) (c : ℕ) → mea
     × (x.slot ≡ slot_meant site operand) × (x.characteristic ≡ c)
 set_is model site operand c means meant multiple =
     let k = slot_meant site operand in
-    let found = set_found model k meant.slot meant.there c meant.member multiple in
-    (
+    let found = set_found model k meant.slot meant.there c meant.member multiple in (
       found.0,
       ap (λ d. slice_get (sets_of model (slots_of model)) (set_number (sets_of model (slots_of model)) k d)) (ap characteristic_in means)
           ∙ ap (λ j. slice_get (sets_of model (slots_of model)) (set_number (sets_of model (slots_of model)) j c)) (no_front k) ∙ found.1,

@@ -1,9 +1,8 @@
 -- What a net asks is monotone: no set, and SPECIFIED under no NOT.
-use Rattle.std.proofs.Common.{◌≡◌, ℕ, zero, suc, ◌+◌, Bool, true, false, not, ◌&&◌, ◌||◌, List, [], ◌∷◌, ◌++◌, length, map, flat_map, Option, Some, None, refl, sym, ap, ◌∙◌, arith, subst, if◌then◌else◌}
+use Rattle.std.proofs.Common.{◌≡◌, ℕ, zero, suc, ◌+◌, Bool, true, false, not, List, [], ◌∷◌, ◌++◌, map, flat_map, Option, Some, None, refl, sym, ap, ◌∙◌, arith, subst, if◌then◌else◌}
 use Rattle.std.specs.Prelude.{option_map, slice_get}
-use Rattle.std.specs.List.{list_all, list_any}
+use Rattle.std.specs.List.{list_any}
 use Rattle.std.proofs.lemmas.Bool.{and_from, not_from_false, or_from, or_parts}
-use Rattle.std.proofs.lemmas.List.Folds.{list_any-append}
 use Rattle.vc_model_parts.specs.declared.parts.Model.{Model}
 use Rattle.vc_plan.specs.Monotone.{asks_specified, is_for_nets}
 use Rattle.vc_plan.specs.Valid.{asks, condition_passes}
@@ -11,7 +10,6 @@ use Rattle.vc_plan.specs.declared.conditions.Condition.{Condition as StoredCondi
 use Rattle.vc_plan.specs.declared.conditions.Condition.TheVariants as conditions
 use Rattle.vc_plan.specs.declared.plans.Plan.{Plan}
 use Rattle.vc_plan.specs.declared.plans.Slot.{Slot}
-use Rattle.vc_syntax_terms.specs.declared.tree.Item.{Item}
 use Rattle.vc_syntax_terms.specs.declared.tree.Operand.{Operand as Name}
 use Rattle.vc_syntax_terms.specs.declared.tree.Relator.{Relator}
 use Rattle.vc_syntax_terms.specs.declared.tree.Relator.TheVariants as relators
@@ -19,24 +17,22 @@ use Rattle.vc_syntax_terms.specs.Trees as syntax
 use Rattle.vc_table.specs.declared.table.VariantTable.{VariantTable}
 use Rattle.vc_types.specs.Faults.{fault_of}
 use Rattle.vc_types.specs.NameFaults.{has_some}
-use Rattle.vc_types.specs.Occurrences.{Use, as_set, condition_of_restriction, conditions_in, if_there, relations_of, specified_in, uses_in, uses_of_relation}
+use Rattle.vc_types.specs.Occurrences.{Use, condition_of_restriction, conditions_in, if_there, specified_in, uses_in}
 use Rattle.vc_types.specs.PlaceFaults.{denies_specified, uses_set}
-use Rattle.vc_types.specs.Settings.{Setting, is_multiple, is_set}
+use Rattle.vc_types.specs.Settings.{is_multiple, is_set}
 use Rattle.vc_types.specs.declared.place.At.TheVariants as at
 use Rattle.vc_compile_plan.specs.Conditions.{compared_at, condition_at, holds_one, or_each, piece_of, relation_at, relation_of, set_against, text_in, text_in_piece}
 use Rattle.vc_compile_plan.specs.Layouts.{Layout, layout_of, object_at}
 use Rattle.vc_compile_plan.specs.Numbering.{conditions_of, drafts_of, number_for, rule_brings, rule_from, terms_of}
 use Rattle.vc_compile_plan.specs.PlanOf.{IsPlanOf}
-use Rattle.vc_compile_plan.specs.Places.{Asked, place_at, selection_in, selections_among, site_at}
-use Rattle.vc_compile_plan.specs.Refusals as refusals
-use Rattle.vc_compile_plan.specs.Refusals.{type_faults}
-use Rattle.vc_compile_plan.specs.Rules.{Draft, constraint_site, constraints_drafts, drafts_of_line, drafts_of_slot, in_net, last_drafts, line, line_draft, line_drafts, line_drafts_from, own_draft, restriction_draft, rule_drafts, slot_drafts_from}
+use Rattle.vc_compile_plan.specs.Places.{Asked, selection_in, selections_among, site_at}
+use Rattle.vc_compile_plan.specs.Rules.{Draft, constraint_site, constraints_drafts, drafts_of_line, drafts_of_slot, in_net, last_drafts, line_drafts, line_drafts_from, restriction_draft, rule_drafts, slot_drafts_from}
 use Rattle.vc_compile_plan.specs.Sites.{Site, characteristic_in, is_set_meant, set_meant, var_meant}
-use Rattle.vc_compile_plan.specs.Slots.{bill_if, bill_in, slot_of, slots_of, standings_of}
+use Rattle.vc_compile_plan.specs.Slots.{bill_if, bill_in, slot_of, standings_of}
 use Rattle.vc_compile_plan.specs.Terms.{literal_of, lone_of, term_at}
 use Rattle.vc_compile_plan.specs.Trees as trees
 use Rattle.vc_compile_plan.specs.Trees.{condition_of}
-use Rattle.vc_compile_plan.specs.Tuples.{are_different, are_of_kinds, are_parts_met, asked_of, both, without_parts}
+use Rattle.vc_compile_plan.specs.Tuples.{asked_of, both, without_parts}
 use Rattle.vc_compile_plan.specs.declared.standings.Standing.{Standing}
 use Rattle.vc_compile_valid.proofs.DraftLaws.{each_last}
 use Rattle.vc_compile_valid.proofs.EachLaws.{Each, each_both, each_joined, each_more, each_passes}

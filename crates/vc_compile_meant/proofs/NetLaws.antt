@@ -1,5 +1,5 @@
 -- What an operand of a constraint means at a tuple of slots: a characteristic of the class of one of them.
-use Rattle.std.proofs.Common.{◌≡◌, ℕ, zero, suc, ◌+◌, Bool, true, false, cond, not, ◌&&◌, ◌||◌, List, [], ◌∷◌, ◌++◌, map, flat_map, Option, Some, None, refl, sym, ap, ◌∙◌, arith, subst}
+use Rattle.std.proofs.Common.{◌≡◌, ℕ, zero, suc, ◌+◌, Bool, true, false, cond, not, ◌||◌, List, [], ◌∷◌, ◌++◌, map, Option, Some, None, refl, sym, ap, ◌∙◌, arith, subst}
 use Rattle.std.specs.Prelude.{◌==◌, find, option_map, slice_get}
 use Rattle.std.specs.List.{list_any, position_or_len}
 use Rattle.std.specs.Option.{option_or}
@@ -7,7 +7,6 @@ use Rattle.std.specs.Str.{bytes_eq}
 use Rattle.std.proofs.lemmas.Bool.{and_parts, eq-eqb, eqb-true, or_left, or_right}
 use Rattle.std.proofs.lemmas.List.Folds.{find-append}
 use Rattle.vc_model_parts.specs.declared.parts.Model.{Model}
-use Rattle.vc_plan.specs.Orders.{is_number}
 use Rattle.vc_plan.specs.declared.plans.Slot.{Slot}
 use Rattle.vc_syntax_terms.specs.declared.tree.Alias.{Alias}
 use Rattle.vc_syntax_terms.specs.declared.tree.Object.{Object}
@@ -18,17 +17,17 @@ use Rattle.vc_syntax_terms.specs.declared.tree.Operand.TheVariants as operands
 use Rattle.vc_syntax_terms.specs.declared.tree.Owner.TheVariants as owners
 use Rattle.vc_syntax_terms.specs.Trees as syntax
 use Rattle.vc_types.specs.Looking.{class_named, class_of, member_of, object_named}
-use Rattle.vc_types.specs.Meanings.{Variable, alias_of, class_meant, known, member_meaning, referent_of, value_meaning, variable_named, variables_of}
+use Rattle.vc_types.specs.Meanings.{Variable, alias_of, class_meant, member_meaning, referent_of, value_meaning, variable_named, variables_of}
 use Rattle.vc_types.specs.Settings.{meaning}
 use Rattle.vc_types.specs.declared.meaning.Meaning.TheVariants as meanings
 use Rattle.vc_types.specs.declared.meaning.Referent.{Referent}
 use Rattle.vc_types.specs.declared.meaning.Referent.TheVariants as referents
-use Rattle.vc_compile_plan.specs.Layouts.{Layout, layout_of, object_at}
+use Rattle.vc_compile_plan.specs.Layouts.{layout_of, object_at}
 use Rattle.vc_compile_plan.specs.Rules.{constraint_site}
 use Rattle.vc_compile_plan.specs.Sites.{has_alias, is_called, number_or_zero, slot_meant}
 use Rattle.vc_compile_plan.specs.Slots.{slots_of}
 use Rattle.vc_compile_plan.specs.Tuples.{are_of_kinds, are_same, is_of_kind}
-use Rattle.vc_compile_plan.specs.Variables.{members_if, members_of}
+use Rattle.vc_compile_plan.specs.Variables.{members_if}
 use Rattle.vc_compile_meant.proofs.MeaningLaws.{IsMeant, class_has, known_is}
 
 -- a slot of a class

@@ -1,16 +1,16 @@
 -- Procedures read what can be named at their slot, sum over its parts, and write to it alone.
-use Rattle.std.proofs.Common.{◌≡◌, ℕ, zero, suc, ◌+◌, Bool, true, false, not, ◌&&◌, ◌||◌, List, [], ◌∷◌, ◌++◌, length, map, flat_map, Option, Some, None, refl, sym, ap, ◌∙◌, arith, subst, if◌then◌else◌}
+use Rattle.std.proofs.Common.{◌≡◌, ℕ, suc, ◌+◌, Bool, true, false, not, ◌&&◌, ◌||◌, List, [], ◌∷◌, ◌++◌, map, flat_map, Option, Some, None, refl, sym, ap, ◌∙◌, arith, subst, if◌then◌else◌}
 use Rattle.std.specs.Prelude.{◌==◌, is_none, option_map, slice_get}
 use Rattle.std.specs.List.{cons_option, list_all, list_any}
-use Rattle.std.proofs.lemmas.Bool.{and_from, and_parts, eq-eqb, or_left, or_parts}
-use Rattle.std.proofs.lemmas.List.Folds.{list_all-append, list_all-map}
+use Rattle.std.proofs.lemmas.Bool.{and_from, eq-eqb, or_left, or_parts}
+use Rattle.std.proofs.lemmas.List.Folds.{list_all-append}
 use Rattle.vc_model_parts.specs.declared.parts.Characteristic.{Characteristic}
 use Rattle.vc_model_parts.specs.declared.parts.Model.{Model}
 use Rattle.vc_model_parts.specs.declared.parts.Table.{Table}
 use Rattle.vc_model_parts.specs.declared.parts.TableColumn.{TableColumn}
 use Rattle.vc_plan.specs.LookUps.{named_by, writes_own}
 use Rattle.vc_plan.specs.RuleShapes.{is_among, is_at}
-use Rattle.vc_plan.specs.Scopes.{action_own, asks_own_parts, asks_within, line_scope, means_own_parts, means_within, owners_in, owners_read, reads_own, scope, statement_own, term_own, with_parent}
+use Rattle.vc_plan.specs.Scopes.{action_own, asks_own_parts, asks_within, means_own_parts, means_within, owners_in, owners_read, reads_own, scope, statement_own, term_own}
 use Rattle.vc_plan.specs.Seen.{slot_in}
 use Rattle.vc_plan.specs.declared.conditions.Condition.{Condition as StoredCondition}
 use Rattle.vc_plan.specs.declared.conditions.Condition.TheVariants as conditions
@@ -30,34 +30,31 @@ use Rattle.vc_table.specs.declared.table.VariantTable.{VariantTable}
 use Rattle.vc_types.specs.Faults.{fault_of}
 use Rattle.vc_types.specs.Looking.{column_in, table_named}
 use Rattle.vc_types.specs.NameFaults.{is_unknown_call, is_unknown_column}
-use Rattle.vc_types.specs.Occurrences.{Use, as_set, as_value, call_of_action, calls_in, condition_of_statement, if_there, relations_of, specified_in, target_of, term_of_action, uses_in, uses_of_relation, uses_of_term, values_in}
+use Rattle.vc_types.specs.Occurrences.{Use, as_set, as_value, call_of_action, condition_of_statement, if_there, relations_of, specified_in, target_of, term_of_action, uses_in, uses_of_relation, uses_of_term, values_in}
 use Rattle.vc_types.specs.PlaceFaults.{bound_column, gives_other, is_key, is_other, is_own, lacks_key, looks_up_wrongly}
-use Rattle.vc_types.specs.Settings.{Setting}
 use Rattle.vc_types.specs.declared.place.At.TheVariants as at
 use Rattle.vc_compile_plan.specs.Conditions.{condition_at}
 use Rattle.vc_compile_plan.specs.Layouts.{Layout, layout_of, tree_of}
-use Rattle.vc_compile_plan.specs.Numbering.{Drafts, action_from, action_terms, conditions_of, drafts_of, keys_from, number_for, numbered, procedure_brings, procedure_from, procedure_terms_begin, procedures_begin, statement_brings, statement_from, terms_of}
+use Rattle.vc_compile_plan.specs.Numbering.{action_from, action_terms, conditions_of, drafts_of, keys_from, number_for, numbered, procedure_brings, procedure_from, procedure_terms_begin, procedures_begin, statement_brings, statement_from, terms_of}
 use Rattle.vc_compile_plan.specs.PlanOf.{IsPlanOf}
-use Rattle.vc_compile_plan.specs.Places.{place_at, procedure_site, site_at, statements_in}
+use Rattle.vc_compile_plan.specs.Places.{place_at, procedure_site, statements_in}
 use Rattle.vc_compile_plan.specs.Procedures.{Action, KeyDraft, ProcedureDraft, StatementDraft, action_at, assign, delete_default, entries_in, filled_by, key_of, look_up, operand_in, procedure_at, procedure_drafts, procedures_among, procedures_at, profile_in, set_default, statement_at, target, trigger_of, uses_in as characteristic_uses, value_procedures}
 use Rattle.vc_compile_plan.specs.Refusals as refusals
 use Rattle.vc_compile_plan.specs.Refusals.{type_faults}
-use Rattle.vc_compile_plan.specs.Shown.{Entry, entries_of}
 use Rattle.vc_compile_plan.specs.Sites.{Site, named_at, var_meant}
 use Rattle.vc_compile_plan.specs.Slots.{slots_of}
-use Rattle.vc_compile_plan.specs.Tables.{column_number, table_number}
+use Rattle.vc_compile_plan.specs.Tables.{column_number}
 use Rattle.vc_compile_plan.specs.Terms.{term_at}
 use Rattle.vc_compile_plan.specs.Trees as trees
 use Rattle.vc_compile_plan.specs.Trees.{condition_of}
 use Rattle.vc_compile_plan.specs.Uses.{uses_of_characteristic, uses_of_values}
 use Rattle.vc_compile_plan.specs.Variables.{members_of}
-use Rattle.vc_compile_valid.proofs.EachLaws.{Each, each_both, each_by_slot, each_flat, each_joined, each_mapped, each_more, each_passes}
-use Rattle.vc_compile_valid.proofs.EntryLaws.{each_unmapped}
+use Rattle.vc_compile_valid.proofs.EachLaws.{Each, each_by_slot, each_flat, each_joined, each_mapped, each_more, each_passes}
 use Rattle.vc_compile_valid.proofs.ListLaws.{made_from}
-use Rattle.vc_compile_valid.proofs.NumberingLaws.{StandFrom, first_of_more, numbered_each, procedure_conditions, procedure_terms}
+use Rattle.vc_compile_valid.proofs.NumberingLaws.{StandFrom, numbered_each, procedure_conditions, procedure_terms}
 use Rattle.vc_compile_valid.proofs.PlacedLaws.{stand_first, stand_rest}
 use Rattle.vc_compile_meant.proofs.ComponentLaws.{condition_if, condition_stands}
-use Rattle.vc_compile_meant.proofs.FaultLaws.{IsSound, IsTypedAt, IsUsed, all_used, each_false, each_split, each_unflat, is_sound, names_known}
+use Rattle.vc_compile_meant.proofs.FaultLaws.{IsTypedAt, IsUsed, all_used, each_false, each_split, each_unflat, is_sound, names_known}
 use Rattle.vc_compile_meant.proofs.MeaningLaws.{meant_at, var_is}
 use Rattle.vc_compile_meant.proofs.ScopeLaws.{SetIn, VarIn, asked_within, good_use, in_scope, meant_within, scope_is}
 use Rattle.vc_compile_meant.proofs.SoundLaws.{entry_uses, own_place, sound_at}
@@ -193,9 +190,11 @@ all_filled model tables plan is i slot there call (b ∷ bindings) used other kn
         → Each (VarIn plan (i ∷ [])) (map (λ column. column.var) ((if k then [] else filled ∷ [])
         ++ flat_map (filled_by (layout_of model) (procedure_site (layout_of model) i slot) call.table.name) bindings))
     by true e more = more
-    by false e more =
-        (own_value model tables plan is i slot there b.column b.value
-        (given_own (column_in model b.column.name (table_named model call.table.name)) (is_own b.value) known.0 e other.0) used.0, more)
+    by false e more = (
+      own_value model tables plan is i slot there b.column b.value
+          (given_own (column_in model b.column.name (table_named model call.table.name)) (is_own b.value) known.0 e other.0) used.0,
+      more,
+    )
 
 all_keys : (V W S : ℕ → Type 0) (layout : Layout) (site : Site) → W site.own → (table : List ℕ) (bindings : List syntax.Binding)
     → Each (λ t. Each (IsGoodUse V S layout site) (uses_of_term t)) (map (λ binding. binding.value) bindings)
@@ -257,15 +256,21 @@ statement_is_own model tables plan is i slot there s own = record {
         → Each (λ call. Each (λ t. Each (IsGoodUse (VarIn plan (scope plan i)) (SetIn plan (scope plan i)) (layout_of model)
         (procedure_site (layout_of model) i slot)) (uses_of_term t)) (values_in call)) (call_of_action a)
         → Each (TermHas (VarIn plan (scope plan i)) (OwnSum i)) (action_terms (action_at (layout_of model) (procedure_site (layout_of model) i slot) a))
-    meant (syntax.Assign name term) h k =
-        (used_term_has (VarIn plan (scope plan i)) (OwnSum i) (SetIn plan (scope plan i)) (layout_of model)
-        (procedure_site (layout_of model) i slot) (eq-eqb i i refl) term h.0, tt)
-    meant (syntax.SetDefault name term) h k =
-        (used_term_has (VarIn plan (scope plan i)) (OwnSum i) (SetIn plan (scope plan i)) (layout_of model)
-        (procedure_site (layout_of model) i slot) (eq-eqb i i refl) term h.0, tt)
-    meant (syntax.DelDefault name term) h k =
-        (used_term_has (VarIn plan (scope plan i)) (OwnSum i) (SetIn plan (scope plan i)) (layout_of model)
-        (procedure_site (layout_of model) i slot) (eq-eqb i i refl) term h.0, tt)
+    meant (syntax.Assign name term) h k = (
+      used_term_has (VarIn plan (scope plan i)) (OwnSum i) (SetIn plan (scope plan i)) (layout_of model)
+          (procedure_site (layout_of model) i slot) (eq-eqb i i refl) term h.0,
+      tt,
+    )
+    meant (syntax.SetDefault name term) h k = (
+      used_term_has (VarIn plan (scope plan i)) (OwnSum i) (SetIn plan (scope plan i)) (layout_of model)
+          (procedure_site (layout_of model) i slot) (eq-eqb i i refl) term h.0,
+      tt,
+    )
+    meant (syntax.DelDefault name term) h k = (
+      used_term_has (VarIn plan (scope plan i)) (OwnSum i) (SetIn plan (scope plan i)) (layout_of model)
+          (procedure_site (layout_of model) i slot) (eq-eqb i i refl) term h.0,
+      tt,
+    )
     meant (syntax.Calls call) h k =
         all_keys (VarIn plan (scope plan i)) (OwnSum i) (SetIn plan (scope plan i)) (layout_of model)
         (procedure_site (layout_of model) i slot) (eq-eqb i i refl) call.table.name call.bindings k.0
@@ -274,7 +279,7 @@ statement_is_own model tables plan is i slot there s own = record {
         → looks_up_wrongly (procedure_site (layout_of model) i slot).setting call o ≡ false
         → list_any (gives_other (procedure_site (layout_of model) i slot).setting call) call.bindings ≡ false
     table_right call None there h = absurd (cc)
-    table_right call (Some table) there h = 
+    table_right call (Some table) there h =
         wrong_parts (not (list_any (λ column. column.key) table.columns))
         (list_any (lacks_key (procedure_site (layout_of model) i slot).setting call) table.columns)
         (not (list_any (λ binding. is_other (bound_column (procedure_site (layout_of model) i slot).setting call binding)) call.bindings))
@@ -503,6 +508,7 @@ own_procedures model tables plan is sound =
               (action_is_own model tables plan is d.slot n s.action h.means ns),
           ap (list_all (is_at plan (d.slot ∷ []))) (names_same n s.action)
               ∙ each_passes (VarIn plan (d.slot ∷ [])) (is_at plan (d.slot ∷ [])) (λ v k. k) (names_of s.action) h.names,
-        )) c t d.statements own cs ts in
-        (each_passes Good (statement_own plan d.slot) (λ s h. h.0) statements each,
-        each_passes Good (λ s. list_all (is_at plan (d.slot ∷ [])) (named_by s.action)) (λ s h. h.1) statements each)
+        )) c t d.statements own cs ts in (
+          each_passes Good (statement_own plan d.slot) (λ s h. h.0) statements each,
+          each_passes Good (λ s. list_all (is_at plan (d.slot ∷ [])) (named_by s.action)) (λ s h. h.1) statements each,
+        )

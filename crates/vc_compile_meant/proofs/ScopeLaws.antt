@@ -1,6 +1,6 @@
 -- Conditions and terms of a plan read what can be named where they stand.
-use Rattle.std.proofs.Common.{◌≡◌, ℕ, zero, suc, ◌+◌, ◌⊎◌, inl, inr, Bool, true, false, ◌&&◌, ◌||◌, List, [], ◌∷◌, ◌++◌, length, map, flat_map, Option, Some, None, refl, sym, ap, ◌∙◌, arith, subst}
-use Rattle.std.specs.Prelude.{◌==◌, option_map, slice_get}
+use Rattle.std.proofs.Common.{◌≡◌, ℕ, suc, ◌+◌, inl, inr, Bool, true, false, ◌||◌, List, [], ◌∷◌, ◌++◌, map, flat_map, Option, Some, None, refl, sym, ap, ◌∙◌, arith, subst}
+use Rattle.std.specs.Prelude.{◌==◌, slice_get}
 use Rattle.std.specs.List.{list_all, list_any}
 use Rattle.std.proofs.lemmas.Bool.{and_from, eq-eqb, or_left, or_right}
 use Rattle.std.proofs.lemmas.List.Folds.{list_all-append}
@@ -10,9 +10,8 @@ use Rattle.vc_model_parts.specs.declared.parts.Component.{Component}
 use Rattle.vc_model_parts.specs.declared.parts.Component.TheVariants as components
 use Rattle.vc_model_parts.specs.declared.parts.Model.{Model}
 use Rattle.vc_model_parts.specs.declared.parts.Operation as parts
-use Rattle.vc_plan.specs.Ranges.{is_of}
-use Rattle.vc_plan.specs.RuleShapes.{is_among, is_at, line_slot}
-use Rattle.vc_plan.specs.Scopes.{asks_within, guard_own, is_set_at, kind_own, line_own, line_scope, means_within, operation_own, requirement_own, rule_own, scope, scope_if, selection_within, sets_read, with_parent}
+use Rattle.vc_plan.specs.RuleShapes.{is_among, is_at}
+use Rattle.vc_plan.specs.Scopes.{asks_within, guard_own, is_set_at, line_own, line_scope, means_within, operation_own, requirement_own, scope, scope_if, selection_within, sets_read, with_parent}
 use Rattle.vc_plan.specs.Seen.{parent_in, slot_in}
 use Rattle.vc_plan.specs.Showing.{slot_of_named, slot_of_set}
 use Rattle.vc_plan.specs.Reads.{vars_in, vars_read}
@@ -27,19 +26,19 @@ use Rattle.vc_plan.specs.declared.terms.Term.TheVariants as terms
 use Rattle.vc_syntax_terms.specs.Trees.{Condition, Counts, Dependency, Precondition, Procedure, Selection, Constrains, Term, term_of}
 use Rattle.vc_table.specs.declared.table.VariantTable.{VariantTable}
 use Rattle.vc_types.specs.Faults.{fault_of}
-use Rattle.vc_types.specs.Occurrences.{Use, as_set, conditions_in, relations_of, specified_in, uses_in, uses_of_relation, uses_of_term}
+use Rattle.vc_types.specs.Occurrences.{Use, uses_in}
 use Rattle.vc_types.specs.Settings.{is_constraint, is_line, is_multiple}
 use Rattle.vc_types.specs.declared.place.At.{At}
 use Rattle.vc_types.specs.declared.place.At.TheVariants as at
 use Rattle.vc_compile_plan.specs.Conditions.{condition_at}
-use Rattle.vc_compile_plan.specs.Layouts.{Layout, layout_of, object_at}
-use Rattle.vc_compile_plan.specs.Numbering.{conditions_of, drafts_of, guard_brings, guard_from, guards_begin, if_asked, item_brings, line_from, line_terms_begin, lines_begin, number_for, operation_from, operation_terms_begin, operations_begin, requirement_brings, requirement_from, requirements_begin, rule_brings, rule_from, selections_from, terms_of, kind_from}
+use Rattle.vc_compile_plan.specs.Layouts.{layout_of}
+use Rattle.vc_compile_plan.specs.Numbering.{conditions_of, drafts_of, guard_brings, guard_from, guards_begin, item_brings, line_from, line_terms_begin, lines_begin, operation_from, operation_terms_begin, operations_begin, requirement_brings, requirement_from, requirements_begin, selections_from, terms_of}
 use Rattle.vc_compile_plan.specs.PlanOf.{IsPlanOf}
-use Rattle.vc_compile_plan.specs.Places.{Asked, characteristic_site, operation_site, place_at, precondition_in, preconditions_among, selection_in, selections_among, site_at}
+use Rattle.vc_compile_plan.specs.Places.{characteristic_site, operation_site, place_at, precondition_in, preconditions_among, selection_in, selections_among, site_at}
 use Rattle.vc_compile_plan.specs.Refusals as refusals
 use Rattle.vc_compile_plan.specs.Refusals.{type_faults}
-use Rattle.vc_compile_plan.specs.Shown.{Choice, Entry, GuardDraft, ItemDraft, RequirementDraft, choice_at, entries_of, guard_drafts, guards_among, guards_at, guards_of, is_configurable, line_at, line_choices, line_drafts, operation_at, operation_drafts, operations_in, requirement_drafts, requirements_at, requirements_of}
-use Rattle.vc_compile_plan.specs.Sites.{Site, characteristic_in, is_set_meant, named_at, set_meant, slot_meant, var_meant}
+use Rattle.vc_compile_plan.specs.Shown.{Choice, GuardDraft, ItemDraft, RequirementDraft, choice_at, entries_of, guard_drafts, guards_among, guards_at, guards_of, is_configurable, line_at, line_choices, line_drafts, operation_at, operation_drafts, operations_in, requirement_drafts, requirements_at, requirements_of}
+use Rattle.vc_compile_plan.specs.Sites.{characteristic_in, is_set_meant, named_at, set_meant, slot_meant, var_meant}
 use Rattle.vc_compile_plan.specs.Slots.{bill_of, slots_of}
 use Rattle.vc_compile_plan.specs.Terms.{term_at}
 use Rattle.vc_compile_plan.specs.Trees as trees
@@ -51,10 +50,10 @@ use Rattle.vc_compile_valid.proofs.ListLaws.{made_from}
 use Rattle.vc_compile_valid.proofs.NamedLaws.{each_among, named_at_slot}
 use Rattle.vc_compile_valid.proofs.NumberingLaws.{StandFrom, guard_conditions, line_conditions, line_terms, no_terms, numbered_each, operation_conditions, operation_terms, requirement_conditions}
 use Rattle.vc_compile_valid.proofs.PlacedLaws.{stand_first, stand_rest}
-use Rattle.vc_compile_meant.proofs.FaultLaws.{IsTypedAt, IsUsed, all_used, each_here, each_split, is_sound}
+use Rattle.vc_compile_meant.proofs.FaultLaws.{IsTypedAt, IsUsed, all_used, each_split, is_sound}
 use Rattle.vc_compile_meant.proofs.MeaningLaws.{Where, meant_at, set_is, var_is}
 use Rattle.vc_compile_meant.proofs.SoundLaws.{IsSoundLine, IsSoundOperation, asked_typed, entry_uses, line_place, operation_place, own_place, sound_at}
-use Rattle.vc_compile_meant.proofs.TreeLaws.{ConditionHas, IsGood, IsGoodUse, TermHas, condition_has, used_term_has, uses_by_condition, uses_by_term}
+use Rattle.vc_compile_meant.proofs.TreeLaws.{ConditionHas, IsGoodUse, TermHas, condition_has, used_term_has, uses_by_condition, uses_by_term}
 
 -- variables, and sets, of these slots
 abbrev pub VarIn : Plan → List ℕ → ℕ → Type 0

@@ -1,23 +1,17 @@
 -- The sorts of a plan's variables and terms are those of the model's.
-use Rattle.std.proofs.Common.{◌≡◌, ℕ, zero, suc, ◌+◌, Bool, true, false, not, ◌&&◌, ◌||◌, List, [], ◌∷◌, ◌++◌, map, flat_map, Option, Some, None, refl, sym, ap, ◌∙◌, arith, subst}
+use Rattle.std.proofs.Common.{◌≡◌, ℕ, ◌+◌, Bool, true, false, not, ◌&&◌, ◌||◌, List, [], map, Some, None, refl, sym, ap, ◌∙◌, arith, subst}
 use Rattle.std.specs.Prelude.{slice_get}
-use Rattle.std.specs.List.{list_all, list_any}
+use Rattle.std.specs.List.{list_any}
 use Rattle.std.proofs.lemmas.Bool.{and_from, or_parts}
 use Rattle.vc_value.specs.declared.decimal.Dec.{Dec}
-use Rattle.vc_value.specs.declared.value.Value.{Value}
-use Rattle.vc_value.specs.declared.value.Value.TheVariants as plan_values
 use Rattle.vc_model_parts.specs.Headers.{domain_of}
-use Rattle.vc_model_parts.specs.declared.parts.BillItem.{BillItem}
 use Rattle.vc_model_parts.specs.declared.parts.Model.{Model}
-use Rattle.vc_model_parts.specs.declared.parts.Operation as parts
 use Rattle.vc_model_parts.specs.declared.parts.Values.{Values}
 use Rattle.vc_model_parts.specs.declared.parts.Values.TheVariants as values
 use Rattle.vc_plan.specs.Domains as domains
 use Rattle.vc_plan.specs.Typing as typing
 use Rattle.vc_plan.specs.Typing.{has_numbers, has_texts, is_number_var, is_numeric}
 use Rattle.vc_plan.specs.Valid.{means, term_passes}
-use Rattle.vc_plan.specs.declared.plans.Line.{Line}
-use Rattle.vc_plan.specs.declared.plans.Operation.{Operation}
 use Rattle.vc_plan.specs.declared.plans.Plan.{Plan}
 use Rattle.vc_plan.specs.declared.plans.Slot.{Slot}
 use Rattle.vc_plan.specs.declared.plans.Var.{Var}
@@ -29,17 +23,17 @@ use Rattle.vc_syntax_terms.specs.Trees.{Term, Number, Text, Operand, Negated, Co
 use Rattle.vc_table.specs.declared.table.VariantTable.{VariantTable}
 use Rattle.vc_types.specs.Faults.{fault_of}
 use Rattle.vc_types.specs.NameFaults.{objects_in, some_operand}
-use Rattle.vc_types.specs.Occurrences.{Use, as_value, calls_in, operands_of, parted_names, relations_in, summed_names, terms_in, uses_in, uses_of_term}
+use Rattle.vc_types.specs.Occurrences.{as_value, calls_in, operands_of, parted_names, relations_in, summed_names, terms_in, uses_in}
 use Rattle.vc_types.specs.Settings.{Setting, is_constraint, meaning, sort_in, sort_meant, sort_of_characteristic, sort_of_values}
 use Rattle.vc_types.specs.SortFaults.{acts_or_counts_wrongly, calls_wrongly, computes_with_text, declares_set, is_number, is_other_variable, is_text, misuses_set, parts_a_value, relates_wrongly, sort_of, sums_texts}
 use Rattle.vc_types.specs.declared.meaning.Meaning.TheVariants as meanings
 use Rattle.vc_types.specs.declared.place.At.{At}
 use Rattle.vc_types.specs.declared.place.At.TheVariants as at
 use Rattle.vc_compile_plan.specs.Cuts.{all_marks, cut_domain, cuts_at}
-use Rattle.vc_compile_plan.specs.Layouts.{Layout, layout_of}
+use Rattle.vc_compile_plan.specs.Layouts.{layout_of}
 use Rattle.vc_compile_plan.specs.Numbering.{conditions_of, drafts_of, item_brings, line_from, line_terms_begin, lines_begin, operation_from, operation_terms_begin, operations_begin, terms_of}
 use Rattle.vc_compile_plan.specs.PlanOf.{IsPlanOf}
-use Rattle.vc_compile_plan.specs.Places.{operation_site, place_at, site_at}
+use Rattle.vc_compile_plan.specs.Places.{place_at, site_at}
 use Rattle.vc_compile_plan.specs.Shown.{ItemDraft, is_configurable, line_at, line_drafts, operation_at, operation_drafts, operations_in}
 use Rattle.vc_compile_plan.specs.Sites.{Site, var_meant}
 use Rattle.vc_compile_plan.specs.Slots.{bill_of, slots_of}

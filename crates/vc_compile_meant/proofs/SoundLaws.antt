@@ -1,21 +1,17 @@
 -- What stands at a slot's object is typed there without a fault.
-use Rattle.std.proofs.Common.{◌≡◌, ℕ, Bool, true, false, List, [], ◌∷◌, ◌++◌, map, flat_map, Option, Some, None, refl, sym, ap, ◌∙◌, subst}
+use Rattle.std.proofs.Common.{◌≡◌, ℕ, Bool, List, [], ◌∷◌, ◌++◌, flat_map, Option, Some, None, refl, sym, ap, ◌∙◌, subst}
 use Rattle.std.specs.Prelude.{option_map, slice_get}
-use Rattle.std.specs.List.{cons_option, list_any}
-use Rattle.std.proofs.lemmas.Bool.{eq-eqb}
+use Rattle.std.specs.List.{cons_option}
 use Rattle.vc_model_parts.specs.declared.parts.BillItem.{BillItem}
-use Rattle.vc_model_parts.specs.declared.parts.Characteristic.{Characteristic}
 use Rattle.vc_model_parts.specs.declared.parts.Model.{Model}
-use Rattle.vc_model_parts.specs.declared.parts.NumberValue.{NumberValue}
 use Rattle.vc_model_parts.specs.declared.parts.Object.{Object}
 use Rattle.vc_model_parts.specs.declared.parts.Operation.{Operation}
-use Rattle.vc_model_parts.specs.declared.parts.TextValue.{TextValue}
 use Rattle.vc_model_parts.specs.declared.parts.Values.{Values}
 use Rattle.vc_model_parts.specs.declared.parts.Values.TheVariants as values
 use Rattle.vc_plan.specs.declared.plans.Slot.{Slot}
 use Rattle.vc_syntax_terms.specs.Trees.{Condition, Counts, Dependency, term_of}
 use Rattle.vc_types.specs.Faults.{fault_of}
-use Rattle.vc_types.specs.Looking.{class_in, class_of}
+use Rattle.vc_types.specs.Looking.{class_in}
 use Rattle.vc_types.specs.declared.place.At.TheVariants as at
 use Rattle.vc_types.specs.declared.place.Place.{Place}
 use Rattle.vc_compile_plan.specs.Layouts.{layout_of, tree_of}
@@ -23,11 +19,11 @@ use Rattle.vc_compile_plan.specs.Places.{asked_by, place_at}
 use Rattle.vc_compile_plan.specs.Procedures.{profile_in}
 use Rattle.vc_compile_plan.specs.Refusals as refusals
 use Rattle.vc_compile_plan.specs.Refusals.{at_of, type_faults, typed_at, typed_constraints, typed_line, typed_object, typed_operation, typed_slot}
-use Rattle.vc_compile_plan.specs.Shown.{Entry, entries_of, entry_of_numbers, entry_of_text, is_configurable, operations_in}
+use Rattle.vc_compile_plan.specs.Shown.{entries_of, entry_of_numbers, entry_of_text, is_configurable, operations_in}
 use Rattle.vc_compile_plan.specs.Slots.{bill_in, slots_of}
 use Rattle.vc_compile_plan.specs.Uses.{uses_of_characteristic, uses_of_members, uses_of_values}
 use Rattle.vc_compile_plan.specs.Variables.{members_if, members_of}
-use Rattle.vc_compile_valid.proofs.EachLaws.{Each, each_flat, each_mapped, each_more}
+use Rattle.vc_compile_valid.proofs.EachLaws.{Each, each_mapped, each_more}
 use Rattle.vc_compile_meant.proofs.FaultLaws.{HasNone, IsTypedAt, all_without, each_here, each_split, each_unflat, uses_typed}
 
 -- at the place of each dependency at a slot

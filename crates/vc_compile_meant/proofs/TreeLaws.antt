@@ -1,5 +1,5 @@
 -- What compiled terms and conditions have, where each operand of their trees has it.
-use Rattle.std.proofs.Common.{◌≡◌, ℕ, Bool, true, false, ◌&&◌, List, [], ◌∷◌, ◌++◌, map, flat_map, Option, Some, None, refl, sym, ap, ◌∙◌, subst, if◌then◌else◌}
+use Rattle.std.proofs.Common.{◌≡◌, ℕ, Bool, true, false, ◌&&◌, List, [], ◌∷◌, ◌++◌, map, flat_map, Option, Some, None, refl, ap, ◌∙◌, subst, if◌then◌else◌}
 use Rattle.vc_value.specs.declared.value.Value.{Value}
 use Rattle.vc_syntax_terms.specs.declared.tree.Item.{Item}
 use Rattle.vc_syntax_terms.specs.declared.tree.Operand.{Operand as Name}
@@ -8,8 +8,7 @@ use Rattle.vc_syntax_terms.specs.declared.tree.Relator.TheVariants as relators
 use Rattle.vc_syntax_terms.specs.Trees.{Term, Number, Text, Operand, Negated, Combined, Applied, SumOfParts, CountOfParts}
 use Rattle.vc_syntax_terms.specs.Trees.{Relation, Compared, Within, Condition, Or, And, Not, Related, Specified, PartOf, Dependency}
 use Rattle.vc_types.specs.Occurrences.{Use, as_set, as_value, conditions_in, demanded_relations, is_equality, is_literal, operands_of, other_names, own_terms, relations_in, relations_of, specified_in, uses_in, uses_of_left, uses_of_relation, uses_of_term, values_in, calls_in}
-use Rattle.vc_plan.specs.declared.conditions.Piece.{Piece}
-use Rattle.vc_compile_plan.specs.Conditions.{compared_at, condition_at, holds_one, or_each, piece_of, relation_at, relation_of, set_against, specified_at, text_in, text_in_piece}
+use Rattle.vc_compile_plan.specs.Conditions.{compared_at, condition_at, holds_one, or_each, piece_of, relation_at, relation_of, set_against, text_in, text_in_piece}
 use Rattle.vc_compile_plan.specs.Layouts.{Layout}
 use Rattle.vc_compile_plan.specs.Sites.{Site, is_set_meant, set_meant, var_meant}
 use Rattle.vc_compile_plan.specs.Terms.{literal_of, lone_of, minus, minus_literal, term_at}

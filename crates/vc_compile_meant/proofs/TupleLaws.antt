@@ -1,10 +1,9 @@
 -- The rules of constraints stand at the slots of their tuples, and read and infer variables of these alone.
-use Rattle.std.proofs.Common.{◌≡◌, ℕ, zero, suc, ◌+◌, ◌<◌, ◌≤◌, Bool, true, false, cond, not, ◌&&◌, ◌||◌, nat_lt, List, [], ◌∷◌, ◌++◌, length, map, flat_map, Option, Some, None, refl, sym, ap, ◌∙◌, arith, subst, if◌then◌else◌, inl, inr}
+use Rattle.std.proofs.Common.{◌≡◌, ℕ, zero, suc, ◌+◌, Bool, true, false, cond, not, ◌&&◌, ◌||◌, nat_lt, List, [], ◌∷◌, ◌++◌, length, map, flat_map, Option, Some, None, refl, sym, ap, ◌∙◌, arith, subst, if◌then◌else◌, inl, inr}
 use Rattle.std.specs.Prelude.{◌==◌, is_some, nat_le, option_map, slice_get}
 use Rattle.std.specs.List.{filter, list_all, list_any}
-use Rattle.std.proofs.lemmas.Bool.{and_from, and_parts, eq-eqb, eqb-true, le-leb, lt-ltb, ltb-false, ltb-true, not-true, not_from_false, or_cases, or_parts}
+use Rattle.std.proofs.lemmas.Bool.{and_from, and_parts, eq-eqb, eqb-true, le-leb, ltb-false, or_cases, or_parts}
 use Rattle.std.proofs.lemmas.List.Folds.{list_all-append, list_any-append}
-use Rattle.std.proofs.lemmas.Option.{slice_get-map}
 use Rattle.vc_value.specs.declared.value.Value.{Value}
 use Rattle.vc_model_parts.specs.declared.parts.Model.{Model}
 use Rattle.vc_model_parts.specs.declared.parts.NamedDependency.{NamedDependency}
@@ -12,7 +11,7 @@ use Rattle.vc_model_parts.specs.declared.parts.Net.{Net}
 use Rattle.vc_model_parts.specs.declared.parts.Object as configurable
 use Rattle.vc_plan.specs.Domains.{numbers_below}
 use Rattle.vc_plan.specs.Orders.{are_apart}
-use Rattle.vc_plan.specs.Reads.{vars_in, vars_of_condition, vars_of_term, vars_read}
+use Rattle.vc_plan.specs.Reads.{vars_of_condition, vars_of_term}
 use Rattle.vc_plan.specs.RuleShapes.{is_among, is_at, is_of_constraint, kind_vars, operand_vars, rule_vars, stays_at_its_slots}
 use Rattle.vc_plan.specs.Seen.{slot_in}
 use Rattle.vc_plan.specs.declared.plans.Plan.{Plan}
@@ -24,20 +23,19 @@ use Rattle.vc_syntax_terms.specs.declared.tree.Relator.TheVariants as relators
 use Rattle.vc_syntax_terms.specs.Trees as syntax
 use Rattle.vc_table.specs.declared.table.VariantTable.{VariantTable}
 use Rattle.vc_types.specs.Faults.{fault_of}
-use Rattle.vc_types.specs.NameFaults.{objects_in, too_many_objects}
-use Rattle.vc_types.specs.Occurrences.{Use, as_set, as_value, call_of_demand, calls_in, condition_of_restriction, conditions_in, demanded_relations, if_there, is_equality, is_literal, operands_of, own_terms, relation_of_demand, relations_of, specified_in, uses_in, uses_of_left, uses_of_relation, uses_of_term, values_in}
+use Rattle.vc_types.specs.Occurrences.{Use, as_set, as_value, call_of_demand, condition_of_restriction, conditions_in, if_there, is_equality, is_literal, relation_of_demand, relations_of, specified_in, uses_in, uses_of_left, uses_of_relation, uses_of_term, values_in}
 use Rattle.vc_types.specs.PlaceFaults.{denies_specified, is_computed, is_operand, uses_set}
-use Rattle.vc_types.specs.Settings.{Setting, is_multiple, is_set, meaning}
+use Rattle.vc_types.specs.Settings.{is_multiple, is_set}
 use Rattle.vc_compile_plan.specs.Conditions.{condition_at}
 use Rattle.vc_compile_plan.specs.Layouts.{Layout, layout_of, tree_of}
 use Rattle.vc_compile_plan.specs.Numbering.{conditions_of, demand_terms, drafts_of, kind_from, number_for, rule_brings, rule_from, terms_of}
 use Rattle.vc_compile_plan.specs.PlanOf.{IsPlanOf}
 use Rattle.vc_compile_plan.specs.Refusals as refusals
 use Rattle.vc_compile_plan.specs.Refusals.{is_in_net, type_faults, typed_constraints}
-use Rattle.vc_compile_plan.specs.Rules.{Demand, Draft, against, among, binding_at, by_table, compare, constraint_drafts, constraint_site, constraints_drafts, demand_at, distinct, equate, given_operand, in_net, last, last_drafts, line, never, of_left_operand, of_right_operand, of_terms, relation_demand, restriction_draft, restriction_drafts, rule_drafts, slot_drafts_from}
-use Rattle.vc_compile_plan.specs.Sites.{Site, characteristic_in, is_set_meant, slot_meant, var_meant}
+use Rattle.vc_compile_plan.specs.Rules.{Demand, Draft, among, binding_at, by_table, compare, constraint_drafts, constraint_site, constraints_drafts, demand_at, distinct, equate, given_operand, in_net, last, last_drafts, line, never, of_left_operand, of_right_operand, of_terms, relation_demand, restriction_draft, restriction_drafts, rule_drafts, slot_drafts_from}
+use Rattle.vc_compile_plan.specs.Sites.{Site, characteristic_in, is_set_meant, var_meant}
 use Rattle.vc_compile_plan.specs.Slots.{slots_of}
-use Rattle.vc_compile_plan.specs.Terms.{literal_of, lone_of, minus_literal, term_at}
+use Rattle.vc_compile_plan.specs.Terms.{literal_of, lone_of, term_at}
 use Rattle.vc_compile_plan.specs.Trees as trees
 use Rattle.vc_compile_plan.specs.Trees.{condition_of}
 use Rattle.vc_compile_plan.specs.Tuples.{are_different, are_of_kinds, are_parts_met, asked_of, both, matches, tuples_from, tuples_of, without_parts}
@@ -49,7 +47,7 @@ use Rattle.vc_compile_valid.proofs.NumberingLaws.{StandFrom, numbered_each, rule
 use Rattle.vc_compile_valid.proofs.PlacedLaws.{stand_first, stand_rest}
 use Rattle.vc_compile_meant.specs.Trees.{KeepsObjects, has_objects}
 use Rattle.vc_compile_meant.proofs.ComponentLaws.{condition_if, condition_stands}
-use Rattle.vc_compile_meant.proofs.FaultLaws.{IsSound, IsTypedAt, IsUsed, all_used, each_false, each_here, each_split, each_unflat, is_sound, uses_typed}
+use Rattle.vc_compile_meant.proofs.FaultLaws.{IsTypedAt, IsUsed, all_used, each_false, each_here, each_split, each_unflat, is_sound, uses_typed}
 use Rattle.vc_compile_meant.proofs.MeaningLaws.{var_is}
 use Rattle.vc_compile_meant.proofs.NetLaws.{meant_in}
 use Rattle.vc_compile_meant.proofs.ScopeLaws.{AnySum, SetIn, VarIn, condition_reads, term_reads}
@@ -392,9 +390,11 @@ demand_has V layout site syntax.Never h k l = tt
 -- what is inferred, each once
 distinct_has : (V : ℕ → Type 0) (ns : List ℕ) → Each V ns → Each V (distinct ns)
 distinct_has V [] h = tt
-distinct_has V (n ∷ ns) h =
-    (h.0, each_more (λ m. (not (n == m) ≡ true) × V m) V (λ m k. k.1) (filter (λ m. not (n == m)) (distinct ns))
-    (each_left V (λ m. not (n == m)) (distinct ns) (distinct_has V ns h.1)))
+distinct_has V (n ∷ ns) h = (
+  h.0,
+  each_more (λ m. (not (n == m) ≡ true) × V m) V (λ m k. k.1) (filter (λ m. not (n == m)) (distinct ns))
+      (each_left V (λ m. not (n == m)) (distinct ns) (distinct_has V ns h.1)),
+)
 
 distinct_once : (ns : List ℕ) → are_apart (λ v w. v == w) (distinct ns) ≡ true
 distinct_once [] = refl

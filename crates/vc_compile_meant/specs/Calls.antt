@@ -1,5 +1,5 @@
 -- The columns of a plan's table rules.
-use Rattle.std.specs.Prelude.{◌≡◌, Bool, true, ◌&&◌, nat_lt, length}
+use Rattle.std.specs.Prelude.{◌≡◌, Bool, true, nat_lt, length}
 use Rattle.std.specs.List.{list_all}
 use Rattle.vc_model_parts.specs.declared.parts.Model.{Model}
 use Rattle.vc_plan.specs.RuleShapes.{columns_once}
