@@ -9,5 +9,6 @@ pub mod ScopeLaws
 pub mod ScopeRecords
 pub mod SortLaws
 pub mod SoundLaws
+pub mod SumLaws
 pub mod TreeLaws
 pub mod TupleLaws

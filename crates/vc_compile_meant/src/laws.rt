@@ -4,6 +4,7 @@
 ghost use Rattle.vc_compile_meant.specs.Calls.{HasColumns, KeepsBindings};
 ghost use Rattle.vc_compile_meant.specs.Scopes.{HasNets, HasOwnSlots, HasScopes, IsTyped};
 ghost use Rattle.vc_compile_meant.specs.Sorts.{HasAmounts};
+ghost use Rattle.vc_compile_meant.specs.Sums.{HasNoSums};
 ghost use Rattle.vc_compile_meant.specs.Trees.{KeepsObjects};
 ghost use Rattle.vc_compile_valid.specs.Domains.{HasLists};
 ghost use Rattle.vc_compile_valid.specs.Plans.{PlansKeep};
@@ -31,4 +32,9 @@ pub fn typed_plans_have_nets()
 /// A table call of a rule names columns, each once.
 pub fn typed_plans_have_columns()
     ensures { PlansKeep (λ model plan. KeepsBindings model → IsTyped model → HasColumns plan) }
+{}
+
+/// Sums over parts stand in procedures alone.
+pub fn typed_plans_have_no_sums()
+    ensures { PlansKeep (λ model plan. IsTyped model → HasNoSums plan) }
 {}
