@@ -35,9 +35,11 @@ use Rattle.vc_compile_valid.proofs.PreorderLaws as preorder
 use Rattle.vc_compile_valid.proofs.RuleLaws as rules
 use Rattle.vc_compile_meant.specs.Scopes.{HasNets, HasScopes}
 use Rattle.vc_compile_meant.specs.Sorts.{HasAmounts}
+use Rattle.vc_compile_meant.specs.Sums.{HasNoSums}
 use Rattle.vc_compile_meant.proofs.MonotoneLaws as monotone
 use Rattle.vc_compile_meant.proofs.ScopeRecords as scopes
 use Rattle.vc_compile_meant.proofs.SortLaws as sorts
+use Rattle.vc_compile_meant.proofs.SumLaws as sums
 use Rattle.vc_compile_laws.specs.Compiles.{CompiledKeeps}
 use Rattle.vc_compile_laws.proofs.ListedLaws.{has_lists}
 use Rattle.vc_compile_laws.proofs.SizeLaws.{is_within}
@@ -156,3 +158,6 @@ has_amounts text model tables plan spells read compiles =
 
 pub has_nets : CompiledKeeps HasNets
 has_nets text model tables plan spells read compiles = monotone.has_nets model tables plan compiles.is_its compiles.typed
+
+pub has_no_sums : CompiledKeeps HasNoSums
+has_no_sums text model tables plan spells read compiles = sums.has_no_sums model tables plan compiles.is_its compiles.typed

@@ -15,6 +15,7 @@ ghost use Rattle.vc_compile_laws.specs.Variables.{HasVariables};
 ghost use Rattle.vc_compile_laws.specs.Words.{HasTexts, HasWords};
 ghost use Rattle.vc_compile_meant.specs.Scopes.{HasNets, HasScopes};
 ghost use Rattle.vc_compile_meant.specs.Sorts.{HasAmounts};
+ghost use Rattle.vc_compile_meant.specs.Sums.{HasNoSums};
 ghost use Rattle.vc_compile_valid.specs.Domains.{HasDomains};
 ghost use Rattle.vc_compile_valid.specs.Places.{HasFewProcedures, HasPlaces};
 ghost use Rattle.vc_compile_valid.specs.Rules.{HasRules};
@@ -142,4 +143,9 @@ pub fn compiled_plans_have_amounts()
 /// Rules ask no set, and SPECIFIED under no NOT.
 pub fn compiled_plans_have_nets()
     ensures { CompiledKeeps HasNets }
+{}
+
+/// Sums over parts stand in procedures alone.
+pub fn compiled_plans_have_no_sums()
+    ensures { CompiledKeeps HasNoSums }
 {}
