@@ -1,9 +1,9 @@
 -- A slot has no more lines and operations than an object.
-use Rattle.std.proofs.Common.{◌≡◌, ℕ, zero, suc, ◌+◌, ◌<◌, Bool, true, false, cond, List, [], ◌∷◌, ◌++◌, length, map}
-use Rattle.std.proofs.Common.{Option, Some, None, refl, sym, ap, ◌∙◌, arith, append-nil}
+use Rattle.std.proofs.Common.{◌≡◌, ℕ, ◌+◌, ◌<◌, true, length, map}
+use Rattle.std.proofs.Common.{Option, Some, None, refl, sym, ap, ◌∙◌, arith}
 use Rattle.std.specs.Prelude.{◌==◌, nat_le, slice_get}
-use Rattle.std.specs.List.{filter, range_with_len}
-use Rattle.std.proofs.lemmas.Bool.{eq-eqb, lt-ltb, ne_eqb}
+use Rattle.std.specs.List.{filter}
+use Rattle.std.proofs.lemmas.Bool.{lt-ltb}
 use Rattle.std.proofs.lemmas.List.{length-map}
 use Rattle.std.proofs.lemmas.List.Folds.{list_all-map}
 use Rattle.vc_model_parts.specs.declared.parts.Model.{Model}
@@ -16,13 +16,12 @@ use Rattle.vc_model_laws.proofs.TextsLaws.{passes_at}
 use Rattle.vc_plan.specs.Domains.{numbers_below}
 use Rattle.vc_plan.specs.declared.plans.Slot.{Slot}
 use Rattle.vc_compile_plan.specs.Layouts.{layout_of}
-use Rattle.vc_compile_plan.specs.Numbering.{Brings, Drafts, drafts_of, item_brings, line_from, line_terms_begin, lines_begin, numbered, operation_from, operation_terms_begin, operations_begin}
+use Rattle.vc_compile_plan.specs.Numbering.{Drafts, drafts_of, item_brings, line_from, line_terms_begin, lines_begin, operation_from, operation_terms_begin, operations_begin}
 use Rattle.vc_compile_plan.specs.Shown.{line_at, line_drafts, operation_at, operation_drafts, operations_in}
 use Rattle.vc_compile_plan.specs.Slots.{bill_in, bill_of, slots_of}
-use Rattle.vc_compile_plan.specs.Variables.{by_slot}
 use Rattle.vc_compile_laws.specs.Compiles.{CompiledKeeps}
 use Rattle.vc_compile_laws.specs.Orders.{HasFewLines}
-use Rattle.vc_compile_valid.proofs.EachLaws.{Each, each_by_slot, each_mapped, each_more, each_of_all, each_passes}
+use Rattle.vc_compile_valid.proofs.EachLaws.{each_mapped, each_of_all, each_passes}
 use Rattle.vc_compile_valid.proofs.SlotwiseLaws.{at_slot, below_count, left_numbered}
 use Rattle.vc_compile_laws.proofs.VariableLaws.{slots_same}
 

@@ -1,11 +1,10 @@
 -- A slot has a set for each characteristic of its class that has several values, and a variable for each other.
-use Rattle.std.proofs.Common.{◌≡◌, ℕ, zero, suc, ◌+◌, ◌<◌, Bool, true, false, cond, not, List, [], ◌∷◌, length, map}
-use Rattle.std.proofs.Common.{Option, Some, None, refl, sym, ap, ◌∙◌, arith}
-use Rattle.std.specs.Prelude.{◌==◌, slice_get, option_map}
+use Rattle.std.proofs.Common.{◌≡◌, ℕ, ◌+◌, ◌<◌, Bool, true, false, cond, not, List, [], ◌∷◌, length, map}
+use Rattle.std.proofs.Common.{Some, refl, sym, ap, ◌∙◌, arith}
+use Rattle.std.specs.Prelude.{◌==◌, slice_get}
 use Rattle.std.specs.List.{filter, list_any}
 use Rattle.std.proofs.lemmas.Bool.{eq-eqb, lt-ltb, not-true}
 use Rattle.vc_model_parts.specs.declared.parts.Model.{Model}
-use Rattle.vc_model_parts.specs.declared.parts.Object as configurable
 use Rattle.vc_model_drafts.specs.Seen.{seen_model}
 use Rattle.vc_model_laws.specs.Keeps.{Keeps}
 use Rattle.vc_model_laws.proofs.HeadersLaws.{there}
@@ -16,37 +15,16 @@ use Rattle.vc_plan.specs.Domains.{numbers_below}
 use Rattle.vc_plan.specs.Orders.{same_numbers}
 use Rattle.vc_plan.specs.declared.plans.Plan.{Plan}
 use Rattle.vc_plan.specs.declared.plans.Slot.{Slot}
-use Rattle.vc_types.specs.Looking as looking
 use Rattle.vc_types.specs.Settings.{is_multiple}
 use Rattle.vc_compile_plan.specs.Slots.{slots_of}
-use Rattle.vc_compile_plan.specs.Tables.{object_from, objects_from}
-use Rattle.vc_compile_plan.specs.Variables.{members_if, members_of, set_at, sets_at, sets_of, var_at, vars_at}
+use Rattle.vc_compile_plan.specs.Variables.{members_of, set_at, sets_at, sets_of, var_at, vars_at}
 use Rattle.vc_compile_laws.specs.Classes.{HasClasses}
 use Rattle.vc_compile_laws.specs.Compiles.{CompiledKeeps}
+use Rattle.vc_compile_valid.proofs.PlaceLaws.{class_same}
 use Rattle.vc_compile_valid.proofs.SlotwiseLaws.{at_slot, below_count}
 use Rattle.vc_compile_valid.proofs.EachLaws.{Each, each_mapped, each_more, each_of_all, each_passes}
 use Rattle.vc_compile_valid.proofs.NamedLaws.{any_by_slot, any_made, each_among}
 use Rattle.vc_compile_laws.proofs.VariableLaws.{all_sets, no_sets, numbers_same, slots_same}
-
-objects_at : (model : Model) (s : ℕ) (xs : List configurable.Object) (k n : ℕ) → n ≡ s + k
-    → slice_get (objects_from model s xs) k ≡ option_map (object_from model n) (slice_get xs k)
-objects_at model s [] k n is = refl
-objects_at model s (x ∷ xs) zero n is =
-    let same : s ≡ n = omega (arith, is) in ap (λ m. Some (object_from model m x)) same
-objects_at model s (x ∷ xs) (suc k) n is = objects_at model (suc s) xs k n (omega (arith, is))
-
--- the class of a slot's object in the plan is that in the model
-class_same : (model : Model) (o : ℕ) → class_in (slice_get (objects_from model 0 model.objects) o) ≡ members_of model o
-class_same model o =
-    ap class_in (objects_at model 0 model.objects o o (no_front o)) ∙ by (slice_get model.objects o) refl
-  where
-    no_front : (i : ℕ) → i ≡ 0 + i
-    no_front i = omega arith
-
-    by : (x : Option configurable.Object) → slice_get model.objects o ≡ x
-        → class_in (option_map (object_from model o) x) ≡ members_of model o
-    by None e = sym (ap (λ y. members_if model (looking.class_in y)) e)
-    by (Some x) e = refl
 
 filter_same : (p q : ℕ → Bool) (xs : List ℕ) → Each (λ x. p x ≡ q x) xs → filter p xs ≡ filter q xs
 filter_same p q [] h = refl

@@ -11,5 +11,6 @@ pub mod StatementLaws
 pub mod TableLaws
 pub mod TextLaws
 pub mod ThingLaws
+pub mod ValidLaws
 pub mod VariableLaws
 pub mod WordLaws

@@ -13,6 +13,13 @@ ghost use Rattle.vc_compile_laws.specs.Statements.{HasFewStatements};
 ghost use Rattle.vc_compile_laws.specs.Tables.{HasTables};
 ghost use Rattle.vc_compile_laws.specs.Variables.{HasVariables};
 ghost use Rattle.vc_compile_laws.specs.Words.{HasTexts, HasWords};
+ghost use Rattle.vc_compile_meant.specs.Scopes.{HasNets, HasScopes};
+ghost use Rattle.vc_compile_meant.specs.Sorts.{HasAmounts};
+ghost use Rattle.vc_compile_meant.specs.Sums.{HasNoSums};
+ghost use Rattle.vc_compile_valid.specs.Domains.{HasDomains};
+ghost use Rattle.vc_compile_valid.specs.Places.{HasFewProcedures, HasPlaces};
+ghost use Rattle.vc_compile_valid.specs.Rules.{HasRules};
+ghost use Rattle.vc_compile_valid.specs.Slots.{HasLineSlots, HasOneBill, HasPreorder};
 
 /// In each such plan names, materials and units are spelled, and of each kind a name stands once.
 pub fn compiled_plans_have_words()
@@ -86,4 +93,59 @@ pub fn compiled_plans_have_classes()
 /// The statements of its procedures have numbers of 32 bits.
 pub fn compiled_plans_have_few_statements()
     ensures { CompiledKeeps HasFewStatements }
+{}
+
+/// Its rules are numbered, none stands twice, each variable has one Last and each slot but the root a Line.
+pub fn compiled_plans_have_rules()
+    ensures { CompiledKeeps HasRules }
+{}
+
+/// Its slots are in preorder, each one level below the slot whose line it stands for, and by item.
+pub fn compiled_plans_have_preorder()
+    ensures { CompiledKeeps HasPreorder }
+{}
+
+/// A line that has an object has one slot, of that object, and another line none.
+pub fn compiled_plans_have_line_slots()
+    ensures { CompiledKeeps HasLineSlots }
+{}
+
+/// Slots of one object have its lines and its operations.
+pub fn compiled_plans_have_one_bill()
+    ensures { CompiledKeeps HasOneBill }
+{}
+
+/// Its procedures and preconditions are by slot, class order and list order, and stand at listed values.
+pub fn compiled_plans_have_places()
+    ensures { CompiledKeeps HasPlaces }
+{}
+
+/// Its procedures have numbers of 32 bits.
+pub fn compiled_plans_have_few_procedures()
+    ensures { CompiledKeeps HasFewProcedures }
+{}
+
+/// Its domains are the lists of characteristics cut up, and each variable has a grain.
+pub fn compiled_plans_have_domains()
+    ensures { CompiledKeeps HasDomains }
+{}
+
+/// All but constraints reads what can be named where it stands, and procedures write to their own slot.
+pub fn compiled_plans_have_scopes()
+    ensures { CompiledKeeps HasScopes }
+{}
+
+/// Quantities and times are numbers made of numbers.
+pub fn compiled_plans_have_amounts()
+    ensures { CompiledKeeps HasAmounts }
+{}
+
+/// Rules ask no set, and SPECIFIED under no NOT.
+pub fn compiled_plans_have_nets()
+    ensures { CompiledKeeps HasNets }
+{}
+
+/// Sums over parts stand in procedures alone.
+pub fn compiled_plans_have_no_sums()
+    ensures { CompiledKeeps HasNoSums }
 {}

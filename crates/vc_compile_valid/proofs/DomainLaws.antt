@@ -114,11 +114,11 @@ domain_some numbers (values.Numbers decimals unit listed) proper some =
     ∙ cut_some decimals (map grain_of listed) numbers parts.0 parts.1 (ap (nat_lt 0) (length-map listed grain_of) ∙ some)
 
 -- what a characteristic's list and domain are
-record IsListed (model : Model) (tables : List VariantTable) (plan : Plan) (c : ℕ) : Type 0 where
-  x : Characteristic
-  at : slice_get model.characteristics c ≡ Some x
-  list : slice_get plan.characteristics c ≡ Some (characteristic_from x)
-  domain : slice_get plan.domains c ≡ Some (cut_domain (cuts_at (all_marks (layout_of model) tables) (0 + c)) (domain_of x.values))
+pub record IsListed (model : Model) (tables : List VariantTable) (plan : Plan) (c : ℕ) : Type 0 where
+  pub x : Characteristic
+  pub at : slice_get model.characteristics c ≡ Some x
+  pub list : slice_get plan.characteristics c ≡ Some (characteristic_from x)
+  pub domain : slice_get plan.domains c ≡ Some (cut_domain (cuts_at (all_marks (layout_of model) tables) (0 + c)) (domain_of x.values))
 
 listed : (model : Model) (tables : List VariantTable) (plan : Plan) → IsPlanOf model tables plan → (c : ℕ)
     → c < length plan.characteristics → IsListed model tables plan c
@@ -164,11 +164,11 @@ each_there P (y ∷ xs) zero x h e = let same : y ≡ x = cc in subst P same h.0
 each_there P (y ∷ xs) (suc k) x h e = each_there P xs k x h.1 e
 
 -- what is known of a variable
-record IsVarOf (model : Model) (tables : List VariantTable) (plan : Plan) (x : Var) : Type 0 where
-  known : IsListed model tables plan x.characteristic
-  domain : slice_get plan.domains x.domain ≡ Some (cut_domain (cuts_at (all_marks (layout_of model) tables) (0 + x.characteristic)) (domain_of known.x.values))
+pub record IsVarOf (model : Model) (tables : List VariantTable) (plan : Plan) (x : Var) : Type 0 where
+  pub known : IsListed model tables plan x.characteristic
+  pub domain : slice_get plan.domains x.domain ≡ Some (cut_domain (cuts_at (all_marks (layout_of model) tables) (0 + x.characteristic)) (domain_of known.x.values))
 
-var_is : (model : Model) (tables : List VariantTable) (plan : Plan) → IsPlanOf model tables plan → HasLists plan → (v : ℕ) (x : Var)
+pub var_is : (model : Model) (tables : List VariantTable) (plan : Plan) → IsPlanOf model tables plan → HasLists plan → (v : ℕ) (x : Var)
     → slice_get plan.vars v ≡ Some x → IsVarOf model tables plan x
 var_is model tables plan is lists v x e =
     let parts = and_parts (is_of plan.slots x.slot) (is_of plan.characteristics x.characteristic && is_of plan.domains x.domain)

@@ -1,0 +1,14 @@
+pub mod ColumnLaws
+pub mod ComponentLaws
+pub mod FaultLaws
+pub mod MeaningLaws
+pub mod MonotoneLaws
+pub mod NetLaws
+pub mod ProcedureLaws
+pub mod ScopeLaws
+pub mod ScopeRecords
+pub mod SortLaws
+pub mod SoundLaws
+pub mod SumLaws
+pub mod TreeLaws
+pub mod TupleLaws

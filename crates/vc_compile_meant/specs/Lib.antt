@@ -1,0 +1,5 @@
+pub mod Calls
+pub mod Scopes
+pub mod Sorts
+pub mod Sums
+pub mod Trees
