@@ -1,6 +1,6 @@
 //! The bill: of each instance its lines that are taken, each followed by the bill of its component.
 
-ghost use Rattle.std.specs.Prelude.{◌≡◌, ◌<◌, ◌≤◌, ◌+◌, ◌^◌, ◌&&◌, ◌==◌, ◌++◌, length, map, slice_get, IfOk, OnOk, Some};
+ghost use Rattle.std.specs.Prelude.{◌≡◌, ◌<◌, ◌≤◌, ◌+◌, ◌&&◌, ◌==◌, ◌++◌, length, map, slice_get, IfOk, OnOk};
 ghost use Rattle.vc_plan.specs.Bills.{bill_from, bill_line, bill_of, component_of, is_line_of, takes_line};
 ghost use Rattle.vc_plan.specs.Domains.{numbers_below};
 ghost use Rattle.vc_plan.specs.Readings.{full_reading};

@@ -1,5 +1,5 @@
-//! A root with three lines, of which one is a component with a line of its own and one has a selection condition that is
-//! unknown. No variable has a value, so one quantity and the time are missing.
+//! A root with three lines, of which one is a component with a line of its own and one has a selection condition that
+//! is unknown. No variable has a value, so one quantity and the time are missing.
 
 ghost use Rattle.std.specs.Prelude.{◌≡◌, ◌∷◌, [], true, false, pos, length, IfOk};
 ghost use Rattle.vc_value.specs.declared.table_header.Domain.TheVariants.{Texts};

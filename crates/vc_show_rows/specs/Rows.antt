@@ -1,6 +1,6 @@
 -- What `show` tells of an instance: a row for each characteristic of its class, but for those that are hidden without a value.
-use Rattle.std.specs.Prelude.{ℕ, Bool, true, false, not, ◌&&◌, ◌==◌, if◌then◌else◌, List, [], ◌∷◌, length, slice_get, option_to_list, Option, None, Some}
-use Rattle.std.specs.List.{filter, find, flat_map}
+use Rattle.std.specs.Prelude.{ℕ, Bool, false, not, ◌&&◌, ◌==◌, if◌then◌else◌, List, [], ◌∷◌, length, slice_get, option_to_list, Option, None, Some}
+use Rattle.std.specs.List.{find, flat_map}
 use Rattle.vc_value.specs.declared.value.Value.{Value}
 use Rattle.vc_value.specs.Grains.{unit_of}
 use Rattle.vc_plan.specs.declared.conditions.Piece.{Piece}

@@ -1,6 +1,6 @@
 //! The values of a variable that are left and not hidden, as pieces of its list.
 
-ghost use Rattle.std.specs.Prelude.{◌≡◌, ◌++◌, ◌&&◌, ◌<◌, ◌^◌, ◌≤◌, not, map, option_to_list, slice_get, IfOk, OnOk, Some};
+ghost use Rattle.std.specs.Prelude.{◌≡◌, ◌++◌, ◌&&◌, not, map, option_to_list, slice_get, IfOk, OnOk, Some};
 ghost use Rattle.std.specs.List.{flat_map};
 ghost use Rattle.vc_value.specs.Grains.{unit_of};
 ghost use Rattle.vc_plan.specs.Classes.{list_at};

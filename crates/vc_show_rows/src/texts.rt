@@ -144,7 +144,8 @@ fn put_pieces(
     plan: &Plan,
     pieces: &[Piece],
 ) -> Result<(), AllocError>
-    ensures { OnOk result (out.new ≡ out.old ++ flat_map (λ piece. codes " " ++ told.piece_text plan.now piece) pieces.now) }
+    ensures { OnOk result (out.new ≡ out.old
+        ++ flat_map (λ piece. codes " " ++ told.piece_text plan.now piece) pieces.now) }
 {
     for piece in pieces {
         out.append_text(" ")?;
@@ -197,7 +198,8 @@ fn put_chosen(
     required: bool,
 ) -> Result<(), AllocError>
     ensures { OnOk result (out.new ≡ out.old ++ (told.name_of plan.now (Set set) ++ (codes " {"
-        ++ (flat_map (λ t. codes " " ++ told.text_of plan.now t) texts.now ++ (codes " }" ++ told.end_of_row required))))) }
+        ++ (flat_map (λ t. codes " " ++ told.text_of plan.now t) texts.now
+        ++ (codes " }" ++ told.end_of_row required))))) }
 {
     put_set_name(out, plan, set)?;
     out.append_text(" {")?;

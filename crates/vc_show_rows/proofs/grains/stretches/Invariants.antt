@@ -1,5 +1,5 @@
 -- What is put so far, with the grains to come, is all of it.
-use Rattle.std.proofs.Common.{◌≡◌, ◌-◌, ◌≤◌, ◌++◌, drop, length, map}
+use Rattle.std.proofs.Common.{◌≡◌, ◌-◌, ◌≤◌, ◌++◌, drop, map}
 use Rattle.vc_plan.specs.declared.conditions.Piece.TheVariants.{Stretch}
 use Rattle.vc_show_rows.proofs.grains.stretches.Given as goal
 
