@@ -1,5 +1,5 @@
 -- Whether one of the numbers below a limit passes a test, and what the numbers from one on give.
-use Rattle.std.proofs.Common.{◌≡◌, ℕ, suc, ◌+◌, ◌-◌, ◌<◌, ◌≤◌, Bool, true, false, ◌||◌, List, [], ◌++◌, ◌∙◌, ap, inl, inr, arith}
+use Rattle.std.proofs.Common.{◌≡◌, ℕ, suc, ◌+◌, ◌-◌, ◌<◌, ◌≤◌, Bool, true, false, ◌||◌, List, [], ◌++◌, sym, ◌∙◌, ap, append_assoc, inl, inr, arith}
 use Rattle.std.specs.Prelude.{nat_eq}
 use Rattle.std.specs.List.{flat_map, list_any, range_with_len}
 use Rattle.vc_base.specs.Numbers.{numbers_below}
@@ -49,3 +49,11 @@ pub walk_done : {Y : Type 0} (g : ℕ → List Y) (n end : ℕ) → end ≤ n �
 walk_done g n end past = let none : end - n ≡ 0 = omega (arith, past) in ap (λ k. flat_map g (range_with_len n k)) none
 
 pub ruleset walking = (walk_next, walk_done)
+
+-- what is put so far, with what the numbers to come give, is all of it: also when the next has been put
+pub walk_on : {Y : Type 0} (g : ℕ → List Y) (n end : ℕ) (out next whole : List Y) → n < end → next ≡ out ++ g n
+    → out ++ flat_map g (range_with_len n (end - n)) ≡ whole → next ++ flat_map g (range_with_len (n + 1) (end - (n + 1))) ≡ whole
+walk_on g n end out next whole low put so_far =
+    let rest = flat_map g (range_with_len (n + 1) (end - (n + 1))) in
+    ap (λ xs. xs ++ rest) put
+    ∙ (append_assoc out (g n) rest ∙ (ap (λ xs. out ++ xs) (sym (walk_next g n end low)) ∙ so_far))

@@ -2,7 +2,6 @@
 
 ghost use Rattle.std.specs.Prelude.{◌≡◌, ◌&&◌, is_none, map, slice_get};
 ghost use Rattle.std.specs.List.{find, list_any};
-ghost use Rattle.vc_plan.specs.Pieces.{is_part};
 ghost use Rattle.vc_plan.specs.Readings.{full_reading};
 ghost use Rattle.vc_plan.specs.Showing.{covers, has_guarded, is_forbidden, is_hidden, is_named_here, is_value_hidden};
 ghost use Rattle.vc_plan.specs.Showing.{is_violated, same_named};
@@ -15,6 +14,7 @@ use crate::guarding::{guards_of, is_forbidden};
 use crate::naming::{has_guarded, is_here, same_named, slot_of};
 use crate::sets::texts_of;
 use vc_plan::{Guard, Named, Piece, Plan, Reading};
+use vc_rule_grains::allowing::is_part;
 use vc_rule_grains::grains::piece;
 use vc_rule_terms::elements::element;
 
@@ -56,20 +56,6 @@ pub fn hidden<R: Reading>(plan: &Plan, reading: &R, named: Named) -> bool
         (full_reading plan.now (R.seen reading.now) (R.holdings reading.now)) named }
 {
     some_hides(plan, reading, named, guards_of(plan, slot_of(plan, named)))
-}
-
-// Whether all that the first piece has is in the second.
-fn is_part(part: Piece, whole: Piece) -> bool
-    ensures { result ≡ is_part part whole }
-{
-    match (part, whole) {
-        (Piece::OneText(text), Piece::OneText(other)) => text == other,
-        (Piece::Stretch(part), Piece::Stretch(whole)) => {
-            whole.low.millionths <= part.low.millionths
-                && part.high.millionths <= whole.high.millionths
-        }
-        _ => false,
-    }
 }
 
 fn covers(grain: Piece, value: Option<Piece>) -> bool

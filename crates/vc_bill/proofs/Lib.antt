@@ -1,0 +1,6 @@
+pub mod AmountLemmas
+pub mod BillLemmas
+pub mod ComponentLemmas
+pub mod FittingLaws
+pub mod SelectingLemmas
+pub mod TextRows

@@ -1,0 +1,4 @@
+pub mod Components
+pub mod Fitting
+pub mod Texts
+pub mod Walking
