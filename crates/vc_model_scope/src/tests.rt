@@ -27,9 +27,27 @@ fn lines_make_a_scope(rt: HostRuntime) -> Result<(), Fail> {
     let scope = builder.scope();
     assert!(rt; scope.counted && scope.head && !scope.root);
     assert!(rt; scope.declared.characteristics.place(b"FLOW".as_slice()) == Some(1));
-    assert!(rt; scope.declared.characteristics.place_near(b"FLOW".as_slice(), 1) == Some(1));
-    assert!(rt; scope.declared.characteristics.place_near(b"FLOW".as_slice(), 0) == Some(1));
-    assert!(rt; scope.declared.characteristics.place_near(b"HEAD".as_slice(), 2) == None);
+    assert!(rt;
+        scope
+            .declared
+            .characteristics
+            .place_near(b"FLOW".as_slice(), 1)
+            == Some(1)
+    );
+    assert!(rt;
+        scope
+            .declared
+            .characteristics
+            .place_near(b"FLOW".as_slice(), 0)
+            == Some(1)
+    );
+    assert!(rt;
+        scope
+            .declared
+            .characteristics
+            .place_near(b"HEAD".as_slice(), 2)
+            == None
+    );
     assert!(rt; scope.declared.multiples.has(b"SIZE".as_slice()));
     assert!(rt; !scope.declared.multiples.has(b"FLOW".as_slice()));
     assert!(rt; scope.declared.texts.len() == 2);

@@ -289,7 +289,7 @@ wrote plan users k stage old flagged new net late of is next found flags nets so
     let told : new.late ≡ flags_before plan k old = kept ∙ ap (λ s. s.late) is in
     let entries : flagged.overlay ≡ old.overlay = ap (λ s. s.overlay) is in
     let long : length new.overlay ≡ length old.overlay =
-        ap length written ∙ stages_keep_lengths plan (holds users) stage late (said_by net) flagged.overlay ∙ ap length entries in
+    ap length written ∙ stages_keep_lengths plan (holds users) stage late (said_by net) flagged.overlay ∙ ap length entries in
     record {
       of = stages_are plan old new of (subst (AllByRecursion (IsNetOf plan)) (sym all) of.nets) (ap length all) long
           (subst (AreFor plan) (sym (sources ∙ ap (λ s. s.sources) is)) of.sources) (ap length told ∙ flags_long plan old k of);

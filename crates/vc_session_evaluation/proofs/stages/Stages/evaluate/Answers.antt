@@ -47,7 +47,7 @@ returns-then-settle-clause-evaluated g c =
     let last : ℕ = c.stages-last.result - 1 in
     let there : c.loop-stage.stage ≡ last = omega (arith, c.loop-stage-test.false, c.loop-stage.auto.stage-end) in
     let calm : c.mark_late.new.self.broken ≡ None =
-        c.mark_late.ensures.broken ∙ c.settle-2.ensures.broken ∙ c.loop-stage.invariant.calm in
+    c.mark_late.ensures.broken ∙ c.settle-2.ensures.broken ∙ c.loop-stage.invariant.calm in
     subst (EndsAt plan users c.mark_late.new.self) (sym calm)
     (ends plan users last c.loop-stage.self c.settle-2.new.self c.mark_late.new.self (omega (arith, c.stages-last.ensures))
     (subst (IsAt plan users c.loop-stage.self) there c.loop-stage.invariant.at)
