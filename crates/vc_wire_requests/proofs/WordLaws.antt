@@ -62,45 +62,25 @@ all_grow p q more (byte ∷ word) h =
     let parts = and_parts (p byte) (list_all p word) h in
     and_from (q byte) (list_all q word) (more byte parts.0) (all_grow p q more word parts.1)
 
-session_byte : (byte : ℕ) → is_session_byte byte ≡ true → not (byte == 32) ≡ true
-session_byte byte h = by (byte == 32) refl
+-- a byte that passes a test which a space doesn't is no space
+no_space : (test : ℕ → Bool) → test 32 ≡ false → (byte : ℕ) → test byte ≡ true → not (byte == 32) ≡ true
+no_space test fails byte h = by (byte == 32) refl
   where
     by : (b : Bool) → (byte == 32) ≡ b → not b ≡ true
-    by true e = absurd (cc (sym (ap is_session_byte (eqb-true byte 32 e)) ∙ h))
-    by false e = refl
-
-name_byte : (byte : ℕ) → is_name_byte byte ≡ true → not (byte == 32) ≡ true
-name_byte byte h = by (byte == 32) refl
-  where
-    by : (b : Bool) → (byte == 32) ≡ b → not b ≡ true
-    by true e = absurd (cc (sym (ap is_name_byte (eqb-true byte 32 e)) ∙ h))
-    by false e = refl
-
-digit_byte : (byte : ℕ) → is_ascii_digit byte ≡ true → not (byte == 32) ≡ true
-digit_byte byte h = by (byte == 32) refl
-  where
-    by : (b : Bool) → (byte == 32) ≡ b → not b ≡ true
-    by true e = absurd (cc (sym (ap is_ascii_digit (eqb-true byte 32 e)) ∙ h))
-    by false e = refl
-
-begin_byte : (byte : ℕ) → begins_name byte ≡ true → not (byte == 32) ≡ true
-begin_byte byte h = by (byte == 32) refl
-  where
-    by : (b : Bool) → (byte == 32) ≡ b → not b ≡ true
-    by true e = absurd (cc (sym (ap begins_name (eqb-true byte 32 e)) ∙ h))
+    by true e = absurd (cc (sym fails ∙ sym (ap test (eqb-true byte 32 e)) ∙ h))
     by false e = refl
 
 pub session_unspaced : (word : List ℕ) → is_session_name word ≡ true → is_unspaced word ≡ true
 session_unspaced word h =
-    all_grow is_session_byte (λ byte. not (byte == 32)) session_byte word
+    all_grow is_session_byte (λ byte. not (byte == 32)) (no_space is_session_byte refl) word
     (and_parts (nat_lt 0 (length word) && nat_le (length word) 40) (list_all is_session_byte word) h).1
 
 pub name_unspaced : (word : List ℕ) → is_name word ≡ true → is_unspaced word ≡ true
 name_unspaced [] h = refl
 name_unspaced (first ∷ more) h =
     let parts = and_parts (begins_name first) (ends_name more) h in
-    and_from (not (first == 32)) (is_unspaced more) (begin_byte first parts.0)
-    (all_grow is_name_byte (λ byte. not (byte == 32)) name_byte more (and_parts (nat_lt (length more) 30) (list_all is_name_byte more) parts.1).1)
+    and_from (not (first == 32)) (is_unspaced more) (no_space begins_name refl first parts.0)
+    (all_grow is_name_byte (λ byte. not (byte == 32)) (no_space is_name_byte refl) more (and_parts (nat_lt (length more) 30) (list_all is_name_byte more) parts.1).1)
 
 -- an instance's number
 digits_of_index : (word : List ℕ) → is_index word ≡ true → are_digits word ≡ true
@@ -111,7 +91,7 @@ digits_of_index (first ∷ more) h =
 
 pub index_unspaced : (word : List ℕ) → is_index word ≡ true → is_unspaced word ≡ true
 index_unspaced word h =
-    all_grow is_ascii_digit (λ byte. not (byte == 32)) digit_byte word
+    all_grow is_ascii_digit (λ byte. not (byte == 32)) (no_space is_ascii_digit refl) word
     (and_parts (not (length word == 0)) (list_all is_ascii_digit word) (digits_of_index word h)).1
 
 -- upper case
