@@ -1,6 +1,7 @@
 //! Lines that spell requests, and the lines that are written of them.
 
-use crate::{Request, line_text, read_line};
+use crate::laws::written_is_read;
+use crate::{line_text, read_line};
 use std::alloc::{AllocError, Global};
 use std::test::Fail;
 
@@ -22,6 +23,7 @@ fn spells_none(alloc: Global, line: &[u8]) -> Result<bool, AllocError> {
 
 #[test]
 fn lines_are_read_and_written(rt: HostRuntime) -> Result<(), Fail> {
+    written_is_read();
     assert!(rt; is_written(rt.alloc(), b"OPEN desk-1", b"open desk-1")?);
     assert!(rt; is_written(rt.alloc(), b"close a", b"close a")?);
     assert!(rt; is_written(rt.alloc(), b"Set a 12 size L x", b"set a 12 SIZE L x")?);
