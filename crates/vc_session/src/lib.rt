@@ -6,3 +6,6 @@ pub mod listing;
 pub mod session;
 
 pub use session::{NotSet, Session, SetFault};
+
+#[cfg(test)]
+mod tests;

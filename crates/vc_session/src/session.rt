@@ -197,18 +197,11 @@ impl Session {
 }
 
 impl Session {
-    ghost use Rattle.std.specs.Prelude.{◌≡◌, ◌<◌, Some, length, option_copied, pred, slice_get};
+    ghost use Rattle.std.specs.Prelude.{◌≡◌, length, option_copied, pred, slice_get};
     ghost use Rattle.vc_plan.specs.Showing.{is_named_here};
     ghost use Rattle.vc_session.specs.Sessions.{is_away, last_seen, set_fault};
 
-    /// The net of the last stage; it has settled where no stage is broken.
-    pub fn last(&self) -> &Net
-        requires { 0 < length self.now.stages.nets.items }
-        ensures { slice_get self.now.stages.nets.items (pred (length self.now.stages.nets.items)) ≡ Some result.now }
-    {
-        &self.stages.nets[self.stages.nets.len() - 1]
-    }
-
+    // The net of the last stage; it has settled where no stage is broken.
     fn last_net(&self) -> Option<&Net>
         ensures { option_copied result ≡ slice_get self.now.stages.nets.items (pred (length self.now.stages.nets.items)) }
     {

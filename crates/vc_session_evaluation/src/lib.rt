@@ -7,3 +7,6 @@ pub mod settling;
 pub mod stages;
 
 pub use stages::Stages;
+
+#[cfg(test)]
+mod tests;
