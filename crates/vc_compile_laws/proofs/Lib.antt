@@ -1,6 +1,7 @@
 pub mod AtSlotLaws
 pub mod BillLaws
 pub mod ClassLaws
+pub mod GrammarLaws
 pub mod GuardLaws
 pub mod ListedLaws
 pub mod OrderLaws

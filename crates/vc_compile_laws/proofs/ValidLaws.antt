@@ -33,14 +33,18 @@ use Rattle.vc_compile_valid.proofs.OneBillLaws as one_bill
 use Rattle.vc_compile_valid.proofs.PlaceLaws as places
 use Rattle.vc_compile_valid.proofs.PreorderLaws as preorder
 use Rattle.vc_compile_valid.proofs.RuleLaws as rules
-use Rattle.vc_compile_meant.specs.Scopes.{HasNets, HasScopes}
+use Rattle.vc_compile_meant.specs.Calls.{HasColumns}
+use Rattle.vc_compile_meant.specs.Scopes.{HasNets, HasOwnSlots, HasScopes}
 use Rattle.vc_compile_meant.specs.Sorts.{HasAmounts}
 use Rattle.vc_compile_meant.specs.Sums.{HasNoSums}
+use Rattle.vc_compile_meant.proofs.ColumnLaws as columns
 use Rattle.vc_compile_meant.proofs.MonotoneLaws as monotone
 use Rattle.vc_compile_meant.proofs.ScopeRecords as scopes
 use Rattle.vc_compile_meant.proofs.SortLaws as sorts
 use Rattle.vc_compile_meant.proofs.SumLaws as sums
+use Rattle.vc_tree_laws.proofs.ModelTreeLaws.{spelled_keeps_trees}
 use Rattle.vc_compile_laws.specs.Compiles.{CompiledKeeps}
+use Rattle.vc_compile_laws.proofs.GrammarLaws.{keeps_bindings, keeps_objects}
 use Rattle.vc_compile_laws.proofs.ListedLaws.{has_lists}
 use Rattle.vc_compile_laws.proofs.SizeLaws.{is_within}
 use Rattle.vc_compile_laws.proofs.SlotLaws.{has_slots}
@@ -161,3 +165,13 @@ has_nets text model tables plan spells read compiles = monotone.has_nets model t
 
 pub has_no_sums : CompiledKeeps HasNoSums
 has_no_sums text model tables plan spells read compiles = sums.has_no_sums model tables plan compiles.is_its compiles.typed
+
+pub has_own_slots : CompiledKeeps HasOwnSlots
+has_own_slots text model tables plan spells read compiles =
+    scopes.has_own_slots model tables plan compiles.is_its
+    (keeps_objects model (spelled_keeps_trees text (seen_model model) spells)) compiles.typed
+
+pub has_columns : CompiledKeeps HasColumns
+has_columns text model tables plan spells read compiles =
+    columns.has_columns model tables plan compiles.is_its
+    (keeps_bindings model (spelled_keeps_trees text (seen_model model) spells)) compiles.typed

@@ -13,7 +13,8 @@ ghost use Rattle.vc_compile_laws.specs.Statements.{HasFewStatements};
 ghost use Rattle.vc_compile_laws.specs.Tables.{HasTables};
 ghost use Rattle.vc_compile_laws.specs.Variables.{HasVariables};
 ghost use Rattle.vc_compile_laws.specs.Words.{HasTexts, HasWords};
-ghost use Rattle.vc_compile_meant.specs.Scopes.{HasNets, HasScopes};
+ghost use Rattle.vc_compile_meant.specs.Calls.{HasColumns};
+ghost use Rattle.vc_compile_meant.specs.Scopes.{HasNets, HasOwnSlots, HasScopes};
 ghost use Rattle.vc_compile_meant.specs.Sorts.{HasAmounts};
 ghost use Rattle.vc_compile_meant.specs.Sums.{HasNoSums};
 ghost use Rattle.vc_compile_valid.specs.Domains.{HasDomains};
@@ -148,4 +149,14 @@ pub fn compiled_plans_have_nets()
 /// Sums over parts stand in procedures alone.
 pub fn compiled_plans_have_no_sums()
     ensures { CompiledKeeps HasNoSums }
+{}
+
+/// A constraint's rule stands at one slot to four, and reads and infers variables of these alone.
+pub fn compiled_plans_have_own_slots()
+    ensures { CompiledKeeps HasOwnSlots }
+{}
+
+/// A table call of a rule names columns, each once.
+pub fn compiled_plans_have_columns()
+    ensures { CompiledKeeps HasColumns }
 {}

@@ -1,12 +1,17 @@
 -- Blocks are UTF-8 where a text is, so the texts in a model's dependencies are texts; and their statements are few.
 use Rattle.std.proofs.Common.{◌≡◌, ℕ, zero, suc, Bool, true, List, [], ◌∷◌, Option, Some, None}
-use Rattle.std.proofs.Common.{IsUtf8, refl, sym, subst, arith}
+use Rattle.std.proofs.Common.{IsUtf8, Result, refl, sym, subst, arith}
 use Rattle.std.specs.Prelude.{option_map}
+use Rattle.std.specs.Result.{result_ok}
 use Rattle.std.specs.List.{list_all}
 use Rattle.std.specs.Str.{IsAscii}
 use Rattle.std.proofs.lemmas.Str.{IsUtf8-append, IsUtf8-nil, IsUtf8-from_ascii, IsUtf8-from_is_utf8}
 use Rattle.vc_syntax_tokens.specs.declared.fault.Kind.{Kind}
+use Rattle.vc_syntax_tokens.specs.declared.fault.SyntaxFault.{SyntaxFault}
 use Rattle.vc_syntax_terms.specs.Trees.{Dependency}
+use Rattle.vc_syntax.specs.DependencyTexts.{dependency_in}
+use Rattle.vc_syntax.proofs.SpelledLaws as ways
+use Rattle.vc_syntax.proofs.SpelledLaws.{Found, found}
 use Rattle.vc_model_lines.specs.Classified.{lines_of}
 use Rattle.vc_model_lines.specs.declared.line.Line.{Line}
 use Rattle.vc_model_lines.specs.declared.line.Line.TheVariants as lines
@@ -27,8 +32,9 @@ use Rattle.vc_model_laws.proofs.NamesLaws.{made}
 use Rattle.vc_model_laws.proofs.Walks.{Sound, Stands, sound}
 use Rattle.std.specs.Prelude.{nat_le}
 use Rattle.std.proofs.lemmas.Bool.{le-leb}
-use Rattle.vc_tree_laws.specs.Statements.{statements_in, KeepsStatements}
 use Rattle.vc_tree_laws.specs.Literals.{is_literal, KeepsLiterals}
+use Rattle.vc_tree_laws.specs.Spelled.{IsSpelled, KeepsTrees}
+use Rattle.vc_tree_laws.specs.Statements.{statements_in, KeepsStatements}
 use Rattle.vc_tree_laws.proofs.TreeLaws.{GoodTree, Has, text_has}
 
 -- the text of a block
@@ -86,18 +92,28 @@ block_is earlier [] s = IsUtf8-nil
 block_is earlier (line ∷ below) s =
     with_text (inner_of line) (more_text below) (inner_is line s.0.formed) (more_is (line ∷ earlier) below s.1)
 
+-- a tree that a block reads
+abbrev ReadTree : Dependency → Type 0
+ReadTree tree = GoodTree tree × IsSpelled tree
+
 -- a dependency that a block reads passes a test of its tree
 abbrev Holds : (Dependency → Bool) → Type 0
-Holds test = (tree : Dependency) → GoodTree tree → test tree ≡ true
+Holds test = (tree : Dependency) → ReadTree tree → test tree ≡ true
 
-read_has : (test : Dependency → Bool) → Holds test → (n : ℕ) (x : BlockLine) (o : Option Dependency) → Has GoodTree o
+read_has : (test : Dependency → Bool) → Holds test → (n : ℕ) (x : BlockLine) (o : Option Dependency) → Has ReadTree o
     → each (λ d. test d.tree) (option_map (dependency_made n x) (dependency_read (Some (dependency_reading o)))) ≡ true
 read_has test holds n x None h = refl
 read_has test holds n x (Some tree) h = holds tree h
 
-tree_has : (kind : Kind) (text : List ℕ) → IsUtf8 text → Has GoodTree (tree_in kind text)
+found_has : (kind : Kind) (text : List ℕ) (r : Result Dependency SyntaxFault) → Found kind text r
+    → Has GoodTree (result_ok r) → Has ReadTree (result_ok r)
+found_has kind text _ (ways.tree spells) good = (good, record { kind = kind; text = text; spells = spells })
+found_has kind text _ (ways.fault fault) good = tt
+found_has kind text _ ways.memory good = tt
+
+tree_has : (kind : Kind) (text : List ℕ) → IsUtf8 text → Has ReadTree (tree_in kind text)
 unfolding tree_in
-tree_has kind text h = text_has kind text h
+tree_has kind text h = found_has kind text (dependency_in kind text) (found kind text) (text_has kind text h)
 
 block_has : (test : Dependency → Bool) → Holds test → (n : ℕ) (x : BlockLine) (below : List Line)
     → IsUtf8 (block_text below)
@@ -150,12 +166,17 @@ spelled P keeps text model spells =
 pub spelled_keeps_literals : SpelledKeeps KeepsLiterals
 spelled_keeps_literals =
     spelled KeepsLiterals
-    (λ ls s. record { literals = all_trees (λ tree. list_all is_literal (texts_in tree)) (λ tree g. g.0) ls s })
+    (λ ls s. record { literals = all_trees (λ tree. list_all is_literal (texts_in tree)) (λ tree read. read.0.0) ls s })
 
 pub spelled_keeps_statements : SpelledKeeps KeepsStatements
 spelled_keeps_statements =
     spelled KeepsStatements
     (λ ls s. record {
       statements = all_trees (λ tree. nat_le (statements_in tree) 4_001)
-          (λ tree g. le-leb (statements_in tree) 4_001 g.1) ls s;
+          (λ tree read. le-leb (statements_in tree) 4_001 read.0.1) ls s;
     })
+
+pub spelled_keeps_trees : SpelledKeeps KeepsTrees
+spelled_keeps_trees =
+    spelled KeepsTrees
+    (λ ls s. record { trees = λ test holds. all_trees test (λ tree read. holds tree read.1) ls s })

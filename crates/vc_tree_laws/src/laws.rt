@@ -2,6 +2,7 @@
 
 ghost use Rattle.vc_model_laws.specs.Laws.{SpelledKeeps};
 ghost use Rattle.vc_tree_laws.specs.Literals.{KeepsLiterals, ReadTextsAreTexts};
+ghost use Rattle.vc_tree_laws.specs.Spelled.{KeepsTrees};
 ghost use Rattle.vc_tree_laws.specs.Statements.{KeepsStatements};
 
 /// Each text that stands in what is read as a dependency has 1 to 30 characters, and is UTF-8 where what is read is.
@@ -17,4 +18,9 @@ pub fn spelled_models_keep_literals()
 /// No procedure of such a model has more statements than a dependency has tokens, and one.
 pub fn spelled_models_keep_statements()
     ensures { SpelledKeeps KeepsStatements }
+{}
+
+/// What holds of each tree that the grammar has holds of each dependency of such a model.
+pub fn spelled_models_keep_trees()
+    ensures { SpelledKeeps KeepsTrees }
 {}
