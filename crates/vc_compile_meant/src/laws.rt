@@ -1,5 +1,5 @@
-//! What every plan keeps of a model whose dependencies are typed without a fault, each law the contract of a function that
-//! does nothing.
+//! What every plan keeps of a model whose dependencies are typed without a fault, each law the contract of a function
+//! that does nothing.
 
 ghost use Rattle.vc_compile_meant.specs.Calls.{HasColumns, KeepsBindings};
 ghost use Rattle.vc_compile_meant.specs.Scopes.{HasNets, HasOwnSlots, HasScopes, IsTyped};

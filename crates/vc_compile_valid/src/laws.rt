@@ -10,8 +10,8 @@ ghost use Rattle.vc_compile_valid.specs.Plans.{PlansKeep};
 ghost use Rattle.vc_compile_valid.specs.Rules.{HasRules};
 ghost use Rattle.vc_compile_valid.specs.Slots.{HasLineSlots, HasOneBill, HasPreorder};
 
-/// Its rules are numbered, none stands twice, each variable has one Last and each slot but the root a Line; what is of no
-/// dependency asks nothing, and no variable alone is compared with a literal.
+/// Its rules are numbered, none stands twice, each variable has one Last and each slot but the root a Line; what is of
+/// no dependency asks nothing, and no variable alone is compared with a literal.
 pub fn plans_have_rules()
     ensures { PlansKeep (λ model plan. HasRules plan) }
 {}
@@ -21,10 +21,11 @@ pub fn plans_have_preorder()
     ensures { PlansKeep (λ model plan. HasPreorder plan) }
 {}
 
-/// A line that has an object has one slot, of that object, and its selection conditions stand in rules; another line has
-/// none.
+/// A line that has an object has one slot, of that object, and its selection conditions stand in rules; another line
+/// has none.
 pub fn plans_have_line_slots()
-    ensures { PlansKeep (λ model plan. KeepsParts model → list_all (slot_there plan) plan.slots ≡ true → HasLineSlots plan) }
+    ensures { PlansKeep (λ model plan. KeepsParts model → list_all (slot_there plan) plan.slots ≡ true
+        → HasLineSlots plan) }
 {}
 
 /// Slots of one object have its lines and its operations.
@@ -32,8 +33,8 @@ pub fn plans_have_one_bill()
     ensures { PlansKeep (λ model plan. HasOneBill plan) }
 {}
 
-/// Its procedures and preconditions are by slot, class order and list order, and what stands at a value stands at a listed
-/// one.
+/// Its procedures and preconditions are by slot, class order and list order, and what stands at a value stands at a
+/// listed one.
 pub fn plans_have_places()
     ensures { PlansKeep (λ model plan. KeepsValues model → HasOnce plan → HasPlaces plan) }
 {}
