@@ -157,8 +157,8 @@ fn plan_over(
 
 /// The plan of a model with its tables, which are in the order of the model; or the first fault for which it has none:
 /// more levels of slots than a plan may have, more slots, the first fault of the typing, then more rules, atoms or
-/// cells. What comes later isn't asked where something earlier is found. Want of memory is the only other answer. A
-/// plan that is answered is within all sizes, so its atoms and cells can be counted.
+/// cells. What comes later isn't asked where something earlier is found. Want of memory is the only other answer. A plan
+/// that is answered is within all sizes, so its atoms and cells can be counted.
 pub fn compile(alloc: Global, model: &Model, tables: &[VariantTable]) -> Result<Plan, CompileFault>
     ensures plan { IfOk result (λ plan. IsPlanOf model.now tables.now plan) }
     ensures sound { IfOk result (λ plan. IsSound model.now tables.now) }
