@@ -1,6 +1,6 @@
 -- The first element of a list that passes: the first of all, or the first of those after it; and what a look-up does.
-use Rattle.std.proofs.Common.{◌≡◌, ℕ, ◌-◌, ◌≤◌, Bool, true, false, cond, List, [], ◌∷◌, length, take, drop, get_or, refl, sym, ◌∙◌, ap, arith}
-use Rattle.std.specs.Prelude.{Option, None, Some}
+use Rattle.std.proofs.Common.{◌≡◌, ℕ, ◌-◌, ◌≤◌, Bool, true, false, cond, List, [], ◌∷◌, length, take, drop, get_or, sym, ◌∙◌, ap, arith}
+use Rattle.std.specs.Prelude.{Some}
 use Rattle.std.specs.List.{find}
 use Rattle.std.proofs.lemmas.List.{take_all}
 use Rattle.vc_plan.specs.declared.plans.Plan.{Plan}

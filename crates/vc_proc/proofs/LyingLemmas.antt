@@ -1,5 +1,5 @@
 -- What statements write lies in the grains.
-use Rattle.std.proofs.Common.{◌≡◌, ◌⊎◌, ℕ, zero, suc, ◌+◌, Bool, true, false, not, ◌&&◌, List, [], ◌∷◌, length, map, refl, sym, ◌∙◌, ap, subst, inl, inr}
+use Rattle.std.proofs.Common.{◌≡◌, ◌⊎◌, ℕ, zero, suc, ◌+◌, Bool, true, false, ◌&&◌, List, [], ◌∷◌, length, map, refl, sym, ◌∙◌, ap, subst, inl, inr}
 use Rattle.std.specs.Prelude.{if◌then◌else◌, Option, None, Some, is_none, slice_get}
 use Rattle.std.specs.List.{find}
 use Rattle.std.proofs.lemmas.List.{length-set}
@@ -29,7 +29,8 @@ use Rattle.vc_proc.specs.Overlays.{EntriesLie, held_by}
 use Rattle.vc_proc.proofs.WritingLemmas.{held_lies, left_lies}
 
 -- what is read beside entries lies in the grains where the stage's values do
-pub lies_beside : (plan : Plan) (seen : Seen) (entries : Entries) → LiesInGrains plan seen → EntriesLie plan entries → LiesInGrains plan (seen_beside seen entries)
+pub lies_beside : (plan : Plan) (seen : Seen) (entries : Entries) → LiesInGrains plan seen
+    → EntriesLie plan entries → LiesInGrains plan (seen_beside seen entries)
 lies_beside plan seen entries lies lie v a e = by (written_at entries v) (lie v) e
   where
     by : (o : Option Written) → ((c : Value) → held_by o ≡ Some c → lies_in_some (grains_of plan v) c ≡ true)
@@ -168,6 +169,9 @@ nothing_lies plan other v a e = by other.vars v e
     by [] n e = absurd (cc)
     by (x ∷ xs) zero e = absurd (cc)
     by (x ∷ xs) (suc n) e = by xs n e
+
+pub nothing_lies_as : (plan : Plan) (entries : Entries) → entries ≡ no_entries plan → EntriesLie plan entries
+nothing_lies_as plan entries e = subst (EntriesLie plan) (sym e) (nothing_lies plan plan)
 
 -- so what statements and procedures write lies in the grains, wherever an equation says that this is what is there
 pub stated_lies : (plan : Plan) (seen : Seen) (holds : ℕ → ℕ → Bool) (place : Place) (statement : Statement) (old new : Entries)

@@ -1,6 +1,6 @@
 -- Lists of entries, as they are kept and as they are seen.
 use Rattle.std.proofs.Common.{◌≡◌, ℕ, zero, suc, ◌+◌, ◌<◌, ◌≤◌, List, [], ◌∷◌, ◌++◌, length, map, drop, replicate, refl, sym, ◌∙◌, ap, arith}
-use Rattle.std.specs.Prelude.{Option, None, Some, option_map, slice_get, slice_index_or, slice_set}
+use Rattle.std.specs.Prelude.{Option, None, option_map, slice_get, slice_index_or, slice_set}
 use Rattle.std.proofs.lemmas.List.{length-map, length-set, map-set, set_past}
 use Rattle.vc_plan.specs.declared.plans.Plan.{Plan}
 use Rattle.vc_plan.specs.declared.plans.Var.{Var}

@@ -1,18 +1,16 @@
 -- What procedures write one after another: what was written so far and what is to come are all of it.
-use Rattle.std.proofs.Common.{◌≡◌, ℕ, zero, suc, ◌+◌, ◌-◌, ◌<◌, ◌≤◌, Bool, true, false, not, ◌&&◌, List, [], ◌∷◌, ◌++◌, length, map, drop, get_or, refl, sym, ◌∙◌, ap, inl, inr, arith}
-use Rattle.std.specs.Prelude.{◌==◌, if◌then◌else◌, Option, None, Some, flat_map, replicate, reverse, slice_get, slice_index_or}
+use Rattle.std.proofs.Common.{◌≡◌, ℕ, zero, suc, ◌+◌, ◌-◌, ◌<◌, ◌≤◌, Bool, true, false, List, [], ◌∷◌, ◌++◌, length, drop, get_or, refl, sym, ◌∙◌, ap, arith}
+use Rattle.std.specs.Prelude.{if◌then◌else◌, flat_map, reverse, slice_get}
 use Rattle.std.specs.List.{filter, range_with_len}
-use Rattle.std.proofs.lemmas.Bool.{leb-true, lt-ltb, ltb-true}
-use Rattle.std.proofs.lemmas.Bool.Decides.{eqb_tells}
 use Rattle.std.proofs.lemmas.List.{reverse-append}
 use Rattle.std.proofs.lemmas.List.Elements.{filter-append}
 use Rattle.vc_base.proofs.ListLaws.{range_split}
 use Rattle.vc_plan.specs.declared.plans.Plan.{Plan}
 use Rattle.vc_plan.specs.declared.procedures.Statement.{Statement}
 use Rattle.vc_plan.specs.Domains.{numbers_below}
-use Rattle.vc_plan.specs.Entries.{Entries, no_entries}
+use Rattle.vc_plan.specs.Entries.{Entries}
 use Rattle.vc_plan.specs.Seen.{Seen}
-use Rattle.vc_plan.specs.Statements.{Place, all_stated, stated}
+use Rattle.vc_plan.specs.Statements.{all_stated, stated}
 use Rattle.vc_plan.specs.Writes.{all_run, run_procedure}
 
 range_next : (g n : ℕ) → g < n → range_with_len g (n - g) ≡ g ∷ range_with_len (g + 1) (n - (g + 1))
@@ -34,7 +32,8 @@ module _ (plan : Plan) (seen : Seen) (holds : ℕ → ℕ → Bool) where
       ∙ ap (λ k. x ∷ drop k xs) (let one : suc n ≡ n + 1 = omega arith in one))))
 
   -- one list of procedures after another
-  run_both : (ps qs : List ℕ) (entries : Entries) → all_run plan seen holds (ps ++ qs) entries ≡ all_run plan seen holds qs (all_run plan seen holds ps entries)
+  run_both : (ps qs : List ℕ) (entries : Entries)
+      → all_run plan seen holds (ps ++ qs) entries ≡ all_run plan seen holds qs (all_run plan seen holds ps entries)
   run_both [] qs entries = refl
   run_both (p ∷ ps) qs entries = run_both ps qs (run_procedure plan seen holds p (slice_get plan.procedures p) entries)
 
@@ -70,7 +69,9 @@ module _ (plan : Plan) (seen : Seen) (holds : ℕ → ℕ → Bool) where
       ∙ sym (ap (λ gs. all_run plan seen holds (flat_map f (filter q gs)) old) (range_next g n below)))
 
   -- and from the last to the first
-  last_first : (q : ℕ → Bool) (k : ℕ) → reverse (filter q (numbers_below (k + 1))) ≡ (if q k then k ∷ reverse (filter q (numbers_below k)) else reverse (filter q (numbers_below k)))
+  last_first : (q : ℕ → Bool) (k : ℕ)
+      → reverse (filter q (numbers_below (k + 1)))
+      ≡ (if q k then k ∷ reverse (filter q (numbers_below k)) else reverse (filter q (numbers_below k)))
   last_first q k =
       ap (λ gs. reverse (filter q gs)) (range_split 0 k 1 (k + 1) k (omega arith) (omega arith))
       ∙ (ap reverse (filter-append q (numbers_below k) (k ∷ []))

@@ -1,21 +1,18 @@
 -- Laws of what is written before a stage.
-use Rattle.std.proofs.Common.{◌≡◌, ℕ, zero, suc, ◌+◌, ◌-◌, ◌<◌, ◌≤◌, ◌^◌, Bool, true, false, not, ◌&&◌, List, [], ◌∷◌, length, map, refl, sym, ◌∙◌, ap, inl, inr, arith}
-use Rattle.std.specs.Prelude.{◌==◌, if◌then◌else◌, Option, None, flat_map, replicate, reverse, slice_index_or}
+use Rattle.std.proofs.Common.{◌≡◌, ℕ, zero, suc, ◌+◌, ◌-◌, ◌<◌, ◌≤◌, ◌^◌, Bool, true, false, not, ◌&&◌, List, ◌∷◌, length, refl, sym, ◌∙◌, ap, inl, inr, arith}
+use Rattle.std.specs.Prelude.{◌==◌, if◌then◌else◌, flat_map, reverse, slice_index_or}
 use Rattle.std.specs.List.{filter, range_with_len}
 use Rattle.std.proofs.lemmas.Bool.{leb-true, ltb-true}
 use Rattle.std.proofs.lemmas.Bool.Decides.{eqb_tells}
 use Rattle.vc_plan.specs.declared.atoms.Atom.{Atom}
 use Rattle.vc_plan.specs.declared.plans.Plan.{Plan}
-use Rattle.vc_plan.specs.declared.plans.Var.{Var}
 use Rattle.vc_plan.specs.Domains.{atom_count}
-use Rattle.vc_plan.specs.Entries.{Entries, Written}
 use Rattle.vc_plan.specs.Seen.{Seen, seen_of}
-use Rattle.vc_plan.specs.Valid.{IsValid}
 use Rattle.vc_plan.specs.Writes.{all_run, instances_at, last_stage, procedures_at, was_here}
 use Rattle.vc_rule_readings.proofs.PartLemmas.{valid_sums_fit}
 use Rattle.vc_rule_table.proofs.CellLemmas.{few_grains}
 use Rattle.vc_proc.specs.Laws.{DepthsAreWritten, FlagsLate, NoneAreReplicas, StagesKeepLengths, SumsAreWritten, ValidCanRun}
-use Rattle.vc_proc.specs.Stages.{CanRun, depth_written, stage_written, sums_written, unflagged}
+use Rattle.vc_proc.specs.Stages.{depth_written, sums_written, unflagged}
 use Rattle.vc_proc.proofs.LyingLemmas.{all_run_long}
 use Rattle.vc_proc.proofs.OverlayLemmas.{none_each}
 

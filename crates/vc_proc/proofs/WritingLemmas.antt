@@ -1,7 +1,6 @@
 -- Marks tell which values lie in grains, and so which entries are made and taken away.
-use Rattle.std.proofs.Common.{◌≡◌, ℕ, Bool, true, false, not, ◌&&◌, List, [], ◌∷◌, length, refl, sym, ◌∙◌, ap}
+use Rattle.std.proofs.Common.{◌≡◌, ℕ, Bool, true, false, not, ◌&&◌, [], ◌∷◌, refl, sym, ◌∙◌, ap}
 use Rattle.std.specs.Prelude.{if◌then◌else◌, Option, None, Some, is_none}
-use Rattle.std.specs.List.{list_any}
 use Rattle.std.proofs.lemmas.Bool.{and_parts}
 use Rattle.vc_base.specs.Rounds.{atoms, clash}
 use Rattle.vc_value.specs.declared.value.Value.{Value}

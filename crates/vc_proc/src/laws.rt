@@ -1,7 +1,7 @@
 //! Laws of what is written before a stage, each the contract of a function that does nothing.
 
-ghost use Rattle.vc_proc.specs.Laws.{DepthsAreWritten, NoneAreReplicas, NothingLies, StagesKeepLengths, SumsAreWritten};
-ghost use Rattle.vc_proc.specs.Laws.{ValidCanRun};
+ghost use Rattle.vc_proc.specs.Laws.{DepthsAreWritten, NoneAreReplicas, NothingLies, StagesKeepLengths};
+ghost use Rattle.vc_proc.specs.Laws.{SumsAreWritten, ValidCanRun};
 
 /// Of a valid plan procedures can run.
 pub fn valid_can_run()
@@ -19,7 +19,8 @@ pub fn nothing_lies()
     ensures { NothingLies }
 {}
 
-/// An emptied overlay of a plan's variables has no entries of the plan, and what is written before a stage leaves as many.
+/// An emptied overlay of a plan's variables has no entries of the plan, and what is written before a stage leaves as
+/// many.
 pub fn lengths_are_kept()
     ensures none { NoneAreReplicas }
     ensures stages { StagesKeepLengths }

@@ -147,8 +147,8 @@ fn fill_all(
     }
 }
 
-/// Finds the row of the table that has the values of the terms in the keys' columns, and enters its cells in the columns
-/// that are to be filled.
+/// Finds the row of the table that has the values of the terms in the keys' columns, and enters its cells in the
+/// columns that are to be filled.
 pub fn look_up<R: Reading>(
     plan: &Plan,
     stage: &R,

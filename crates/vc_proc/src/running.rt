@@ -53,8 +53,8 @@ fn run_whole<R: Reading>(
     requires there { slice_get plan.now.procedures proc ≡ Some procedure.now }
     requires values { LiesInGrains plan.now (R.seen stage.now) }
     requires lie { EntriesLie plan.now overlay.old }
-    ensures is { overlay.new ≡ run_procedure plan.now (R.seen stage.now) (R.holdings stage.now) proc (Some procedure.now)
-        overlay.old }
+    ensures is { overlay.new ≡ run_procedure plan.now (R.seen stage.now) (R.holdings stage.now) proc
+        (Some procedure.now) overlay.old }
     ensures lie { EntriesLie plan.now overlay.new }
 {
     if is_triggered(stage, &*overlay, procedure.trigger) {

@@ -1,6 +1,7 @@
 //! Running the procedures of a stage.
 
-ghost use Rattle.std.specs.Prelude.{◌≡◌, ◌-◌, ◌^◌, ◌<◌, ◌&&◌, ◌==◌, not, false, true, if◌then◌else◌, slice_get, slice_index_or};
+ghost use Rattle.std.specs.Prelude.{◌≡◌, ◌<◌, ◌&&◌, ◌==◌, not, false, true, if◌then◌else◌, slice_get};
+ghost use Rattle.std.specs.Prelude.{slice_index_or};
 ghost use Rattle.vc_plan.specs.Evaluate.{holds};
 ghost use Rattle.vc_plan.specs.Valid.{IsValid};
 ghost use Rattle.vc_plan.specs.Writes.{all_run, depth_of, is_at, procedures_at, run_procedure};
@@ -153,7 +154,8 @@ fn run_sums<R: Reading>(plan: &Plan, stage: &R, late: &[bool], overlay: &mut Ove
     }
 }
 
-fn run<R: Reading>(plan: &Plan, number: u32, stage: &R, late: &[bool], overlay: &mut Overlay)
+/// The same of a plan of which procedures can run, by what is read in the stage before.
+pub fn run<R: Reading>(plan: &Plan, number: u32, stage: &R, late: &[bool], overlay: &mut Overlay)
     requires can { CanRun plan.now }
     requires number { 0 < number }
     requires values { LiesInGrains plan.now (R.seen stage.now) }

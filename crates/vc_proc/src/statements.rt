@@ -3,7 +3,8 @@
 ghost use Rattle.std.specs.Prelude.{◌≡◌, ◌+◌, ◌^◌, ◌<◌, length};
 ghost use Rattle.vc_plan.specs.Kleene.{is_true};
 ghost use Rattle.vc_plan.specs.Parts.{procedure_reading};
-ghost use Rattle.vc_plan.specs.Statements.{acted, all_stated, stated, with_default, with_hard, with_value, without_default};
+ghost use Rattle.vc_plan.specs.Statements.{acted, all_stated, stated, with_default, with_hard, with_value};
+ghost use Rattle.vc_plan.specs.Statements.{without_default};
 ghost use Rattle.vc_plan.specs.Truth.{number_of_value};
 ghost use Rattle.vc_rule_terms.specs.Computing.{ArgumentFits, LiesInGrains, TermsFit};
 ghost use Rattle.vc_rule_terms.specs.Values.{meant_if};

@@ -1,10 +1,9 @@
 -- Sums over parts are no larger than they may get, and their addends fit.
-use Rattle.std.proofs.Common.{◌≡◌, ℕ, zero, suc, ◌+◌, ◌-◌, ◌*◌, ◌/◌, ◌^◌, ◌<◌, ◌≤◌, max, ℤ, pos, unsigned_abs, leb, Bool, true, false, cond, ◌&&◌, List, [], ◌∷◌, length, map, refl, sym, subst, ap, ◌∙◌, inl, inr, arith}
-use Rattle.std.specs.Prelude.{if◌then◌else◌, nat_lt, Option, None, Some, is_some, option_map, slice_get}
+use Rattle.std.proofs.Common.{◌≡◌, ℕ, zero, suc, ◌+◌, ◌*◌, ◌/◌, ◌^◌, ◌≤◌, ℤ, unsigned_abs, leb, Bool, true, false, ◌&&◌, List, [], ◌∷◌, length, map, refl, sym, subst, ap, inl, inr, arith}
+use Rattle.std.specs.Prelude.{if◌then◌else◌, nat_lt, Option, None, Some, is_some, slice_get}
 use Rattle.std.specs.List.{filter, list_all, range_with_len, sum_by}
 use Rattle.std.proofs.lemmas.Bool.{and_parts, cases_lt, leb-true, lt-ltb, ltb-true}
 use Rattle.std.proofs.lemmas.List.Sums.{sum_by-cons}
-use Rattle.vc_value.specs.declared.decimal.Dec.{Dec}
 use Rattle.vc_value.specs.declared.grains.Grain.{Grain}
 use Rattle.vc_value.specs.declared.table_header.Domain.{Domain}
 use Rattle.vc_value.specs.declared.table_header.Domain.TheVariants.{Texts, Nums}
@@ -17,21 +16,20 @@ use Rattle.vc_plan.specs.declared.terms.Operator.TheVariants.{Plus, Times}
 use Rattle.vc_plan.specs.Bounds.{greatest}
 use Rattle.vc_plan.specs.Domains.{atom_count, count_of, domain_of, grains_in, grains_of, numbers_below}
 use Rattle.vc_plan.specs.Numbers.{joined, one}
-use Rattle.vc_plan.specs.Parts.{amount_at, amount_of, count_of_parts, is_part, line_in, part_quantity, part_weight, quantity_in, sum_of_parts, total, var_of, weighed}
+use Rattle.vc_plan.specs.Parts.{amount_of, count_of_parts, is_part, line_in, part_quantity, part_weight, quantity_in, sum_of_parts, total, var_of, weighed}
 use Rattle.vc_plan.specs.Pieces.{lies_in_some}
-use Rattle.vc_plan.specs.Ranges.{domain_there, grain_there, is_of, is_stored}
+use Rattle.vc_plan.specs.Ranges.{domain_there, grain_there, is_stored}
 use Rattle.vc_plan.specs.Readings.{Reading, full_reading}
 use Rattle.vc_plan.specs.Seen.{Seen}
 use Rattle.vc_plan.specs.Sizes.{domain_size, grain_size}
 use Rattle.vc_plan.specs.Truth.{number_of_value, value_at}
-use Rattle.vc_plan.specs.Valid.{IsValid}
 use Rattle.vc_plan.proofs.PlanLaws.Lists.{get_past}
 use Rattle.vc_rule_terms.specs.Computing.{LiesInGrains, OperandsFit, TermsFit}
 use Rattle.vc_rule_terms.proofs.SizeLemmas.{AtMost}
 use Rattle.vc_rule_terms.proofs.TermLemmas.{PassesIf, all_get}
 use Rattle.vc_rule_readings.specs.Laws.{ValidSumsFit}
 use Rattle.vc_rule_readings.specs.Parted.{parted_reading}
-use Rattle.vc_rule_readings.specs.Summing.{SumsFit, addend, adds, has_it, part_total, stored_count}
+use Rattle.vc_rule_readings.specs.Summing.{SumsFit, addend, adds, part_total, stored_count}
 use Rattle.vc_rule_readings.proofs.RangeLemmas.{filter_all, filter_both}
 use Rattle.vc_rule_readings.proofs.ReadingLemmas.{IsBounded, joined_if, operands_fit, value_bounded}
 

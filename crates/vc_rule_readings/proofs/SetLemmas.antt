@@ -1,9 +1,8 @@
 -- Which texts a set has, of those that it may have.
-use Rattle.std.proofs.Common.{◌≡◌, ℕ, eqb, Bool, true, false, ◌&&◌, ◌||◌, List, [], ◌∷◌, refl, sym, ◌∙◌, ap, inl, inr}
+use Rattle.std.proofs.Common.{◌≡◌, ℕ, Bool, true, false, ◌&&◌, ◌||◌, List, [], ◌∷◌, refl, sym, ◌∙◌, ap, inl, inr}
 use Rattle.std.specs.Prelude.{◌==◌, if◌then◌else◌}
 use Rattle.std.specs.List.{filter, list_any}
 use Rattle.std.proofs.lemmas.Bool.Decides.{eqb_tells}
-use Rattle.vc_plan.specs.declared.conditions.Kleene.{Kleene}
 use Rattle.vc_plan.specs.declared.conditions.Kleene.TheVariants.{False, Unknown}
 use Rattle.vc_plan.specs.Kleene.{truth_of}
 use Rattle.vc_plan.specs.Truth.{set_filled, set_holds}

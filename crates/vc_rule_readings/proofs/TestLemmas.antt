@@ -1,5 +1,5 @@
 -- A plan with one condition that always holds, and one literal for a term, can be computed.
-use Rattle.std.proofs.Common.{◌≡◌, ℕ, ◌<◌, ◌≤◌, ◌^◌, true, List, [], ◌∷◌, length, ap, sym, subst, ◌∙◌, arith}
+use Rattle.std.proofs.Common.{◌≡◌, true, [], ◌∷◌, length, ap, ◌∙◌, arith}
 use Rattle.std.specs.List.{list_all}
 use Rattle.vc_value.specs.declared.decimal.Dec.{Dec}
 use Rattle.vc_value.specs.declared.value.Value.TheVariants.{Num}

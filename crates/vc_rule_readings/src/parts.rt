@@ -3,8 +3,8 @@
 ghost use Rattle.std.specs.Prelude.{◌≡◌, ◌^◌, ◌<◌, ◌&&◌, if◌then◌else◌, length, slice_get};
 ghost use Rattle.vc_plan.specs.declared.terms.Operator.TheVariants.{Plus, Times};
 ghost use Rattle.vc_plan.specs.Numbers.{joined};
-ghost use Rattle.vc_plan.specs.Parts.{amount_at, amount_of, count_of_parts, is_part, is_var_of, part_quantity, part_weight};
-ghost use Rattle.vc_plan.specs.Parts.{quantity_of, sum_of_parts, var_of};
+ghost use Rattle.vc_plan.specs.Parts.{amount_at, amount_of, count_of_parts, is_part, is_var_of, part_quantity};
+ghost use Rattle.vc_plan.specs.Parts.{part_weight, quantity_of, sum_of_parts, var_of};
 ghost use Rattle.vc_plan.specs.Readings.{full_reading};
 ghost use Rattle.vc_plan.specs.Truth.{number_of_value};
 ghost use Rattle.vc_rule_terms.specs.Computing.{LiesInGrains, OperandsFit, TermsFit};

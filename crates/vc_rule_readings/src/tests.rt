@@ -1,6 +1,8 @@
 //! What is read at a stage in which slots 0 and 1 are here, no variable has a value, and sets have text 1 alone.
 
-ghost use Rattle.std.specs.Prelude.{◌≡◌, length, IfOk};
+ghost use Rattle.std.specs.Prelude.{◌≡◌, pos, [], ◌∷◌, length, IfOk};
+ghost use Rattle.vc_value.specs.declared.value.Value.TheVariants.{Num};
+ghost use Rattle.vc_plan.specs.declared.terms.Term.TheVariants.{Literal};
 ghost use Rattle.vc_rule_readings.specs.Summing.{SumsFit};
 
 use crate::parts::{part_count, part_sum};
@@ -141,8 +143,17 @@ fn lines(alloc: Global) -> Result<Listed<Line>, AllocError> {
     Ok(lines)
 }
 
+fn terms(alloc: Global) -> Result<Listed<Term>, AllocError>
+    ensures { IfOk result (λ terms. terms ≡ Literal (Num (record { millionths = pos 2_500_000 })) ∷ []) }
+{
+    let mut terms = Listed::new(alloc);
+    terms.push(Term::Literal(Value::Num(Dec {
+        millionths: 2_500_000,
+    })))?;
+    Ok(terms)
+}
+
 // A plan of a root with one part, of which it takes two and a half.
-#[tactic(auto, using(crate::proofs::TestLemmas::plain_fits))]
 fn plan_of_a_part(alloc: Global) -> Result<Plan, AllocError>
     ensures { IfOk result (λ plan. SumsFit plan) }
 {
@@ -150,8 +161,7 @@ fn plan_of_a_part(alloc: Global) -> Result<Plan, AllocError>
     let lines = lines(alloc)?;
     let mut conditions = Listed::new(alloc);
     conditions.push(Condition::Always)?;
-    let mut terms = Listed::new(alloc);
-    terms.push(Term::Literal(Value::Num(decimal(2_500_000))))?;
+    let terms = terms(alloc)?;
     Ok(Plan {
         name: Word::from_bytes(alloc, b"LAMP")?,
         version: 1,

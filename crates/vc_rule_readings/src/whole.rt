@@ -68,7 +68,8 @@ pub fn specified(value: Option<Value>) -> Kleene
 pub fn full_truth<R: Reading>(plan: &Plan, reading: &R, condition: u32) -> Kleene
     requires fit { TermsFit plan.now }
     requires values { LiesInGrains plan.now (R.seen reading.now) }
-    ensures { result ≡ truth_at plan.now (full_reading plan.now (R.seen reading.now) (R.holdings reading.now)) condition }
+    ensures { result ≡ truth_at plan.now (full_reading plan.now (R.seen reading.now) (R.holdings reading.now))
+        condition }
 {
     let facts = Whole { plan, reading };
     match element(plan.conditions.as_slice(), condition) {

@@ -1,1 +1,2 @@
+pub mod EditRows
 pub mod UserLaws

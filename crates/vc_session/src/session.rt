@@ -74,7 +74,8 @@ impl Session {
         requires valid { IsValid plan.now }
         requires of { IsSessionOf plan.now self.old }
         ensures of { IsSessionOf plan.now self.new }
-        ensures gives { Gives plan.now self.old self.new named value (edits.given_alone self.old.users named value) result }
+        ensures gives { Gives plan.now self.old self.new named value (edits.given_alone self.old.users named value)
+            result }
     {
         match self.fault(plan, named, value) {
             Some(fault) => Err(fault),
@@ -119,7 +120,8 @@ impl Session {
         requires valid { IsValid plan.now }
         requires of { IsSessionOf plan.now self.old }
         ensures of { IsSessionOf plan.now self.new }
-        ensures takes { Takes self.old self.new (edits.has_choice self.old.users named) (edits.taken self.old.users named) result }
+        ensures takes { Takes self.old self.new (edits.has_choice self.old.users named)
+            (edits.taken self.old.users named) result }
     {
         if !has_choice(&self.users, named) {
             return Err(NotSet);
@@ -203,7 +205,8 @@ impl Session {
 
     // The net of the last stage; it has settled where no stage is broken.
     fn last_net(&self) -> Option<&Net>
-        ensures { option_copied result ≡ slice_get self.now.stages.nets.items (pred (length self.now.stages.nets.items)) }
+        ensures { option_copied result ≡ slice_get self.now.stages.nets.items
+            (pred (length self.now.stages.nets.items)) }
     {
         let nets = self.stages.nets.as_slice();
         nets.get(nets.len().saturating_sub(1))

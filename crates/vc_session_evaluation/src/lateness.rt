@@ -14,7 +14,8 @@ use vc_value::Listed;
 pub fn flag_missing(plan: &Plan, nets: &[Net], late: &mut Listed<bool>)
     requires slots { length plan.now.slots < 2 ^ 32 }
     requires late { length late.old ≡ length plan.now.slots }
-    ensures { late.new ≡ map (λ i. not (was_seen plan.now (map said_by nets.now) i)) (numbers_below (length plan.now.slots)) }
+    ensures { late.new ≡ map (λ i. not (was_seen plan.now (map said_by nets.now) i))
+        (numbers_below (length plan.now.slots)) }
 {
     for slot in 0..plan.slots.len() {
         late.set(slot, !was_here(plan, nets, slot as u32));

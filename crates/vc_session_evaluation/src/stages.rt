@@ -40,7 +40,8 @@ impl Stages {
     ghost use Rattle.vc_plan_users.specs.Choosing.{users_of};
     ghost use Rattle.vc_proc.specs.Overlays.{EntriesLie};
     ghost use Rattle.vc_session_evaluation.specs.Evaluating.{AreStagesOf, IsEvaluated};
-    ghost use Rattle.vc_session_evaluation.specs.Going.{FlagsLateOnes, LiesAt, SettlesAt, WritesAfter, flags_before, with_late};
+    ghost use Rattle.vc_session_evaluation.specs.Going.{FlagsLateOnes, LiesAt, SettlesAt, WritesAfter};
+    ghost use Rattle.vc_session_evaluation.specs.Going.{flags_before, with_late};
 
     /// Nets that haven't settled, and nothing written.
     pub fn new(alloc: Global, plan: &Plan) -> Result<Stages, AllocError>

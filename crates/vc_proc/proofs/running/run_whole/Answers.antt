@@ -1,5 +1,5 @@
 -- There are few statements.
-use Rattle.std.proofs.Common.{◌^◌, ◌<◌, Bool, length, ap, sym, subst, arith}
+use Rattle.std.proofs.Common.{◌^◌, Bool, length, ap, subst, arith}
 use Rattle.std.specs.Prelude.{nat_lt}
 use Rattle.std.proofs.lemmas.Bool.{ltb-true}
 use Rattle.vc_plan.specs.declared.procedures.Procedure.{Procedure}

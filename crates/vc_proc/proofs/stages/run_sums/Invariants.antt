@@ -1,5 +1,5 @@
 -- What was written, with the slots before this one, is all.
-use Rattle.std.proofs.Common.{◌≡◌, ℕ, Bool, ◌≤◌, ◌&&◌, true, false, not, length}
+use Rattle.std.proofs.Common.{◌≡◌, ℕ, Bool, ◌&&◌, true, false, not}
 use Rattle.std.specs.Prelude.{flat_map, reverse, slice_index_or}
 use Rattle.std.specs.List.{filter}
 use Rattle.vc_plan.specs.Domains.{numbers_below}

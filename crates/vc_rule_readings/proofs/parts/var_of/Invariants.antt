@@ -1,5 +1,5 @@
 -- The first of the variables from here on is the first of all: those before aren't the slot's of the characteristic.
-use Rattle.std.proofs.Common.{◌≡◌, ◌-◌, length}
+use Rattle.std.proofs.Common.{◌≡◌, ◌-◌}
 use Rattle.std.specs.Prelude.{slice_get}
 use Rattle.std.specs.List.{find, range_with_len}
 use Rattle.vc_plan.specs.Parts.{is_var_of, var_of}

@@ -1,4 +1,3 @@
-use Rattle.std.proofs.Common.{arith}
 use Rattle.vc_proc.proofs.OverlayLemmas.{entered}
 use Rattle.vc_proc.proofs.overlay.Overlay.enter.Goals as goal
 
