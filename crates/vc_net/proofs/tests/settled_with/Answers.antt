@@ -1,5 +1,5 @@
 -- The lamp's plan is valid, so the log is short.
-use Rattle.vc_net.proofs.LampLaws.{lamp_is_valid}
+use Rattle.vc_plan_lamp.proofs.LampLaws.{lamp_is_valid}
 use Rattle.vc_net.proofs.NumberLaws.{logs_are_short}
 use Rattle.vc_net.proofs.tests.settled_with.Goals as goal
 
