@@ -8,6 +8,7 @@ pub mod ProcedureLaws
 pub mod ScopeLaws
 pub mod ScopeRecords
 pub mod SortLaws
+pub mod SlotRuleLaws
 pub mod SoundLaws
 pub mod SumLaws
 pub mod TreeLaws

@@ -1,5 +1,5 @@
 -- What a net asks is monotone: no set, and SPECIFIED under no NOT.
-use Rattle.std.proofs.Common.{◌≡◌, ℕ, zero, suc, ◌+◌, Bool, true, false, not, List, [], ◌∷◌, ◌++◌, map, flat_map, Option, Some, None, refl, sym, ap, ◌∙◌, arith, subst, if◌then◌else◌}
+use Rattle.std.proofs.Common.{◌≡◌, ℕ, Bool, true, false, not, List, [], ◌∷◌, ◌++◌, map, flat_map, Option, Some, None, refl, sym, ap, ◌∙◌, subst, if◌then◌else◌}
 use Rattle.std.specs.Prelude.{option_map, slice_get}
 use Rattle.std.specs.List.{list_any}
 use Rattle.std.proofs.lemmas.Bool.{and_from, not_from_false, or_from, or_parts}
@@ -22,28 +22,26 @@ use Rattle.vc_types.specs.PlaceFaults.{denies_specified, uses_set}
 use Rattle.vc_types.specs.Settings.{is_multiple, is_set}
 use Rattle.vc_types.specs.declared.place.At.TheVariants as at
 use Rattle.vc_compile_plan.specs.Conditions.{compared_at, condition_at, holds_one, or_each, piece_of, relation_at, relation_of, set_against, text_in, text_in_piece}
-use Rattle.vc_compile_plan.specs.Layouts.{Layout, layout_of, object_at}
+use Rattle.vc_compile_plan.specs.Layouts.{Layout, layout_of}
 use Rattle.vc_compile_plan.specs.Numbering.{conditions_of, drafts_of, number_for, rule_brings, rule_from, terms_of}
 use Rattle.vc_compile_plan.specs.PlanOf.{IsPlanOf}
-use Rattle.vc_compile_plan.specs.Places.{Asked, selection_in, selections_among, site_at}
-use Rattle.vc_compile_plan.specs.Rules.{Draft, constraint_site, constraints_drafts, drafts_of_line, drafts_of_slot, in_net, last_drafts, line_drafts, line_drafts_from, restriction_draft, rule_drafts, slot_drafts_from}
+use Rattle.vc_compile_plan.specs.Places.{site_at}
+use Rattle.vc_compile_plan.specs.Rules.{Draft, constraint_site, constraints_drafts, in_net, last_drafts, restriction_draft, rule_drafts, slot_drafts_from}
 use Rattle.vc_compile_plan.specs.Sites.{Site, characteristic_in, is_set_meant, set_meant, var_meant}
-use Rattle.vc_compile_plan.specs.Slots.{bill_if, bill_in, slot_of, standings_of}
 use Rattle.vc_compile_plan.specs.Terms.{literal_of, lone_of, term_at}
 use Rattle.vc_compile_plan.specs.Trees as trees
 use Rattle.vc_compile_plan.specs.Trees.{condition_of}
 use Rattle.vc_compile_plan.specs.Tuples.{asked_of, both, without_parts}
-use Rattle.vc_compile_plan.specs.declared.standings.Standing.{Standing}
 use Rattle.vc_compile_valid.proofs.DraftLaws.{each_last}
 use Rattle.vc_compile_valid.proofs.EachLaws.{Each, each_both, each_joined, each_more, each_passes}
 use Rattle.vc_compile_valid.proofs.ListLaws.{made_from}
 use Rattle.vc_compile_valid.proofs.NumberingLaws.{numbered_each, rule_conditions, rule_terms}
-use Rattle.vc_compile_valid.proofs.PlacedLaws.{IsPart, IsPlacedBelow, placed_at, slot_at}
 use Rattle.vc_compile_meant.specs.Scopes.{HasNets, IsTyped}
-use Rattle.vc_compile_meant.proofs.ComponentLaws.{condition_if, condition_stands, configurable_is}
-use Rattle.vc_compile_meant.proofs.FaultLaws.{IsTypedAt, IsUsed, all_used, each_false, each_here, each_split, each_unflat, is_sound}
-use Rattle.vc_compile_meant.proofs.ScopeLaws.{AnySum, selection_is}
-use Rattle.vc_compile_meant.proofs.SoundLaws.{IsSoundLine, asked_typed, line_place, sound_at}
+use Rattle.vc_compile_meant.proofs.ComponentLaws.{condition_if, condition_stands}
+use Rattle.vc_compile_meant.proofs.FaultLaws.{IsUsed, all_used, each_false, each_here, each_split, each_unflat, is_sound}
+use Rattle.vc_compile_meant.proofs.ScopeLaws.{AnySum}
+use Rattle.vc_compile_meant.proofs.SlotRuleLaws.{OfLines, slot_rules}
+use Rattle.vc_compile_meant.proofs.SoundLaws.{line_place}
 use Rattle.vc_compile_meant.proofs.TreeLaws.{ConditionHas, IsGoodUse, condition_has, uses_by_condition}
 use Rattle.vc_compile_meant.proofs.TupleLaws.{AreGood, IfGood, IsOfNet, NoSet, asked_good, both_good, each_of_nets, own_good}
 
@@ -225,55 +223,11 @@ selection_nets model p owner c h =
       denies = denies_none layout site c (or_parts (denies_specified c) false parts.0).0;
     }
 
-drafts_nets : (layout : Layout) (site : Site) (i number : ℕ) (asks : List Asked)
-    → Each (λ a. IsForNets (condition_at layout site a.condition)) asks → Each AsksForNets (line_drafts_from layout site i number asks)
-drafts_nets layout site i number [] h = tt
-drafts_nets layout site i number (a ∷ asks) h = (h.0, drafts_nets layout site i (suc number) asks h.1)
-
-lines_nets : (layout : Layout) (site : Site) (i : ℕ) (asks : List Asked) → Each (λ a. IsForNets (condition_at layout site a.condition)) asks
-    → Each AsksForNets (line_drafts layout site i asks)
-lines_nets layout site i [] h = (record { sets = tt; denies = tt }, tt)
-lines_nets layout site i (a ∷ asks) h = drafts_nets layout site i 1 (a ∷ asks) h
-
-part_nets : (model : Model) → IsTyped model → (i p : ℕ) (s : Standing) → IsPart model (standings_of model) i p s
-    → Each AsksForNets (drafts_of_slot (layout_of model) i s (Some p))
-part_nets model sound i p s part =
-    let layout = layout_of model in
-    let owner = slot_of model (standings_of model) part.above in
-    let there = slot_at model p part.above part.there in
-    let object : object_at layout p ≡ Some part.above.object = ap (option_map (λ slot. slot.object)) there in
-    let line = each_here (IsSoundLine model owner) (bill_in (slice_get model.objects part.above.object)) s.item part.line
-    (sound_at model sound p owner there).lines part.listed in
-    subst (Each AsksForNets)
-    (sym (ap (λ o. drafts_of_line layout p i o (slice_get (bill_if model (object_at layout p)) s.item)) there
-    ∙ ap (λ o. drafts_of_line layout p i (Some owner) (slice_get (bill_if model o) s.item)) object
-    ∙ ap (λ o. drafts_of_line layout p i (Some owner) o) part.listed))
-    (lines_nets layout (site_at layout p owner (at.Line true)) i (selections_among model part.line.uses)
-    (each_more (λ a. fault_of model (line_place model owner true) (syntax.Selection a.condition) ≡ None)
-    (λ a. IsForNets (condition_at layout (site_at layout p owner (at.Line true)) a.condition))
-    (λ a h. selection_nets model p owner a.condition h) (selections_among model part.line.uses)
-    (asked_typed selection_in syntax.Selection selection_is refl model (λ tree. line_place model owner true) part.line.uses
-    (subst (λ b. Each (IsTypedAt model (λ tree. line_place model owner b)) part.line.uses)
-    (configurable_is part.line.component s.object part.object) line.uses))))
-
-slots_nets : (model : Model) → IsTyped model → (i : ℕ) (standings : List Standing)
-    → ((k : ℕ) (s : Standing) → slice_get standings k ≡ Some s → slice_get (standings_of model) (i + k) ≡ Some s)
-    → Each AsksForNets (slot_drafts_from (layout_of model) i standings)
-slots_nets model sound i [] h = tt
-slots_nets model sound i (s ∷ standings) h =
-    each_joined AsksForNets (drafts_of_slot (layout_of model) i s s.parent) (slot_drafts_from (layout_of model) (suc i) standings)
-    (of_slot s.parent (placed_at model i s (subst (λ m. slice_get (standings_of model) m ≡ Some s) (no_more i) (h zero s refl))))
-    (slots_nets model sound (suc i) standings (λ k x e. subst (λ m. slice_get (standings_of model) m ≡ Some x) (one_more i k) (h (suc k) x e)))
-  where
-    one_more : (n k : ℕ) → n + suc k ≡ suc n + k
-    one_more n k = omega arith
-
-    no_more : (n : ℕ) → n + 0 ≡ n
-    no_more n = omega arith
-
-    of_slot : (o : Option ℕ) → IsPlacedBelow model (standings_of model) i s o → Each AsksForNets (drafts_of_slot (layout_of model) i s o)
-    of_slot None placed = tt
-    of_slot (Some p) placed = part_nets model sound i p s placed
+slot_lines_net : (model : Model) → OfLines AsksForNets model
+slot_lines_net model = record {
+  always = λ i. record { sets = tt; denies = tt };
+  asked = λ p owner i number a selected. selection_nets model p owner a.condition selected;
+}
 
 -- a constraint
 abbrev IfDeniesNone : Option syntax.Condition → Type 0
@@ -344,11 +298,7 @@ all_nets model sound =
     (each_of_nets AsksForNets model sound (net_nets model))
     (each_joined AsksForNets (last_drafts layout) (slot_drafts_from layout 0 layout.standings)
     (each_last AsksForNets layout (λ v. record { sets = tt; denies = tt }))
-    (slots_nets model sound 0 (standings_of model)
-    (λ k s e. subst (λ m. slice_get (standings_of model) m ≡ Some s) (no_front k) e)))
-  where
-    no_front : (k : ℕ) → k ≡ 0 + k
-    no_front k = omega arith
+    (slot_rules AsksForNets model sound (slot_lines_net model)))
 
 nets_at : (model : Model) (tables : List VariantTable) (plan : Plan) → IsPlanOf model tables plan → (n : ℕ) (c : trees.Condition)
     → slice_get (conditions_of (drafts_of (layout_of model))) n ≡ Some c → IsForNets c → asks plan is_for_nets n ≡ true

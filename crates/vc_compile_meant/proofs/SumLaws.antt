@@ -1,5 +1,5 @@
 -- Conditions and terms that no statement has are without sums over parts.
-use Rattle.std.proofs.Common.{◌≡◌, ℕ, zero, suc, ◌+◌, Bool, true, false, not, ◌&&◌, List, [], ◌∷◌, ◌++◌, map, flat_map, Option, Some, None, refl, sym, ap, ◌∙◌, arith, subst, if◌then◌else◌}
+use Rattle.std.proofs.Common.{◌≡◌, ℕ, suc, ◌+◌, Bool, true, false, not, ◌&&◌, List, [], ◌∷◌, ◌++◌, map, flat_map, Option, Some, None, refl, sym, ap, ◌∙◌, subst, if◌then◌else◌}
 use Rattle.std.specs.Prelude.{option_map, slice_get}
 use Rattle.std.specs.List.{list_all}
 use Rattle.std.proofs.lemmas.Bool.{and_from, not_from_false, or_from, or_parts}
@@ -36,31 +36,31 @@ use Rattle.vc_types.specs.PlaceFaults.{is_procedure}
 use Rattle.vc_types.specs.declared.place.At.TheVariants as at
 use Rattle.vc_types.specs.declared.place.Place.{Place}
 use Rattle.vc_compile_plan.specs.Conditions.{compared_at, condition_at, holds_one, or_each, piece_of, relation_at, relation_of, set_against, text_in, text_in_piece}
-use Rattle.vc_compile_plan.specs.Layouts.{Layout, layout_of, object_at}
+use Rattle.vc_compile_plan.specs.Layouts.{Layout, layout_of}
 use Rattle.vc_compile_plan.specs.Numbering.{conditions_of, demand_terms, drafts_of, guard_brings, guard_from, guards_begin, item_brings, kind_from, line_from, line_terms_begin, lines_begin, number_for, operation_from, operation_terms_begin, operations_begin, requirement_brings, requirement_from, requirements_begin, rule_brings, rule_from, selections_from, terms_of}
 use Rattle.vc_compile_plan.specs.PlanOf.{IsPlanOf}
-use Rattle.vc_compile_plan.specs.Places.{Asked, characteristic_site, operation_site, precondition_in, preconditions_among, selection_in, selections_among, site_at}
-use Rattle.vc_compile_plan.specs.Rules.{Demand, Draft, among, by_table, compare, constraint_site, constraints_drafts, demand_at, drafts_of_line, drafts_of_slot, equate, in_net, last, last_drafts, line, line_drafts, line_drafts_from, never, of_left_operand, of_right_operand, of_terms, restriction_draft, rule_drafts, slot_drafts_from}
+use Rattle.vc_compile_plan.specs.Places.{characteristic_site, operation_site, precondition_in, preconditions_among, selection_in, selections_among, site_at}
+use Rattle.vc_compile_plan.specs.Rules.{Demand, Draft, among, by_table, compare, constraint_site, constraints_drafts, demand_at, equate, in_net, last, last_drafts, line, never, of_left_operand, of_right_operand, of_terms, restriction_draft, rule_drafts, slot_drafts_from}
 use Rattle.vc_compile_plan.specs.Shown.{Choice, GuardDraft, ItemDraft, RequirementDraft, choice_at, entries_of, guard_drafts, guards_among, guards_at, guards_of, is_configurable, line_at, line_choices, line_drafts as bill_drafts, operation_at, operation_drafts, operations_in, requirement_drafts, requirements_at, requirements_of}
 use Rattle.vc_compile_plan.specs.Sites.{Site, is_set_meant, named_at, set_meant, var_meant}
-use Rattle.vc_compile_plan.specs.Slots.{bill_if, bill_in, bill_of, slot_of, slots_of, standings_of}
+use Rattle.vc_compile_plan.specs.Slots.{bill_of, slots_of}
 use Rattle.vc_compile_plan.specs.Terms.{literal_of, lone_of, minus, minus_literal, term_at}
 use Rattle.vc_compile_plan.specs.Trees as trees
 use Rattle.vc_compile_plan.specs.Trees.{condition_of}
 use Rattle.vc_compile_plan.specs.Tuples.{asked_of, both, without_parts}
 use Rattle.vc_compile_plan.specs.Uses.{uses_of_characteristic, uses_of_values}
 use Rattle.vc_compile_plan.specs.Variables.{members_of}
-use Rattle.vc_compile_plan.specs.declared.standings.Standing.{Standing}
 use Rattle.vc_compile_valid.proofs.DraftLaws.{each_last}
 use Rattle.vc_compile_valid.proofs.EachLaws.{Each, each_by_slot, each_flat, each_joined, each_mapped, each_more, each_passes}
 use Rattle.vc_compile_valid.proofs.ListLaws.{all_flat, made_from}
 use Rattle.vc_compile_valid.proofs.NumberingLaws.{StandFrom, guard_conditions, line_conditions, line_terms, no_terms, numbered_each, operation_conditions, operation_terms, requirement_conditions, rule_conditions, rule_terms}
-use Rattle.vc_compile_valid.proofs.PlacedLaws.{IsPart, IsPlacedBelow, placed_at, slot_at, stand_first, stand_rest}
+use Rattle.vc_compile_valid.proofs.PlacedLaws.{stand_first, stand_rest}
 use Rattle.vc_compile_meant.specs.Scopes.{IsTyped}
 use Rattle.vc_compile_meant.specs.Sums.{HasNoSums}
-use Rattle.vc_compile_meant.proofs.ComponentLaws.{condition_if, condition_stands, configurable_is}
+use Rattle.vc_compile_meant.proofs.ComponentLaws.{condition_if, condition_stands}
 use Rattle.vc_compile_meant.proofs.FaultLaws.{IsTypedAt, each_false, each_here, each_split, each_unflat, is_sound}
 use Rattle.vc_compile_meant.proofs.ScopeLaws.{precondition_is, selection_is}
+use Rattle.vc_compile_meant.proofs.SlotRuleLaws.{OfLines, slot_rules}
 use Rattle.vc_compile_meant.proofs.SoundLaws.{IsSoundLine, IsSoundOperation, asked_typed, entry_uses, line_place, operation_place, own_place, sound_at}
 use Rattle.vc_compile_meant.proofs.TreeLaws.{ConditionHas, TermHas}
 use Rattle.vc_compile_meant.proofs.TupleLaws.{IsOfNet, each_of_nets}
@@ -302,52 +302,15 @@ record IsPlainRule (d : Draft) : Type 0 where
   condition : Plain (condition_if d.condition)
   terms : Each Bare (demand_terms d.demand)
 
-drafts_plain : (layout : Layout) (site : Site) (i number : ℕ) (asks : List Asked) → Each (λ a. Plain (condition_at layout site a.condition)) asks
-    → Each IsPlainRule (line_drafts_from layout site i number asks)
-drafts_plain layout site i number [] h = tt
-drafts_plain layout site i number (a ∷ asks) h = (record { condition = h.0; terms = tt }, drafts_plain layout site i (suc number) asks h.1)
-
-lines_plain : (layout : Layout) (site : Site) (i : ℕ) (asks : List Asked) → Each (λ a. Plain (condition_at layout site a.condition)) asks
-    → Each IsPlainRule (line_drafts layout site i asks)
-lines_plain layout site i [] h = (record { condition = tt; terms = tt }, tt)
-lines_plain layout site i (a ∷ asks) h = drafts_plain layout site i 1 (a ∷ asks) h
-
-part_plain : (model : Model) → IsTyped model → (i p : ℕ) (s : Standing) → IsPart model (standings_of model) i p s
-    → Each IsPlainRule (drafts_of_slot (layout_of model) i s (Some p))
-part_plain model sound i p s part =
-    let layout = layout_of model in
-    let owner = slot_of model (standings_of model) part.above in
-    let there = slot_at model p part.above part.there in
-    let object : object_at layout p ≡ Some part.above.object = ap (option_map (λ slot. slot.object)) there in
-    let line = each_here (IsSoundLine model owner) (bill_in (slice_get model.objects part.above.object)) s.item part.line
-    (sound_at model sound p owner there).lines part.listed in
-    subst (Each IsPlainRule)
-    (sym (ap (λ o. drafts_of_line layout p i o (slice_get (bill_if model (object_at layout p)) s.item)) there
-    ∙ ap (λ o. drafts_of_line layout p i (Some owner) (slice_get (bill_if model o) s.item)) object
-    ∙ ap (λ o. drafts_of_line layout p i (Some owner) o) part.listed))
-    (lines_plain layout (site_at layout p owner (at.Line true)) i (selections_among model part.line.uses)
-    (selections_plain model (λ tree. line_place model owner true) (site_at layout p owner (at.Line true)) part.line.uses
-    (subst (λ b. Each (IsTypedAt model (λ tree. line_place model owner b)) part.line.uses)
-    (configurable_is part.line.component s.object part.object) line.uses)))
-
-slots_plain : (model : Model) → IsTyped model → (i : ℕ) (standings : List Standing)
-    → ((k : ℕ) (s : Standing) → slice_get standings k ≡ Some s → slice_get (standings_of model) (i + k) ≡ Some s)
-    → Each IsPlainRule (slot_drafts_from (layout_of model) i standings)
-slots_plain model sound i [] h = tt
-slots_plain model sound i (s ∷ standings) h =
-    each_joined IsPlainRule (drafts_of_slot (layout_of model) i s s.parent) (slot_drafts_from (layout_of model) (suc i) standings)
-    (of_slot s.parent (placed_at model i s (subst (λ m. slice_get (standings_of model) m ≡ Some s) (no_more i) (h zero s refl))))
-    (slots_plain model sound (suc i) standings (λ k x e. subst (λ m. slice_get (standings_of model) m ≡ Some x) (one_more i k) (h (suc k) x e)))
-  where
-    one_more : (n k : ℕ) → n + suc k ≡ suc n + k
-    one_more n k = omega arith
-
-    no_more : (n : ℕ) → n + 0 ≡ n
-    no_more n = omega arith
-
-    of_slot : (o : Option ℕ) → IsPlacedBelow model (standings_of model) i s o → Each IsPlainRule (drafts_of_slot (layout_of model) i s o)
-    of_slot None placed = tt
-    of_slot (Some p) placed = part_plain model sound i p s placed
+slot_lines_plain : (model : Model) → OfLines IsPlainRule model
+slot_lines_plain model = record {
+  always = λ i. record { condition = tt; terms = tt };
+  asked = λ p owner i number a selected. record {
+    condition = selection_plain model (line_place model owner true) (layout_of model)
+        (site_at (layout_of model) p owner (at.Line true)) a.condition selected;
+    terms = tt;
+  };
+}
 
 -- a constraint's rules
 abbrev IfPlain : Option syntax.Condition → Type 0
@@ -438,11 +401,7 @@ all_rules_plain model sound =
     (each_of_nets IsPlainRule model sound (net_plain model))
     (each_joined IsPlainRule (last_drafts layout) (slot_drafts_from layout 0 layout.standings)
     (each_last IsPlainRule layout (λ v. record { condition = tt; terms = tt }))
-    (slots_plain model sound 0 (standings_of model)
-    (λ k s e. subst (λ m. slice_get (standings_of model) m ≡ Some s) (no_front k) e)))
-  where
-    no_front : (k : ℕ) → k ≡ 0 + k
-    no_front k = omega arith
+    (slot_rules IsPlainRule model sound (slot_lines_plain model)))
 
 -- trees in memory
 stored_bare : (t : StoredTerm) → Bare (trees.term_of t) → has_part_sum t ≡ false
