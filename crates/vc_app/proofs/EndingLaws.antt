@@ -1,39 +1,40 @@
 -- Laws of endings.
-use Rattle.std.proofs.Common.{◌≡◌, ℕ, ◌<◌, ◌≤◌, Bool, true, List, [], ◌∷◌, length, get_or, sym, ap, ◌∙◌, arith, Option, Result, Ok, Err, IfOk, IfErr}
+use Rattle.std.proofs.Common.{◌≡◌, ℕ, ◌<◌, ◌≤◌, Bool, true, List, [], ◌∷◌, length, get_or, sym, ap, ◌∙◌, arith, subst}
+use Rattle.std.proofs.Common.{Option, Result, Ok, Err, IfOk, IfErr, OnOk, OnErr}
 use Rattle.std.specs.Prelude.{codes, string_bytes}
 use Rattle.std.specs.Str.{bytes_eq}
 use Rattle.std.specs.declared.string.String.{String}
 use Rattle.std.specs.declared.alloc.Global.{Global}
 use Rattle.std.proofs.lemmas.Slice.Eq.{bytes_eq-Decides}
-use Rattle.vc_outside.specs.Shelves.{Files, Holds}
-use Rattle.vc_outside.specs.declared.file.TheConstants.{FILE_LIMIT}
-use Rattle.vc_app.specs.Endings.{Words, Outside, IsCheck, IsRun, LoadsJob, LoadsRun, StopsText, StopsJob, Causes, EndsJob, Ends}
+use Rattle.std.specs.Io.KnownBytes.{Appends}
+use Rattle.vc_outside.specs.Faults.{HasCause}
+use Rattle.vc_outside.specs.Shelves.{Files}
+use Rattle.vc_outside.specs.Sinks.{AppendsFront}
+use Rattle.vc_outside.specs.declared.fault.Failed.{Failed}
+use Rattle.vc_app_models.specs.declared.stop.ModelStop.{ModelStop}
+use Rattle.vc_app_models.specs.declared.stop.ModelStop.TheVariants.{OutOfMemory}
+use Rattle.vc_app.specs.Endings.{Words, Outside, IsCheck, IsRun, IsToldAs, LoadsJob, LoadsRun, StopsJob, Causes}
+use Rattle.vc_app.specs.Endings.{EndsJob, EndsStop, Ends, HasSinkCause, exhausted, itself, said, stop_line}
 use Rattle.vc_app.specs.declared.loading.Job.{Job}
 use Rattle.vc_app.specs.declared.ending.Stop.{Stop}
 use Rattle.vc_app.specs.declared.ending.Stop.TheVariants as stops
 use Rattle.vc_app.specs.declared.ending.Ending.{Ending}
 use Rattle.vc_app.specs.declared.ending.Ending.TheVariants as endings
 
--- what stops at the model's text stops the job
-pub text_stops : (files : Option Files) (before after : ℕ) (model script text : List ℕ) (stop : Stop)
-    → Holds files model text → length text ≤ FILE_LIMIT → StopsText text stop → StopsJob files before after model script stop
-text_stops files before after model script text stops.Usage held small h = h
-text_stops files before after model script text stops.ModelRefused held small h = record { text = text; held = held; small = small; unspelled = h }
-text_stops files before after model script text (stops.Unread file fault) held small h = absurd h
-text_stops files before after model script text stops.OutOfMemory held small h = tt
-
 -- what stops a job of the command's names is the cause
 run_stops : (words : Words) (files : Option Files) (before after : ℕ) (model script : List ℕ) (stop : Stop)
     → IsRun words model script → StopsJob files before after model script stop → Causes words files before after stop
 run_stops words files before after model script stops.Usage command h = absurd h
-run_stops words files before after model script stops.ModelRefused command h = (model, script, command, h)
-run_stops words files before after model script (stops.Unread file fault) command h = (model, script, command, h)
-run_stops words files before after model script stops.OutOfMemory command h = (model, script, command, h)
+run_stops words files before after model script (stops.Model stop) command h = (model, script, command, h)
+run_stops words files before after model script (stops.ScriptUnread fault) command h = (model, script, command, h)
 
-pub run_causes : {A : Type 0} (r : Result A Stop) (words : Words) (files : Option Files) (before after : ℕ) (model script : List ℕ)
-    → IsRun words model script → IfErr r (StopsJob files before after model script) → IfErr r (Causes words files before after)
+pub run_causes : {A : Type 0} (r : Result A Stop) (words : Words) (files : Option Files) (before after : ℕ)
+    (model script : List ℕ)
+    → IsRun words model script → IfErr r (StopsJob files before after model script)
+    → IfErr r (Causes words files before after)
 run_causes (Ok x) words files before after model script command h = tt
-run_causes (Err stop) words files before after model script command h = run_stops words files before after model script stop command h
+run_causes (Err stop) words files before after model script command h =
+    run_stops words files before after model script stop command h
 
 pub run_loads : {E : Type 0} (r : Result Job E) (words : Words) (files : Option Files) (model script : List ℕ)
     → IsRun words model script → IfOk r (LoadsJob files model script) → IfOk r (LoadsRun words files)
@@ -61,7 +62,8 @@ run_words (x ∷ y ∷ []) a b d command model script is_run least most p q r s 
 run_words (x ∷ y ∷ z ∷ []) a b d command model script is_run least most p q r s t u test holds =
     let run : command ≡ codes "run" = (bytes_eq-Decides command (codes "run")).0 (sym test ∙ holds) in
     cc
-run_words (x ∷ y ∷ z ∷ w ∷ more) a b d command model script is_run least most p q r s t u test holds = absurd (omega arith)
+run_words (x ∷ y ∷ z ∷ w ∷ more) a b d command model script is_run least most p q r s t u test holds = absurd
+    (omega arith)
 
 -- two words of which the first is `check`
 pub check_words : (words : Words) (a b : String Global) (command model : List ℕ) (is_check : Bool)
@@ -79,3 +81,37 @@ check_words (x ∷ y ∷ z ∷ more) a b command model is_check least most p q r
 pub one_name : (words : Words) (a b : List ℕ) → IsCheck words a → IsCheck words b → a ≡ b
 one_name words a b p q =
     let e : codes "check" ∷ (a ∷ []) ≡ codes "check" ∷ (b ∷ []) = sym p ∙ q in ap (λ xs. get_or xs 1 a) e
+
+-- what is told of a stop has its cause
+told_causes : (words : Words) (files : Option Files) (before after : ℕ) (stop told : Stop) → IsToldAs stop told
+    → Causes words files before after stop → Causes words files before after told
+told_causes words files before after stop told (itself same) c = subst (Causes words files before after) (sym same) c
+told_causes words files before after stop told (exhausted of is same) c =
+    let run : Causes words files before after (stops.Model of) = subst (Causes words files before after) is c in
+    subst (Causes words files before after) (sym same) (run.0, run.1, run.2, tt)
+
+pub stop_ends : (words : Words) (o : Outside) (stop : Stop) (ending : Ending)
+    → Causes words o.files o.shelf_before o.shelf_after stop
+    → EndsStop words stop o.written_before o.written_after ending → Ends words o ending
+stop_ends words o stop (endings.Stopped told) c ends =
+    (told_causes words o.files o.shelf_before o.shelf_after stop told ends.0 c, ends.1)
+stop_ends words o stop (endings.MessageCut told) c ends =
+    (told_causes words o.files o.shelf_before o.shelf_after stop told ends.0 c, ends.1)
+stop_ends words o stop endings.Answered c ends = absurd ends
+stop_ends words o stop endings.Exhausted c ends = absurd ends
+stop_ends words o stop endings.AnswerCut c ends = absurd ends
+stop_ends words o stop endings.ExhaustedCut c ends = absurd ends
+
+-- how saying it ends, by whether its line was written
+pub said_ends : (words : Words) (stop told : Stop) (old new : Option (List ℕ)) (written : Result Unit Failed)
+    → IsToldAs stop told
+    → OnOk written (Appends old new (stop_line words told))
+    → OnErr written (AppendsFront old new (stop_line words told))
+    → EndsStop words stop old new (said written told)
+said_ends words stop told old new (Ok done) told_as ok err = (told_as, ok)
+said_ends words stop told old new (Err failed) told_as ok err = (told_as, err)
+
+pub said_cause : (told : Stop) (before after : ℕ) (written : Result Unit Failed) → HasCause before after written
+    → HasSinkCause before after (said written told)
+said_cause told before after (Ok done) cause = tt
+said_cause told before after (Err failed) cause = cause.failed

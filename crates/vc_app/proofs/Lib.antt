@@ -2,6 +2,5 @@ pub mod EndingLaws
 pub mod ExactnessLaws
 pub mod ScriptLines
 pub mod SinkLaws
-pub mod StateLaws
 pub mod StatusLaws
 pub mod TranscriptLaws

@@ -1,5 +1,6 @@
 -- The first line of a text and what follows it.
-use Rattle.std.proofs.Common.{◌≡◌, ℕ, ◌+◌, ◌<◌, ◌≤◌, Bool, true, false, List, [], ◌∷◌, length, take, drop, cond, refl, ap, ◌∙◌, arith, Some, None}
+use Rattle.std.proofs.Common.{◌≡◌, ℕ, ◌+◌, ◌<◌, ◌≤◌, Bool, true, false, List, [], ◌∷◌, length, take, drop, cond, refl}
+use Rattle.std.proofs.Common.{ap, ◌∙◌, arith, Some, None}
 use Rattle.std.specs.Prelude.{position, ◌==◌, nat_lt}
 use Rattle.std.specs.List.{slice_split, position_or_len}
 use Rattle.std.specs.Str.Lines.{lines_of_parts, strip_carriage_return}
@@ -9,27 +10,35 @@ use Rattle.std.proofs.lemmas.Bool.{ltb-true, ltb-false, ne_eqb}
 use Rattle.vc_app.specs.Script.{lines_of}
 
 -- a line before further parts
-lines-onto : (line : List ℕ) (parts : List (List ℕ)) → 0 < length parts → lines_of_parts (line ∷ parts) ≡ strip_carriage_return line ∷ lines_of_parts parts
+lines-onto : (line : List ℕ) (parts : List (List ℕ)) → 0 < length parts
+    → lines_of_parts (line ∷ parts) ≡ strip_carriage_return line ∷ lines_of_parts parts
 lines-onto line [] h = absurd (omega arith)
 lines-onto line (part ∷ parts) h = refl
 
 -- what a position says
-position_found : {A : Type 0} (p : A → Bool) (xs : List A) (at : ℕ) → position p xs ≡ Some at → (position_or_len p xs ≡ at) × (at < length xs)
+position_found : {A : Type 0} (p : A → Bool) (xs : List A) (at : ℕ) → position p xs ≡ Some at
+    → (position_or_len p xs ≡ at) × (at < length xs)
 position_found p xs at h =
-    elim (nat_lt (position_or_len p xs) (length xs)) as (λ b. nat_lt (position_or_len p xs) (length xs) ≡ b → cond b (Some (position_or_len p xs)) None ≡ Some at → (position_or_len p xs ≡ at) × (at < length xs)) [
-      | true ↦ λ test e. let same : position_or_len p xs ≡ at = cc in (same, let below : position_or_len p xs < length xs = ltb-true _ _ test in omega arith)
+    elim (nat_lt (position_or_len p xs) (length xs)) as
+    (λ b. nat_lt (position_or_len p xs) (length xs) ≡ b → cond b (Some (position_or_len p xs)) None ≡ Some at
+    → (position_or_len p xs ≡ at) × (at < length xs)) [
+      | true ↦ λ test e. let same : position_or_len p xs
+          ≡ at = cc in (same, let below : position_or_len p xs < length xs = ltb-true _ _ test in omega arith)
       | false ↦ λ test e. cc
     ] refl h
 
 -- what no position says
 position_missing : {A : Type 0} (p : A → Bool) (xs : List A) → position p xs ≡ None → length xs ≤ position_or_len p xs
 position_missing p xs h =
-    elim (nat_lt (position_or_len p xs) (length xs)) as (λ b. nat_lt (position_or_len p xs) (length xs) ≡ b → cond b (Some (position_or_len p xs)) None ≡ None → length xs ≤ position_or_len p xs) [
+    elim (nat_lt (position_or_len p xs) (length xs)) as
+    (λ b. nat_lt (position_or_len p xs) (length xs) ≡ b → cond b (Some (position_or_len p xs)) None ≡ None
+    → length xs ≤ position_or_len p xs) [
       | true ↦ λ test e. cc
       | false ↦ λ test e. ltb-false _ _ test
     ] refl h
 
-pub first_line : (text : List ℕ) (at : ℕ) → position (λ byte. byte == 10) text ≡ Some at → lines_of text ≡ strip_carriage_return (take at text) ∷ lines_of (drop (at + 1) text)
+pub first_line : (text : List ℕ) (at : ℕ) → position (λ byte. byte == 10) text ≡ Some at
+    → lines_of text ≡ strip_carriage_return (take at text) ∷ lines_of (drop (at + 1) text)
 first_line text at h =
     let p : ℕ → Bool = λ byte. byte == 10 in
     let found : (position_or_len p text ≡ at) × (at < length text) = position_found p text at h in
@@ -44,7 +53,8 @@ only_line_of_parts : (line : List ℕ) → 0 < length line → lines_of_parts (l
 only_line_of_parts [] h = absurd (omega arith)
 only_line_of_parts (x ∷ xs) h = rw (ne_eqb (length (x ∷ xs)) 0 (λ e. omega arith)) refl
 
-pub only_line : (text : List ℕ) → position (λ byte. byte == 10) text ≡ None → 0 < length text → lines_of text ≡ text ∷ []
+pub only_line : (text : List ℕ) → position (λ byte. byte == 10) text ≡ None → 0 < length text
+    → lines_of text ≡ text ∷ []
 only_line text h some =
     let p : ℕ → Bool = λ byte. byte == 10 in
     let all : length text ≤ position_or_len p text = position_missing p text h in

@@ -1,9 +1,18 @@
 -- What an ending's status promises.
 use Rattle.std.proofs.Common.{◌≡◌, ℕ, true, refl, subst, arith, sym}
 use Rattle.vc_outside.specs.Faults.{Raised}
+use Rattle.vc_outside.specs.declared.file.FileFault.{FileFault}
 use Rattle.vc_outside.specs.declared.file.FileFault.TheVariants as faults
-use Rattle.vc_app.specs.Endings.{Words, Outside, IsNoCommand, StopsRun, EndsRun, Ends, EndsWith, HasSinkCause, status_of}
-use Rattle.vc_app.specs.Statuses.{Says, SaysUnread, is_cut, IsStatus}
+use Rattle.vc_table.specs.declared.table.TableFault.{TableFault}
+use Rattle.vc_table.specs.declared.table.TableFault.TheVariants as tables
+use Rattle.vc_compile_plan.specs.declared.fault.CompileFault.{CompileFault}
+use Rattle.vc_compile_plan.specs.declared.fault.CompileFault.TheVariants as compile
+use Rattle.vc_app_models.specs.declared.stop.ModelStop.{ModelStop}
+use Rattle.vc_app_models.specs.declared.stop.ModelStop.TheVariants as model
+use Rattle.vc_app_check.specs.Statuses as statuses
+use Rattle.vc_app.specs.Endings.{Words, Outside, IsNoCommand, StopsRun, EndsRun, Ends, EndsWith, HasSinkCause}
+use Rattle.vc_app.specs.Endings.{status_of, stop_status}
+use Rattle.vc_app.specs.Statuses.{Says, SaysStop, is_cut, IsStatus}
 use Rattle.vc_app.specs.declared.ending.Stop.{Stop}
 use Rattle.vc_app.specs.declared.ending.Stop.TheVariants as stops
 use Rattle.vc_app.specs.declared.ending.Ending.{Ending}
@@ -38,7 +47,7 @@ usage_alone words o claim = record {
 }
 
 -- the promise of status 2
-model_refused_alone : (words : Words) (o : Outside) → (StopsRun words o.files o.shelf_before o.shelf_after stops.ModelRefused × Says words o stops.ModelRefused) → IsStatus words o 2
+model_refused_alone : (words : Words) (o : Outside) → (SaysStop words o 2) → IsStatus words o 2
 model_refused_alone words o claim = record {
   known = refl;
   done = λ e. absurd (omega arith);
@@ -52,7 +61,7 @@ model_refused_alone words o claim = record {
 }
 
 -- the promise of status 3
-no_such_file_alone : (words : Words) (o : Outside) → (SaysUnread words o faults.Missing) → IsStatus words o 3
+no_such_file_alone : (words : Words) (o : Outside) → (SaysStop words o 3) → IsStatus words o 3
 no_such_file_alone words o claim = record {
   known = refl;
   done = λ e. absurd (omega arith);
@@ -66,7 +75,8 @@ no_such_file_alone words o claim = record {
 }
 
 -- the promise of status 4
-shelf_fault_alone : (words : Words) (o : Outside) → (SaysUnread words o faults.Failed) → IsStatus words o 4
+shelf_fault_alone : (words : Words) (o : Outside) → (SaysStop words o 4 × Raised o.shelf_before o.shelf_after)
+    → IsStatus words o 4
 shelf_fault_alone words o claim = record {
   known = refl;
   done = λ e. absurd (omega arith);
@@ -80,7 +90,9 @@ shelf_fault_alone words o claim = record {
 }
 
 -- the promise of status 5
-sink_fault_alone : (words : Words) (o : Outside) → (Raised o.sink_before o.sink_after × (ending : Ending) × (is_cut ending ≡ true) × Ends words o ending) → IsStatus words o 5
+sink_fault_alone : (words : Words) (o : Outside)
+    → (Raised o.sink_before o.sink_after × (ending : Ending) × (is_cut ending ≡ true) × Ends words o ending)
+    → IsStatus words o 5
 sink_fault_alone words o claim = record {
   known = refl;
   done = λ e. absurd (omega arith);
@@ -94,7 +106,8 @@ sink_fault_alone words o claim = record {
 }
 
 -- the promise of status 8
-no_memory_alone : (words : Words) (o : Outside) → ((ending : Ending) × (status_of ending ≡ 8) × Ends words o ending) → IsStatus words o 8
+no_memory_alone : (words : Words) (o : Outside) → ((ending : Ending) × (status_of ending ≡ 8) × Ends words o ending)
+    → IsStatus words o 8
 no_memory_alone words o claim = record {
   known = refl;
   done = λ e. absurd (omega arith);
@@ -108,7 +121,7 @@ no_memory_alone words o claim = record {
 }
 
 -- the promise of status 11
-too_large_alone : (words : Words) (o : Outside) → (SaysUnread words o faults.TooLarge) → IsStatus words o 11
+too_large_alone : (words : Words) (o : Outside) → (SaysStop words o 11) → IsStatus words o 11
 too_large_alone words o claim = record {
   known = refl;
   done = λ e. absurd (omega arith);
@@ -122,23 +135,114 @@ too_large_alone words o claim = record {
 }
 
 -- what each reason not to answer promises, once it is said
-stopped : (words : Words) (o : Outside) (stop : Stop) → Ends words o (endings.Stopped stop) → IsStatus words o (status_of (endings.Stopped stop))
-stopped words o stops.Usage ends = usage_alone words o (ends.0, ends.1)
-stopped words o stops.ModelRefused ends = model_refused_alone words o (ends.0, ends.1)
-stopped words o (stops.Unread file faults.Missing) ends = no_such_file_alone words o (file, ends.0, ends.1)
-stopped words o (stops.Unread file faults.Failed) ends = shelf_fault_alone words o (file, ends.0, ends.1)
-stopped words o (stops.Unread file faults.TooLarge) ends = too_large_alone words o (file, ends.0, ends.1)
-stopped words o (stops.Unread file faults.OutOfMemory) ends = no_memory_alone words o (endings.Stopped (stops.Unread file faults.OutOfMemory), refl, ends)
-stopped words o stops.OutOfMemory ends = no_memory_alone words o (endings.Stopped stops.OutOfMemory, refl, ends)
+module _ (words : Words) (o : Outside) where
+  fault_raised : (stop : Stop) → StopsRun words o.files o.shelf_before o.shelf_after stop → stop_status stop ≡ 4
+      → Raised o.shelf_before o.shelf_after
+  fault_raised stops.Usage c e = absurd (omega arith)
+  fault_raised (stops.Model (model.Unread faults.Failed)) c e = c.3
+  fault_raised (stops.Model (model.Unread faults.Missing)) c e = absurd (omega arith)
+  fault_raised (stops.Model (model.Unread faults.TooLarge)) c e = absurd (omega arith)
+  fault_raised (stops.Model (model.Unread faults.OutOfMemory)) c e = absurd (omega arith)
+  fault_raised (stops.Model (model.TextRefused kind line)) c e = absurd (omega arith)
+  fault_raised (stops.Model (model.TableUnread file faults.Failed)) c e = c.3.2.3
+  fault_raised (stops.Model (model.TableUnread file faults.Missing)) c e = absurd (omega arith)
+  fault_raised (stops.Model (model.TableUnread file faults.TooLarge)) c e = absurd (omega arith)
+  fault_raised (stops.Model (model.TableUnread file faults.OutOfMemory)) c e = absurd (omega arith)
+  fault_raised (stops.Model (model.TableRefused table (tables.Columns row))) c e = absurd (omega arith)
+  fault_raised (stops.Model (model.TableRefused table (tables.Cell row))) c e = absurd (omega arith)
+  fault_raised (stops.Model (model.TableRefused table (tables.DoubleKey row))) c e = absurd (omega arith)
+  fault_raised (stops.Model (model.TableRefused table tables.TooManyRows)) c e = absurd (omega arith)
+  fault_raised (stops.Model (model.TableRefused table tables.OutOfMemory)) c e = absurd (omega arith)
+  fault_raised (stops.Model (model.Uncompiled compile.TooDeep)) c e = absurd (omega arith)
+  fault_raised (stops.Model (model.Uncompiled compile.TooManySlots)) c e = absurd (omega arith)
+  fault_raised (stops.Model (model.Uncompiled compile.TooManyRules)) c e = absurd (omega arith)
+  fault_raised (stops.Model (model.Uncompiled compile.TooManyAtoms)) c e = absurd (omega arith)
+  fault_raised (stops.Model (model.Uncompiled compile.TooManyCells)) c e = absurd (omega arith)
+  fault_raised (stops.Model (model.Uncompiled (compile.Typing kind line))) c e = absurd (omega arith)
+  fault_raised (stops.Model (model.Uncompiled compile.OutOfMemory)) c e = absurd (omega arith)
+  fault_raised (stops.Model model.OutOfMemory) c e = absurd (omega arith)
+  fault_raised (stops.ScriptUnread faults.Failed) c e = c.3.2
+  fault_raised (stops.ScriptUnread faults.Missing) c e = absurd (omega arith)
+  fault_raised (stops.ScriptUnread faults.TooLarge) c e = absurd (omega arith)
+  fault_raised (stops.ScriptUnread faults.OutOfMemory) c e = absurd (omega arith)
 
--- what each ending promises
-ended : (words : Words) (o : Outside) (ending : Ending) → Ends words o ending → HasSinkCause o.sink_before o.sink_after ending → IsStatus words o (status_of ending)
-ended words o endings.Answered ends cause = done_alone words o ends
-ended words o (endings.Stopped stop) ends cause = stopped words o stop ends
-ended words o endings.Exhausted ends cause = no_memory_alone words o (endings.Exhausted, refl, ends)
-ended words o (endings.MessageCut stop) ends cause = sink_fault_alone words o (cause, endings.MessageCut stop, refl, ends)
-ended words o endings.AnswerCut ends cause = sink_fault_alone words o (cause, endings.AnswerCut, refl, ends)
-ended words o endings.ExhaustedCut ends cause = sink_fault_alone words o (cause, endings.ExhaustedCut, refl, ends)
+  refused_by : (stop : Stop) → StopsRun words o.files o.shelf_before o.shelf_after stop → Says words o stop
+      → stop_status stop ≡ 2
+      → IsStatus words o 2
+  refused_by stop c says e = model_refused_alone words o (record { stop = stop; its = e; stops = c; says = says })
+
+  missing_by : (stop : Stop) → StopsRun words o.files o.shelf_before o.shelf_after stop → Says words o stop
+      → stop_status stop ≡ 3
+      → IsStatus words o 3
+  missing_by stop c says e = no_such_file_alone words o (record { stop = stop; its = e; stops = c; says = says })
+
+  failed_by : (stop : Stop) → StopsRun words o.files o.shelf_before o.shelf_after stop → Says words o stop
+      → stop_status stop ≡ 4
+      → IsStatus words o 4
+  failed_by stop c says e =
+      shelf_fault_alone words o (record { stop = stop; its = e; stops = c; says = says }, fault_raised stop c e)
+
+  large_by : (stop : Stop) → StopsRun words o.files o.shelf_before o.shelf_after stop → Says words o stop
+      → stop_status stop ≡ 11
+      → IsStatus words o 11
+  large_by stop c says e = too_large_alone words o (record { stop = stop; its = e; stops = c; says = says })
+
+  fault_by : (stop : Stop) (fault : FileFault) → stop_status stop ≡ statuses.file_status fault
+      → StopsRun words o.files o.shelf_before o.shelf_after stop → Ends words o (endings.Stopped stop)
+      → Says words o stop
+      → IsStatus words o (statuses.file_status fault)
+  fault_by stop faults.Missing e c ends says = missing_by stop c says e
+  fault_by stop faults.Failed e c ends says = failed_by stop c says e
+  fault_by stop faults.TooLarge e c ends says = large_by stop c says e
+  fault_by stop faults.OutOfMemory e c ends says = no_memory_alone words o (endings.Stopped stop, e, ends)
+
+  table_by : (stop : Stop) (fault : TableFault) → stop_status stop ≡ statuses.table_status fault
+      → StopsRun words o.files o.shelf_before o.shelf_after stop → Ends words o (endings.Stopped stop)
+      → Says words o stop
+      → IsStatus words o (statuses.table_status fault)
+  table_by stop (tables.Columns row) e c ends says = refused_by stop c says e
+  table_by stop (tables.Cell row) e c ends says = refused_by stop c says e
+  table_by stop (tables.DoubleKey row) e c ends says = refused_by stop c says e
+  table_by stop tables.TooManyRows e c ends says = refused_by stop c says e
+  table_by stop tables.OutOfMemory e c ends says = no_memory_alone words o (endings.Stopped stop, e, ends)
+
+  compile_by : (stop : Stop) (fault : CompileFault) → stop_status stop ≡ statuses.compile_status fault
+      → StopsRun words o.files o.shelf_before o.shelf_after stop → Ends words o (endings.Stopped stop)
+      → Says words o stop
+      → IsStatus words o (statuses.compile_status fault)
+  compile_by stop compile.TooDeep e c ends says = refused_by stop c says e
+  compile_by stop compile.TooManySlots e c ends says = refused_by stop c says e
+  compile_by stop compile.TooManyRules e c ends says = refused_by stop c says e
+  compile_by stop compile.TooManyAtoms e c ends says = refused_by stop c says e
+  compile_by stop compile.TooManyCells e c ends says = refused_by stop c says e
+  compile_by stop (compile.Typing kind line) e c ends says = refused_by stop c says e
+  compile_by stop compile.OutOfMemory e c ends says = no_memory_alone words o (endings.Stopped stop, e, ends)
+
+  stopped : (stop : Stop) → Ends words o (endings.Stopped stop) → IsStatus words o (stop_status stop)
+  stopped stops.Usage ends = usage_alone words o (ends.0, ends.1)
+  stopped (stops.Model (model.Unread fault)) ends = fault_by
+      (stops.Model (model.Unread fault)) fault refl ends.0 ends ends.1
+  stopped (stops.Model (model.TextRefused kind line)) ends = refused_by
+      (stops.Model (model.TextRefused kind line)) ends.0 ends.1 refl
+  stopped (stops.Model (model.TableUnread file fault)) ends = fault_by
+      (stops.Model (model.TableUnread file fault)) fault refl ends.0 ends ends.1
+  stopped (stops.Model (model.TableRefused table fault)) ends = table_by
+      (stops.Model (model.TableRefused table fault)) fault refl ends.0 ends ends.1
+  stopped (stops.Model (model.Uncompiled fault)) ends = compile_by
+      (stops.Model (model.Uncompiled fault)) fault refl ends.0 ends ends.1
+  stopped (stops.Model model.OutOfMemory) ends = no_memory_alone words o
+      (endings.Stopped (stops.Model model.OutOfMemory), refl, ends)
+  stopped (stops.ScriptUnread fault) ends = fault_by (stops.ScriptUnread fault) fault refl ends.0 ends ends.1
+
+  -- what each ending promises
+  ended : (ending : Ending) → Ends words o ending → HasSinkCause o.sink_before o.sink_after ending
+      → IsStatus words o (status_of ending)
+  ended endings.Answered ends cause = done_alone words o ends
+  ended (endings.Stopped stop) ends cause = stopped stop ends
+  ended endings.Exhausted ends cause = no_memory_alone words o (endings.Exhausted, refl, ends)
+  ended (endings.MessageCut stop) ends cause = sink_fault_alone words o (cause, endings.MessageCut stop, refl, ends)
+  ended endings.AnswerCut ends cause = sink_fault_alone words o (cause, endings.AnswerCut, refl, ends)
+  ended endings.ExhaustedCut ends cause = sink_fault_alone words o (cause, endings.ExhaustedCut, refl, ends)
 
 -- what an exit status promises
 pub promised : (words : Words) (o : Outside) (status : ℕ) → EndsWith words o status → IsStatus words o status

@@ -1,25 +1,46 @@
 -- Laws of transcripts: one line more, whole or cut short.
-use Rattle.std.proofs.Common.{◌≡◌, ℕ, false, List, [], ◌∷◌, ◌++◌, sym, ap, subst, ◌∙◌, append_assoc, append-nil, Option}
+use Rattle.std.proofs.Common.{◌≡◌, ℕ, false, List, [], ◌∷◌, ◌++◌, sym, ap, subst, ◌∙◌, append_assoc, append-nil, refl}
+use Rattle.std.proofs.Common.{Option}
 use Rattle.std.specs.Io.KnownBytes.{Appends}
 use Rattle.std.proofs.KnownBytes.{Appends-trans}
 use Rattle.vc_base.proofs.RunLaws.{Run-push}
-use Rattle.vc_plan.specs.declared.first.plans.Plan.{Plan}
-use Rattle.vc_app.specs.State.{State}
+use Rattle.vc_plan.specs.declared.plans.Plan.{Plan}
+use Rattle.vc_wire_requests.specs.declared.request.Request.{Request}
+use Rattle.vc_wire_replies.specs.Replies.{reply_text}
+use Rattle.vc_wire_replies.specs.declared.reply.Reply.{Reply}
+use Rattle.vc_desk.specs.Desks.{Kept, state_of}
+use Rattle.vc_desk.specs.States.{State, start_state}
 use Rattle.vc_app.specs.Script.{lines_of, is_skipped}
-use Rattle.vc_app.specs.Transcript.{asked_by, AnswersAsked, LeavesAsked, AnswersLine, Transcript, LineStands, done_unsaid, StandsAt, LineDone, LineUnsaid, LineCut, IsAnswered, IsAnsweredSoFar, IsCutShort}
-use Rattle.vc_app.specs.declared.requests.Request.{Request}
+use Rattle.vc_app.specs.Transcript.{asked_by, RepliesAsked, AnswersAsked, LeavesAsked, AnswersLine, Transcript}
+use Rattle.vc_app.specs.Transcript.{LineStands, done_unsaid, StandsAt, LineDone, LineUnsaid, LineCut, IsAnswered}
+use Rattle.vc_app.specs.Transcript.{IsAnsweredSoFar, IsCutShort}
+
+-- the text of a reply is an answer
+pub reply_leaves : (plan : Plan) (state : State) (request : Option Request) (reply : Reply) (next : State)
+    → RepliesAsked plan state request reply next → LeavesAsked plan state request next
+reply_leaves plan state request reply next replies = (reply_text plan reply, (reply, replies, refl))
 
 -- a line that isn't skipped is answered as its request is
-pub line_answer : (plan : Plan) (state : State) (line : List ℕ) (request : Option Request) (text : List ℕ) (next : State)
-    → is_skipped line ≡ false → request ≡ asked_by line → AnswersAsked plan state request text next → AnswersLine plan state line text next
+pub line_answer : (plan : Plan) (state : State) (line : List ℕ) (request : Option Request) (text : List ℕ)
+    (next : State)
+    → is_skipped line ≡ false → request ≡ asked_by line → AnswersAsked plan state request text next
+    → AnswersLine plan state line text next
 line_answer plan state line request text next skipped asked answer =
     rw skipped (subst (λ r. AnswersAsked plan state r text next) asked answer)
 
 -- where some answer was made to a line that isn't skipped, the state is that after the line
 pub line_unsaid : (plan : Plan) (state : State) (line : List ℕ) (request : Option Request) (next : State)
-    → is_skipped line ≡ false → request ≡ asked_by line → LeavesAsked plan state request next → LineStands plan state line next
+    → is_skipped line ≡ false → request ≡ asked_by line → LeavesAsked plan state request next
+    → LineStands plan state line next
 line_unsaid plan state line request next skipped asked answer =
     done_unsaid answer.0 (line_answer plan state line request answer.0 next skipped asked answer.1)
+
+-- a desk of the plan at which no session is open has the state before the script
+pub begins : (desk : Kept) (plan : Plan) (Holds : Plan → State → Type 0) → desk.plan ≡ plan
+    → state_of desk.sessions ≡ start_state
+    → Holds desk.plan (state_of desk.sessions) → Holds plan start_state
+begins desk plan Holds its none holds =
+    subst (λ p. Holds p start_state) its (subst (Holds desk.plan) none holds)
 
 -- what is so far, from the state before
 pub record SoFar (plan : Plan) (script left : List ℕ) (before state : State) (old new : Option (List ℕ)) : Type 0 where
@@ -29,8 +50,10 @@ pub record SoFar (plan : Plan) (script left : List ℕ) (before state : State) (
   pub transcript : Transcript plan before done bytes state
   pub written : Appends old new bytes
 
-pub so_far_push : (plan : Plan) (script left : List ℕ) (before state : State) (old new : Option (List ℕ)) (line later : List ℕ) (next : State) (newer : Option (List ℕ))
-    → SoFar plan script left before state old new → lines_of left ≡ line ∷ lines_of later → LineDone plan state line next new newer
+pub so_far_push : (plan : Plan) (script left : List ℕ) (before state : State) (old new : Option (List ℕ))
+    (line later : List ℕ) (next : State) (newer : Option (List ℕ))
+    → SoFar plan script left before state old new → lines_of left ≡ line ∷ lines_of later
+    → LineDone plan state line next new newer
     → SoFar plan script later before next old newer
 so_far_push plan script left before state old new line later next newer s first d = record {
   done = s.done ++ line ∷ [];
@@ -44,12 +67,15 @@ pub all_done : (plan : Plan) (script left : List ℕ) (before state : State) (ol
     → SoFar plan script left before state old new → lines_of left ≡ [] → IsAnswered plan script before state old new
 all_done plan script left before state old new s none = record {
   bytes = s.bytes;
-  transcript = subst (λ ls. Transcript plan before ls s.bytes state) (sym (s.lines ∙ ap (λ ls. s.done ++ ls) none ∙ append-nil s.done)) s.transcript;
+  transcript = subst (λ ls. Transcript plan before ls s.bytes state)
+      (sym (s.lines ∙ ap (λ ls. s.done ++ ls) none ∙ append-nil s.done)) s.transcript;
   written = s.written;
 }
 
-pub some_done : (plan : Plan) (script left : List ℕ) (before state : State) (old new : Option (List ℕ)) (line later : List ℕ) (next : State) (newer : Option (List ℕ))
-    → SoFar plan script left before state old new → lines_of left ≡ line ∷ lines_of later → LineUnsaid plan state line next new newer
+pub some_done : (plan : Plan) (script left : List ℕ) (before state : State) (old new : Option (List ℕ))
+    (line later : List ℕ) (next : State) (newer : Option (List ℕ))
+    → SoFar plan script left before state old new → lines_of left ≡ line ∷ lines_of later
+    → LineUnsaid plan state line next new newer
     → IsAnsweredSoFar plan script before next old newer
 some_done plan script left before state old new line later next newer s first d = record {
   done = s.done;
@@ -59,11 +85,14 @@ some_done plan script left before state old new line later next newer s first d 
   last = state;
   transcript = s.transcript;
   stands = subst (λ ls. StandsAt plan state ls next) (sym first) d.stands;
-  written = subst (λ b. Appends old newer b) (append-nil s.bytes) (Appends-trans old new newer s.bytes [] s.written d.written);
+  written = subst (λ b. Appends old newer b) (append-nil s.bytes)
+      (Appends-trans old new newer s.bytes [] s.written d.written);
 }
 
-pub cut_short : (plan : Plan) (script left : List ℕ) (before state : State) (old new : Option (List ℕ)) (line later : List ℕ) (next : State) (newer : Option (List ℕ))
-    → SoFar plan script left before state old new → lines_of left ≡ line ∷ lines_of later → LineCut plan state line next new newer
+pub cut_short : (plan : Plan) (script left : List ℕ) (before state : State) (old new : Option (List ℕ))
+    (line later : List ℕ) (next : State) (newer : Option (List ℕ))
+    → SoFar plan script left before state old new → lines_of left ≡ line ∷ lines_of later
+    → LineCut plan state line next new newer
     → IsCutShort plan script before next old newer
 cut_short plan script left before state old new line later next newer s first d = record {
   done = s.done;

@@ -1,5 +1,6 @@
 -- How the program ends, why, and what it has written then.
-use Rattle.std.specs.Prelude.{◌≡◌, ℕ, ◌≤◌, List, [], ◌∷◌, length, map, codes, slice_get, Option, string_bytes}
+use Rattle.std.specs.Prelude.{◌≡◌, ℕ, ◌≤◌, List, [], ◌∷◌, length, map, codes, slice_get, Option, Result, Ok, Err}
+use Rattle.std.specs.Prelude.{◌++◌, string_bytes}
 use Rattle.std.specs.Option.{option_map_or}
 use Rattle.std.specs.Io.KnownBytes.{Appends}
 use Rattle.std.specs.declared.string.String.{String}
@@ -7,20 +8,20 @@ use Rattle.std.specs.declared.alloc.Global.{Global}
 use Rattle.vc_outside.specs.Faults.{Raised}
 use Rattle.vc_outside.specs.Shelves.{Files, Holds}
 use Rattle.vc_outside.specs.Sinks.{AppendsFront}
+use Rattle.vc_outside.specs.declared.fault.Failed.{Failed}
 use Rattle.vc_outside.specs.declared.file.FileFault.{FileFault}
 use Rattle.vc_outside.specs.declared.file.TheConstants.{FILE_LIMIT}
-use Rattle.vc_plan.specs.declared.first.plans.Plan.{Plan}
+use Rattle.vc_plan.specs.declared.plans.Plan.{Plan}
+use Rattle.vc_app_models.specs.Loading.{IsPlanIn, IsStop}
 pub use Rattle.vc_app_models.specs.Loading.{IsUnread}
+use Rattle.vc_app_models.specs.declared.stop.ModelStop.{ModelStop}
+use Rattle.vc_app_models.specs.declared.stop.ModelStop.TheVariants.{OutOfMemory}
 pub use Rattle.vc_app_check.specs.Checking.{Outside, outside}
 pub use Rattle.vc_app_check.specs.Lines.{file_line}
-pub use Rattle.vc_app_check.specs.Statuses.{file_status}
+use Rattle.vc_app_check.specs.Lines as lines
+use Rattle.vc_app_check.specs.Statuses as statuses
 use Rattle.vc_app.specs.Transcript.{AnswersAll, AnswersSome, BreaksOff}
-use Rattle.vc_first.specs.declared.form.FirstForm.{FirstForm}
-use Rattle.vc_first.specs.Lines.{Spells}
-use Rattle.vc_first.specs.Plans.{plan_of}
 use Rattle.vc_app.specs.declared.loading.Job.{Job}
-use Rattle.vc_app.specs.declared.ending.NamedFile.{NamedFile}
-use Rattle.vc_app.specs.declared.ending.NamedFile.TheVariants.{Model, Script}
 use Rattle.vc_app.specs.declared.ending.Stop.{Stop}
 use Rattle.vc_app.specs.declared.ending.Stop.TheVariants as stops
 use Rattle.vc_app.specs.declared.ending.Ending.{Ending}
@@ -44,56 +45,24 @@ IsNoCheck words = (model : List ℕ) → ¬ IsCheck words model
 abbrev pub IsNoCommand : Words → Type 0
 IsNoCommand words = (model script : List ℕ) → ¬ IsRun words model script
 
--- the text spells a model, and the plan is that model's
-abbrev pub IsText : List ℕ → Plan → Type 0
-IsText text plan = (form : FirstForm) × Spells text form × (plan ≡ plan_of form)
-
--- the text spells no model
-abbrev pub IsNoText : List ℕ → Type 0
-IsNoText text = (form : FirstForm) → ¬ Spells text form
-
--- why a text gives no plan: it spells no model, or memory was wanting
-abbrev pub StopsText : List ℕ → Stop → Type 0
-StopsText text stops.Usage = ⊥
-StopsText text stops.ModelRefused = IsNoText text
-StopsText text (stops.Unread file fault) = ⊥
-StopsText text stops.OutOfMemory = Unit {0}
-
--- the model's file, where it is told, holds the text of this plan
-pub record Loads (files : Option Files) (name : List ℕ) (plan : Plan) : Type 0 where
-  pub text : List ℕ
-  pub held : Holds files name text
-  pub small : length text ≤ FILE_LIMIT
-  pub spelled : IsText text plan
-
--- the model's file, where it is told, holds a text of no model
-pub record Refuses (files : Option Files) (name : List ℕ) : Type 0 where
-  pub text : List ℕ
-  pub held : Holds files name text
-  pub small : length text ≤ FILE_LIMIT
-  pub unspelled : IsNoText text
-
--- the files, where they are told, hold the job's plan and script
+-- the files, where they are told, hold a model with its tables that has the job's plan, and its script
 pub record LoadsJob (files : Option Files) (model script : List ℕ) (job : Job) : Type 0 where
-  pub loads : Loads files model job.plan
+  pub loads : IsPlanIn files model job.plan
   pub held : Holds files script job.script
   pub small : length job.script ≤ FILE_LIMIT
 
 -- the words are `run` and two names, and the files hold the job
 abbrev pub LoadsRun : Words → Option Files → Job → Type 0
-LoadsRun words files job = (model : List ℕ) × (script : List ℕ) × IsRun words model script × LoadsJob files model script job
+LoadsRun words files job = (model : List ℕ) × (script : List ℕ) × IsRun words model script
+    × LoadsJob files model script job
 
--- why a file of the command was not read: the model's comes first, and the script's once that is a model's
-abbrev pub IsFileUnread : Option Files → ℕ → ℕ → List ℕ → List ℕ → NamedFile → FileFault → Type 0
-IsFileUnread files before after model script Model fault = IsUnread files before after model fault
-IsFileUnread files before after model script Script fault = (plan : Plan) × Loads files model plan × IsUnread files before after script fault
-
--- why the model and the script of these names are not there to be run
+-- why the model and the script of these names are not there to be run: the model has no plan; or it has one, and the
+-- script wasn't read
 abbrev pub StopsJob : Option Files → ℕ → ℕ → List ℕ → List ℕ → Stop → Type 0
 StopsJob files before after model script stops.Usage = ⊥
-StopsJob files before after model script stops.ModelRefused = Refuses files model
-StopsJob files before after model script (stops.Unread file fault) = IsFileUnread files before after model script file fault
-StopsJob files before after model script stops.OutOfMemory = Unit {0}
+StopsJob files before after model script (stops.Model stop) = IsStop files before after model stop
+StopsJob files before after model script (stops.ScriptUnread fault) =
+    (plan : Plan) × IsPlanIn files model plan × IsUnread files before after script fault
 
 -- the words are `run` and two names, and what they name can't be run
 abbrev pub StopsRun : Words → Option Files → ℕ → ℕ → Stop → Type 0
@@ -103,32 +72,27 @@ StopsRun words files before after stop =
 -- why nothing was answered: the words are no command, or what they name can't be run
 abbrev pub Causes : Words → Option Files → ℕ → ℕ → Stop → Type 0
 Causes words files before after stops.Usage = IsNoCommand words
-Causes words files before after stops.ModelRefused = StopsRun words files before after stops.ModelRefused
-Causes words files before after (stops.Unread file fault) = StopsRun words files before after (stops.Unread file fault)
-Causes words files before after stops.OutOfMemory = StopsRun words files before after stops.OutOfMemory
+Causes words files before after (stops.Model stop) = StopsRun words files before after (stops.Model stop)
+Causes words files before after (stops.ScriptUnread fault) =
+    StopsRun words files before after (stops.ScriptUnread fault)
 
--- the place of a file's name among the words
-abbrev pub place_of : NamedFile → ℕ
-place_of Model = 1
-place_of Script = 2
-
--- the name of the file
-abbrev pub name_in : Words → NamedFile → List ℕ
-name_in words file = option_map_or string_bytes (slice_get words (place_of file)) []
+-- a word by its place
+abbrev pub word_at : Words → ℕ → List ℕ
+word_at words place = option_map_or string_bytes (slice_get words place) []
 
 -- the line that says why nothing was answered
 abbrev pub stop_line : Words → Stop → List ℕ
-stop_line words stops.Usage = codes "usage: configd check MODEL, run MODEL SCRIPT [KEEPFILE], serve MODEL ADDRESS N [KEEPFILE], verify MODEL CHAIN, gen N\n"
-stop_line words stops.ModelRefused = codes "model refused: text 0 line 0\n"
-stop_line words (stops.Unread file fault) = file_line (name_in words file) fault
-stop_line words stops.OutOfMemory = codes "no memory\n"
+stop_line words stops.Usage =
+    codes "usage: configd check MODEL, run MODEL SCRIPT [KEEPFILE], serve MODEL ADDRESS N [KEEPFILE], "
+    ++ codes "verify MODEL CHAIN, gen N\n"
+stop_line words (stops.Model stop) = lines.stop_line (word_at words 1) stop
+stop_line words (stops.ScriptUnread fault) = file_line (word_at words 2) fault
 
 -- the status where nothing was answered
 abbrev pub stop_status : Stop → ℕ
 stop_status stops.Usage = 1
-stop_status stops.ModelRefused = 2
-stop_status (stops.Unread file fault) = file_status fault
-stop_status stops.OutOfMemory = 8
+stop_status (stops.Model stop) = statuses.stop_status stop
+stop_status (stops.ScriptUnread fault) = statuses.file_status fault
 
 -- the exit status
 abbrev pub status_of : Ending → ℕ
@@ -144,7 +108,8 @@ abbrev pub memory_line : List ℕ
 memory_line = codes "no memory\n"
 
 -- the first lines of the script are answered, and then the text is written, or a front of it
-pub record IsAnsweredThen (plan : Plan) (script : List ℕ) (old new : Option (List ℕ)) (Adds : Option (List ℕ) → Option (List ℕ) → Type 0) : Type 0 where
+pub record IsAnsweredThen (plan : Plan) (script : List ℕ) (old new : Option (List ℕ))
+    (Adds : Option (List ℕ) → Option (List ℕ) → Type 0) : Type 0 where
   pub between : Option (List ℕ)
   pub answered : AnswersSome plan script old between
   pub added : Adds between new
@@ -163,14 +128,25 @@ abbrev pub EndsJob : Job → Option (List ℕ) → Option (List ℕ) → Ending 
 EndsJob job old new endings.Answered = AnswersAll job.plan job.script old new
 EndsJob job old new endings.Exhausted = IsAnsweredThen job.plan job.script old new (λ a b. Appends a b memory_line)
 EndsJob job old new endings.AnswerCut = BreaksOff job.plan job.script old new
-EndsJob job old new endings.ExhaustedCut = IsAnsweredThen job.plan job.script old new (λ a b. AppendsFront a b memory_line)
+EndsJob job old new endings.ExhaustedCut = IsAnsweredThen job.plan job.script old new
+    (λ a b. AppendsFront a b memory_line)
 EndsJob job old new (endings.Stopped stop) = ⊥
 EndsJob job old new (endings.MessageCut stop) = ⊥
 
+-- what is told of a stop: itself, or of a model's, where there is no memory for its line, want of memory
+pub data IsToldAs (stop said : Stop) : Type 0 where
+  itself : said ≡ stop → IsToldAs stop said
+  exhausted : (of : ModelStop) → stop ≡ stops.Model of → said ≡ stops.Model OutOfMemory → IsToldAs stop said
+
+-- the ending, by whether the line was written
+abbrev pub said : Result Unit Failed → Stop → Ending
+said (Ok done) stop = endings.Stopped stop
+said (Err failed) stop = endings.MessageCut stop
+
 -- how saying why nothing is answered ends, and what it has written then
 abbrev pub EndsStop : Words → Stop → Option (List ℕ) → Option (List ℕ) → Ending → Type 0
-EndsStop words stop old new (endings.Stopped said) = (said ≡ stop) × Appends old new (stop_line words stop)
-EndsStop words stop old new (endings.MessageCut said) = (said ≡ stop) × AppendsFront old new (stop_line words stop)
+EndsStop words stop old new (endings.Stopped told) = IsToldAs stop told × Appends old new (stop_line words told)
+EndsStop words stop old new (endings.MessageCut told) = IsToldAs stop told × AppendsFront old new (stop_line words told)
 EndsStop words stop old new endings.Answered = ⊥
 EndsStop words stop old new endings.Exhausted = ⊥
 EndsStop words stop old new endings.AnswerCut = ⊥
@@ -191,8 +167,10 @@ EndsRun words o ending = (job : Job) × LoadsRun words o.files job × EndsJob jo
 
 -- how the program ends, why, and what it has written then
 abbrev pub Ends : Words → Outside → Ending → Type 0
-Ends words o (endings.Stopped stop) = Causes words o.files o.shelf_before o.shelf_after stop × Appends o.written_before o.written_after (stop_line words stop)
-Ends words o (endings.MessageCut stop) = Causes words o.files o.shelf_before o.shelf_after stop × AppendsFront o.written_before o.written_after (stop_line words stop)
+Ends words o (endings.Stopped stop) = Causes words o.files o.shelf_before o.shelf_after stop
+    × Appends o.written_before o.written_after (stop_line words stop)
+Ends words o (endings.MessageCut stop) = Causes words o.files o.shelf_before o.shelf_after stop
+    × AppendsFront o.written_before o.written_after (stop_line words stop)
 Ends words o endings.Answered = EndsRun words o endings.Answered
 Ends words o endings.Exhausted = EndsRun words o endings.Exhausted
 Ends words o endings.AnswerCut = EndsRun words o endings.AnswerCut

@@ -1,11 +1,5 @@
-pub mod Answers
 pub mod Endings
 pub mod Exactness
-pub mod Replies
-pub mod Requests
-pub mod Rows
 pub mod Script
-pub mod Sessions
-pub mod State
 pub mod Statuses
 pub mod Transcript

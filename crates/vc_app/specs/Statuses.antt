@@ -3,10 +3,8 @@ use Rattle.std.specs.Prelude.{◌≡◌, ℕ, [], ◌∷◌, ◌==◌, Bool, tru
 use Rattle.std.specs.List.{list_any}
 use Rattle.std.specs.Io.KnownBytes.{Appends}
 use Rattle.vc_outside.specs.Faults.{Raised}
-use Rattle.vc_outside.specs.declared.file.FileFault.{FileFault}
-use Rattle.vc_outside.specs.declared.file.FileFault.TheVariants as faults
 use Rattle.vc_app.specs.Endings.{Words, Outside, IsNoCommand, StopsRun, EndsRun, Ends, status_of, stop_line}
-use Rattle.vc_app.specs.declared.ending.NamedFile.{NamedFile}
+use Rattle.vc_app.specs.Endings.{stop_status}
 use Rattle.vc_app.specs.declared.ending.Stop.{Stop}
 use Rattle.vc_app.specs.declared.ending.Stop.TheVariants as stops
 use Rattle.vc_app.specs.declared.ending.Ending.{Ending}
@@ -16,10 +14,12 @@ use Rattle.vc_app.specs.declared.ending.Ending.TheVariants as endings
 abbrev pub Says : Words → Outside → Stop → Type 0
 Says words o stop = Appends o.written_before o.written_after (stop_line words stop)
 
--- a file of the command was not read for this fault, and it was said
-abbrev pub SaysUnread : Words → Outside → FileFault → Type 0
-SaysUnread words o fault =
-    (file : NamedFile) × StopsRun words o.files o.shelf_before o.shelf_after (stops.Unread file fault) × Says words o (stops.Unread file fault)
+-- what the command names can't be run, for a reason that has this status, and it was said
+pub record SaysStop (words : Words) (o : Outside) (status : ℕ) : Type 0 where
+  pub stop : Stop
+  pub its : stop_status stop ≡ status
+  pub stops : StopsRun words o.files o.shelf_before o.shelf_after stop
+  pub says : Says words o stop
 
 -- the sink failed in what was to be written: a message, or an answer or the word on memory behind whole answers
 abbrev pub is_cut : Ending → Bool
@@ -38,15 +38,16 @@ pub record IsStatus (words : Words) (o : Outside) (status : ℕ) : Type 0 where
   pub done : status ≡ 0 → EndsRun words o endings.Answered
   -- the words are no command
   pub usage : status ≡ 1 → IsNoCommand words × Says words o stops.Usage
-  -- the model's file holds no model's text
-  pub model_refused : status ≡ 2 → StopsRun words o.files o.shelf_before o.shelf_after stops.ModelRefused × Says words o stops.ModelRefused
+  -- the model's text or a table is refused, or the model is compiled to no plan
+  pub model_refused : status ≡ 2 → SaysStop words o 2
   -- a telling shelf has no such file
-  pub no_such_file : status ≡ 3 → SaysUnread words o faults.Missing
+  pub no_such_file : status ≡ 3 → SaysStop words o 3
   -- the shelf's count of faults rose
-  pub shelf_fault : status ≡ 4 → SaysUnread words o faults.Failed
+  pub shelf_fault : status ≡ 4 → SaysStop words o 4 × Raised o.shelf_before o.shelf_after
   -- the sink's count of faults rose, and a front of what was to be written stands
-  pub sink_fault : status ≡ 5 → Raised o.sink_before o.sink_after × (ending : Ending) × (is_cut ending ≡ true) × Ends words o ending
+  pub sink_fault : status ≡ 5 → Raised o.sink_before o.sink_after × (ending : Ending) ×
+      (is_cut ending ≡ true) × Ends words o ending
   -- before the script `no memory` alone, or whole answers and then that
   pub no_memory : status ≡ 8 → (ending : Ending) × (status_of ending ≡ 8) × Ends words o ending
   -- a file has too many bytes
-  pub too_large : status ≡ 11 → SaysUnread words o faults.TooLarge
+  pub too_large : status ≡ 11 → SaysStop words o 11

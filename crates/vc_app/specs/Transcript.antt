@@ -1,16 +1,17 @@
 -- What is written for the lines of a script.
-use Rattle.std.specs.Prelude.{◌≡◌, ℕ, Bool, true, false, List, [], ◌∷◌, ◌++◌, length, nat_lt, Option, None, Some, if◌then◌else◌}
+use Rattle.std.specs.Prelude.{◌≡◌, ℕ, Bool, true, false, List, [], ◌∷◌, ◌++◌, length, nat_lt, Option, None, Some}
+use Rattle.std.specs.Prelude.{if◌then◌else◌}
 use Rattle.std.specs.Io.KnownBytes.{Appends}
 use Rattle.vc_base.specs.Runs.{Run}
-use Rattle.vc_plan.specs.declared.first.plans.Plan.{Plan}
-use Rattle.vc_app.specs.State.{State, start_state}
+use Rattle.vc_plan.specs.declared.plans.Plan.{Plan}
+use Rattle.vc_wire_requests.specs.Requests.{request_of}
+use Rattle.vc_wire_requests.specs.declared.request.Request.{Request}
+use Rattle.vc_wire_replies.specs.Replies.{reply_text}
+use Rattle.vc_wire_replies.specs.declared.reply.Reply.{Reply}
+use Rattle.vc_wire_replies.specs.declared.reply.Reply.TheVariants.{NotARequest}
+use Rattle.vc_desk.specs.Answers.{Apply}
+use Rattle.vc_desk.specs.States.{State, start_state}
 use Rattle.vc_app.specs.Script.{lines_of, is_skipped}
-use Rattle.vc_app.specs.Requests.{request_of}
-use Rattle.vc_app.specs.Replies.{reply_text}
-use Rattle.vc_app.specs.Answers.{Apply}
-use Rattle.vc_app.specs.declared.requests.Request.{Request}
-use Rattle.vc_app.specs.declared.replies.Reply.{Reply}
-use Rattle.vc_app.specs.declared.replies.Reply.TheVariants.{NotARequest}
 
 -- the most bytes of a line that may be a request
 abbrev pub line_limit : ℕ
@@ -20,10 +21,15 @@ line_limit = 4096
 abbrev pub asked_by : List ℕ → Option Request
 asked_by line = if nat_lt line_limit (length line) then None else request_of line
 
--- the answer to a line that isn't skipped: that to its request, or that it is none
+-- the reply to a line that isn't skipped: that to its request, or that it is none
+abbrev pub RepliesAsked : Plan → State → Option Request → Reply → State → Type 0
+RepliesAsked plan state None reply next = (reply ≡ NotARequest) × (next ≡ state)
+RepliesAsked plan state (Some request) reply next = Apply plan state request reply next
+
+-- the text of the reply
 abbrev pub AnswersAsked : Plan → State → Option Request → List ℕ → State → Type 0
-AnswersAsked plan state None bytes next = (bytes ≡ reply_text plan NotARequest) × (next ≡ state)
-AnswersAsked plan state (Some request) bytes next = (reply : Reply) × Apply plan state request reply next × (bytes ≡ reply_text plan reply)
+AnswersAsked plan state request bytes next =
+    (reply : Reply) × RepliesAsked plan state request reply next × (bytes ≡ reply_text plan reply)
 
 -- some answer to the request leaves that state
 abbrev pub LeavesAsked : Plan → State → Option Request → State → Type 0
@@ -59,7 +65,8 @@ pub record IsAnswered (plan : Plan) (script : List ℕ) (before after : State) (
   pub written : Appends old new bytes
 
 -- the first lines of the script are answered, and no other; the state is that after these, or after one line more
-pub record IsAnsweredSoFar (plan : Plan) (script : List ℕ) (before after : State) (old new : Option (List ℕ)) : Type 0 where
+pub record IsAnsweredSoFar (plan : Plan) (script : List ℕ) (before after : State)
+    (old new : Option (List ℕ)) : Type 0 where
   pub done : List (List ℕ)
   pub left : List (List ℕ)
   pub lines : lines_of script ≡ done ++ left
@@ -69,7 +76,8 @@ pub record IsAnsweredSoFar (plan : Plan) (script : List ℕ) (before after : Sta
   pub stands : StandsAt plan last left after
   pub written : Appends old new bytes
 
--- the first lines of the script are answered, and of the answer to the next line, after which the state is, a front was written
+-- the first lines of the script are answered, and of the answer to the next line, after which the state is, a front was
+-- written
 pub record IsCutShort (plan : Plan) (script : List ℕ) (before after : State) (old new : Option (List ℕ)) : Type 0 where
   pub done : List (List ℕ)
   pub line : List ℕ
@@ -97,19 +105,22 @@ pub record BreaksOff (plan : Plan) (script : List ℕ) (old new : Option (List �
   pub answered : IsCutShort plan script start_state last old new
 
 -- the line is answered, and the answer written
-pub record LineDone (plan : Plan) (state : State) (line : List ℕ) (next : State) (old new : Option (List ℕ)) : Type 0 where
+pub record LineDone (plan : Plan) (state : State) (line : List ℕ) (next : State)
+    (old new : Option (List ℕ)) : Type 0 where
   pub bytes : List ℕ
   pub answer : AnswersLine plan state line bytes next
   pub written : Appends old new bytes
 
 -- nothing is written of the line's answer
-pub record LineUnsaid (plan : Plan) (state : State) (line : List ℕ) (next : State) (old new : Option (List ℕ)) : Type 0 where
+pub record LineUnsaid (plan : Plan) (state : State) (line : List ℕ) (next : State)
+    (old new : Option (List ℕ)) : Type 0 where
   pub stands : LineStands plan state line next
   pub written : Appends old new []
 
 -- a front of the line's answer is written
-pub record LineCut (plan : Plan) (state : State) (line : List ℕ) (next : State) (old new : Option (List ℕ)) : Type 0 where
-  pub front : List ℕ
-  pub rest : List ℕ
-  pub answer : AnswersLine plan state line (front ++ rest) next
-  pub written : Appends old new front
+pub record LineCut (plan : Plan) (state : State) (line : List ℕ) (next : State) (old new : Option (List ℕ)) : Type 0
+  where
+    pub front : List ℕ
+    pub rest : List ℕ
+    pub answer : AnswersLine plan state line (front ++ rest) next
+    pub written : Appends old new front

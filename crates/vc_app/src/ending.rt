@@ -5,32 +5,27 @@ ghost use Rattle.vc_outside.specs.Faults.{HasCause};
 ghost use Rattle.vc_outside.specs.Sinks.{AppendsFront};
 ghost use Rattle.std.specs.Io.KnownBytes.{Appends};
 ghost use Rattle.vc_app.specs.Endings as endings;
+ghost use Rattle.vc_app.specs.declared.ending.Stop.TheVariants as stops;
 
-use vc_app_check::stops::file_status;
+use std::alloc::Global;
+use vc_app_check::lines::stop_line;
+use vc_app_check::stops::{file_status, stop_status};
+use vc_app_models::ModelStop;
 use vc_outside::{Failed, FileFault, Sink, write_all};
 
-/// A file that the command names.
-#[derive(Clone, Copy, Debug, PartialEq, Eq)]
-pub enum NamedFile {
-    Model,
-    Script,
-}
-
 /// Why no line of a script was answered.
-#[derive(Clone, Copy, Debug, PartialEq, Eq)]
+#[derive(Debug, Drop)]
 pub enum Stop {
     /// The words are no command.
     Usage,
-    /// The text is no model's.
-    ModelRefused,
-    /// A file was not read.
-    Unread { file: NamedFile, fault: FileFault },
-    /// Memory is wanting.
-    OutOfMemory,
+    /// The model has no plan.
+    Model(ModelStop),
+    /// The script's file was not read.
+    ScriptUnread(FileFault),
 }
 
 /// How the program ended.
-#[derive(Clone, Copy, Debug, PartialEq, Eq)]
+#[derive(Debug, Drop)]
 pub enum Ending {
     /// Each line of the script was answered.
     Answered,
@@ -47,22 +42,21 @@ pub enum Ending {
 }
 
 impl Stop {
-    fn status(self) -> u8
-        ensures { result ≡ endings.stop_status self }
+    fn status(&self) -> u8
+        ensures { result ≡ endings.stop_status self.now }
     {
         match self {
             Stop::Usage => 1,
-            Stop::ModelRefused => 2,
-            Stop::Unread { file: _, fault } => file_status(fault),
-            Stop::OutOfMemory => 8,
+            Stop::Model(stop) => stop_status(stop),
+            Stop::ScriptUnread(fault) => file_status(*fault),
         }
     }
 }
 
 impl Ending {
     /// The exit status.
-    pub fn status(self) -> u8
-        ensures { result ≡ endings.status_of self }
+    pub fn status(&self) -> u8
+        ensures { result ≡ endings.status_of self.now }
     {
         match self {
             Ending::Answered => 0,
@@ -73,22 +67,11 @@ impl Ending {
     }
 }
 
-impl NamedFile {
-    fn place(self) -> usize
-        ensures { result ≡ endings.place_of self }
-    {
-        match self {
-            NamedFile::Model => 1,
-            NamedFile::Script => 2,
-        }
-    }
-}
-
-fn name_in(words: &[String], file: NamedFile) -> &str
-    ensures { result.now ≡ endings.name_in words.now file }
+fn word_at(words: &[String], place: usize) -> &str
+    ensures { result.now ≡ endings.word_at words.now place }
 {
-    match words.get(file.place()) {
-        Some(name) => name.as_str(),
+    match words.get(place) {
+        Some(word) => word.as_str(),
         None => "",
     }
 }
@@ -133,29 +116,43 @@ fn write_fault<S: Sink>(out: &mut S, name: &str, fault: FileFault) -> Result<(),
 const USAGE: &str = "usage: configd check MODEL, run MODEL SCRIPT [KEEPFILE], \
     serve MODEL ADDRESS N [KEEPFILE], verify MODEL CHAIN, gen N\n";
 
-fn write_stop<S: Sink>(out: &mut S, words: &[String], stop: Stop) -> Result<(), Failed>
-    ensures ok { OnOk result (Appends (S.written out.old) (S.written out.new)
-        (endings.stop_line words.now stop)) }
-    ensures err { OnErr result (AppendsFront (S.written out.old) (S.written out.new)
-        (endings.stop_line words.now stop)) }
-    ensures cause { HasCause (S.faults out.old) (S.faults out.new) result }
+// The ending where it was said why no line is answered, or a front of that.
+fn said(written: Result<(), Failed>, stop: Stop) -> Ending
+    ensures { result ≡ endings.said written stop }
 {
-    match stop {
-        Stop::Usage => write_text(out, USAGE),
-        Stop::ModelRefused => write_text(out, "model refused: text 0 line 0\n"),
-        Stop::Unread { file, fault } => write_fault(out, name_in(words, file), fault),
-        Stop::OutOfMemory => write_text(out, "no memory\n"),
+    match written {
+        Ok(()) => Ending::Stopped(stop),
+        Err(Failed) => Ending::MessageCut(stop),
+    }
+}
+
+// Says why the model that the words name has no plan; where there is no memory for that, that memory is wanting.
+fn say_model<S: Sink>(alloc: Global, out: &mut S, words: &[String], stop: ModelStop) -> Ending
+    ensures ends { endings.EndsStop words.now (stops.Model stop) (S.written out.old) (S.written out.new) result }
+    ensures cause { endings.HasSinkCause (S.faults out.old) (S.faults out.new) result }
+    ensures later { S.faults out.old ≤ S.faults out.new }
+{
+    match stop_line(alloc, word_at(words, 1), &stop) {
+        Ok(line) => said(write_all(out, line.bytes()), Stop::Model(stop)),
+        Err(_) => said(
+            write_text(out, "no memory\n"),
+            Stop::Model(ModelStop::OutOfMemory),
+        ),
     }
 }
 
 /// Says why no line is answered.
-pub fn say_stop<S: Sink>(out: &mut S, words: &[String], stop: Stop) -> Ending
+pub fn say_stop<S: Sink>(alloc: Global, out: &mut S, words: &[String], stop: Stop) -> Ending
     ensures ends { endings.EndsStop words.now stop (S.written out.old) (S.written out.new) result }
     ensures cause { endings.HasSinkCause (S.faults out.old) (S.faults out.new) result }
     ensures later { S.faults out.old ≤ S.faults out.new }
 {
-    match write_stop(out, words, stop) {
-        Ok(()) => Ending::Stopped(stop),
-        Err(Failed) => Ending::MessageCut(stop),
+    match stop {
+        Stop::Usage => said(write_text(out, USAGE), Stop::Usage),
+        Stop::Model(stop) => say_model(alloc, out, words, stop),
+        Stop::ScriptUnread(fault) => {
+            let written = write_fault(out, word_at(words, 2), fault);
+            said(written, Stop::ScriptUnread(fault))
+        }
     }
 }

@@ -3,15 +3,8 @@
 
 pub mod ending;
 pub mod loading;
-pub mod replies;
-pub mod requests;
-pub mod rows;
 pub mod script;
-pub mod sessions;
 pub mod top;
 pub mod transcript;
 
 pub use top::desk;
-
-#[cfg(test)]
-mod tests;

@@ -1,15 +1,14 @@
 //! What a command asks for: to check a model, or a plan and the text of a script.
 
 ghost use Rattle.std.specs.Prelude.{◌≡◌, ◌≤◌, IfOk, IfErr, IfSome, IfNone};
-ghost use Rattle.vc_plan.specs.First.Plans.{IsValid};
+ghost use Rattle.vc_plan.specs.Valid.{IsValid};
 ghost use Rattle.vc_app.specs.Endings as endings;
 
-use crate::ending::{NamedFile, Stop};
+use crate::ending::Stop;
 use std::alloc::Global;
-use vc_app_models::read_file;
-use vc_first::{plan_of_form, read_first_form};
+use vc_app_models::{load_plan, read_file};
 use vc_outside::Shelf;
-use vc_plan::first::Plan;
+use vc_plan::Plan;
 use vc_value::Word;
 
 /// What there is to do: a plan, and the text of a script.
@@ -19,23 +18,7 @@ pub struct Job {
     pub(crate) script: Word,
 }
 
-/// The plan of the model that the text spells.
-fn load_plan(alloc: Global, text: &[u8]) -> Result<Plan, Stop>
-    ensures plan { IfOk result (endings.IsText text.now) }
-    ensures valid { IfOk result IsValid }
-    ensures stops { IfErr result (endings.StopsText text.now) }
-{
-    match read_first_form(alloc, text) {
-        Ok(Some(form)) => match plan_of_form(alloc, &form) {
-            Ok(plan) => Ok(plan),
-            Err(_) => Err(Stop::OutOfMemory),
-        },
-        Ok(None) => Err(Stop::ModelRefused),
-        Err(_) => Err(Stop::OutOfMemory),
-    }
-}
-
-/// Reads the model, then the script.
+/// Reads the model with its tables, then the script.
 fn load_named<F: Shelf>(
     alloc: Global,
     shelf: &mut F,
@@ -48,20 +31,13 @@ fn load_named<F: Shelf>(
         (F.faults shelf.new) model.now script.now) }
     ensures later { F.faults shelf.old ≤ F.faults shelf.new }
 {
-    let text = match read_file(alloc, shelf, model) {
-        Ok(text) => text,
-        Err(fault) => return Err(Stop::Unread {
-            file: NamedFile::Model,
-            fault,
-        }),
+    let plan = match load_plan(alloc, shelf, model) {
+        Ok(plan) => plan,
+        Err(stop) => return Err(Stop::Model(stop)),
     };
-    let plan = load_plan(alloc, text.bytes())?;
     match read_file(alloc, shelf, script) {
         Ok(script) => Ok(Job { plan, script }),
-        Err(fault) => Err(Stop::Unread {
-            file: NamedFile::Script,
-            fault,
-        }),
+        Err(fault) => Err(Stop::ScriptUnread(fault)),
     }
 }
 

@@ -1,9 +1,9 @@
 //! The top call.
 
-ghost use Rattle.std.specs.Prelude.{◌≡◌, ℕ, List, ◌≤◌, OnOk};
+ghost use Rattle.std.specs.Prelude.{◌≡◌, ℕ, List, ◌≤◌, ◌<◌, OnOk};
 ghost use Rattle.std.specs.Result.{IsErrOf};
 ghost use Rattle.vc_outside.specs.Faults.{Raised};
-ghost use Rattle.vc_plan.specs.First.Plans.{IsValid};
+ghost use Rattle.vc_plan.specs.Valid.{IsValid};
 ghost use Rattle.vc_app_check.specs.Checking.{EndsCheck};
 ghost use Rattle.vc_app.specs.Endings as endings;
 ghost use Rattle.vc_app.specs.Endings.{outside};
@@ -15,9 +15,13 @@ use crate::ending::{Ending, say_stop, write_text};
 use crate::loading::{Job, checked_name, load_job};
 use crate::transcript::{ScriptFault, answer_script};
 use std::alloc::Global;
+use std::marker::Brand;
+use std::sync::ledger::{Blank, Ledger};
 use vc_app_check::check;
+use vc_desk::Desk;
 use vc_outside::{Failed, Shelf, Sink};
-use vc_plan::first::Plan;
+use vc_plan::Plan;
+use vc_value_steps::Steps;
 
 /// Says that memory was wanting at a line.
 fn say_exhausted<S: Sink>(out: &mut S) -> Ending
@@ -31,36 +35,43 @@ fn say_exhausted<S: Sink>(out: &mut S) -> Ending
     }
 }
 
-/// Answers a script with no session open at first.
-fn answer_from_start<S: Sink>(
+/// Answers a script with no session open at first. Steps are counted in the blank's ledger.
+fn answer_from_start<L: Ledger, S: Sink>(
     alloc: Global,
-    plan: &Plan,
+    plan: Plan,
     script: &[u8],
     out: &mut S,
+    blank: Blank,
 ) -> Result<(), ScriptFault>
-    requires { IsValid plan.now }
-    ensures done { OnOk result (transcript.AnswersAll plan.now script.now (S.written out.old)
+    requires valid { IsValid plan }
+    requires name { blank.name ≡ L.name }
+    requires parts { blank.parts ≡ L.parts }
+    requires some { 0 < blank.parts }
+    ensures done { OnOk result (transcript.AnswersAll plan script.now (S.written out.old)
         (S.written out.new)) }
-    ensures memory { IsErrOf result ScriptFault.OutOfMemory → transcript.AnswersSome plan.now
+    ensures memory { IsErrOf result ScriptFault.OutOfMemory → transcript.AnswersSome plan
         script.now (S.written out.old) (S.written out.new) }
-    ensures cut { IsErrOf result ScriptFault.Sink → transcript.BreaksOff plan.now script.now
+    ensures cut { IsErrOf result ScriptFault.Sink → transcript.BreaksOff plan script.now
         (S.written out.old) (S.written out.new) }
     ensures cause { IsErrOf result ScriptFault.Sink → Raised (S.faults out.old) (S.faults out.new) }
     ensures later { S.faults out.old ≤ S.faults out.new }
 {
-    let mut opened = None;
-    let answered = answer_script(alloc, plan, &mut opened, script, out);
-    drop(opened);
+    let mut desk = Desk::new(alloc, plan);
+    let mut steps: Steps<L> = Steps::new(blank);
+    let answered = answer_script(alloc, &mut desk, script, out, &mut steps);
+    drop(steps);
+    drop(desk);
     answered
 }
 
-fn run_job<S: Sink>(alloc: Global, job: &Job, out: &mut S) -> Ending
-    requires { IsValid job.now.plan }
-    ensures ends { endings.EndsJob job.now (S.written out.old) (S.written out.new) result }
+fn run_job<S: Sink>(alloc: Global, job: Job, out: &mut S) -> Ending
+    requires { IsValid job.plan }
+    ensures ends { endings.EndsJob job (S.written out.old) (S.written out.new) result }
     ensures cause { endings.HasSinkCause (S.faults out.old) (S.faults out.new) result }
     ensures later { S.faults out.old ≤ S.faults out.new }
 {
-    match answer_from_start(alloc, &job.plan, job.script.bytes(), out) {
+    let Job { plan, script } = job;
+    match answer_from_start::<Brand, S>(alloc, plan, script.bytes(), out, Blank::new(1)) {
         Ok(()) => Ending::Answered,
         Err(ScriptFault::Sink) => Ending::AnswerCut,
         Err(ScriptFault::OutOfMemory) => say_exhausted(out),
@@ -76,8 +87,8 @@ fn end<F: Shelf, S: Sink>(alloc: Global, words: &[String], shelf: &mut F, out: &
     ensures cause { endings.HasSinkCause (S.faults out.old) (S.faults out.new) result }
 {
     match load_job(alloc, shelf, words) {
-        Ok(job) => run_job(alloc, &job, out),
-        Err(stop) => say_stop(out, words, stop),
+        Ok(job) => run_job(alloc, job, out),
+        Err(stop) => say_stop(alloc, out, words, stop),
     }
 }
 

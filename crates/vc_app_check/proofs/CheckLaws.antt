@@ -9,7 +9,8 @@ use Rattle.vc_app_check.specs.Lines.{counts_line, counts_of, memory_line, stop_l
 use Rattle.vc_app_check.specs.Statuses.{stop_status}
 
 pub plan_said : (name : List ℕ) (o : Outside) (plan : Plan) (line : List ℕ) (status : ℕ) → IsPlanIn o.files name plan
-    → line ≡ counts_line (counts_of plan) → IsSaid o.written_before o.written_after o.sink_before o.sink_after line 0 status
+    → line ≡ counts_line (counts_of plan)
+    → IsSaid o.written_before o.written_after o.sink_before o.sink_after line 0 status
     → EndsCheck name o status
 plan_said name o plan line status is tells said = record {
   answer = counted plan;
@@ -23,7 +24,8 @@ pub stop_said : (name : List ℕ) (o : Outside) (stop : ModelStop) (line : List 
 stop_said name o stop line own status is tells ends said = record {
   answer = stopped stop;
   is = is;
-  said = subst (λ number. IsSaid o.written_before o.written_after o.sink_before o.sink_after (stop_line name stop) number status) ends
+  said = subst (λ number. IsSaid o.written_before o.written_after o.sink_before o.sink_after (stop_line name stop)
+      number status) ends
       (subst (λ told. IsSaid o.written_before o.written_after o.sink_before o.sink_after told own status) tells said);
 }
 

@@ -1,11 +1,13 @@
 -- A plan within all sizes has few atoms and cells.
-use Rattle.std.proofs.Common.{◌≡◌, ℕ, ◌≤◌, nat_lt, Bool, true, false, refl, sym, arith, if◌then◌else◌, Option, None, Some}
+use Rattle.std.proofs.Common.{◌≡◌, ℕ, ◌≤◌, nat_lt, Bool, true, false, refl, sym, arith, if◌then◌else◌, Option, None}
+use Rattle.std.proofs.Common.{Some}
 use Rattle.std.proofs.lemmas.Bool.Decides.{nat_tests}
 use Rattle.std.proofs.lemmas.Option.{none-some}
 use Rattle.vc_plan.specs.declared.plans.Plan.{Plan}
 use Rattle.vc_plan.specs.Bounds.{cell_bound}
 use Rattle.vc_plan.specs.Domains.{atom_count}
-use Rattle.vc_compile_plan.specs.Refusals.{has_too_many_atoms, has_too_many_cells, has_too_many_rules, most_atoms, most_cells, size_fault}
+use Rattle.vc_compile_plan.specs.Refusals.{has_too_many_atoms, has_too_many_cells, has_too_many_rules, most_atoms}
+use Rattle.vc_compile_plan.specs.Refusals.{most_cells, size_fault}
 use Rattle.vc_compile_plan.specs.declared.fault.CompileFault.{CompileFault}
 use Rattle.vc_compile_plan.specs.declared.fault.CompileFault.TheVariants as faults
 

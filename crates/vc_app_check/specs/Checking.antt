@@ -68,4 +68,5 @@ answer_status (stopped stop) = stop_status stop
 pub record EndsCheck (name : List ℕ) (o : Outside) (status : ℕ) : Type 0 where
   pub answer : Answer
   pub is : IsAnswer name o answer
-  pub said : IsSaid o.written_before o.written_after o.sink_before o.sink_after (answer_line name answer) (answer_status answer) status
+  pub said : IsSaid o.written_before o.written_after o.sink_before o.sink_after (answer_line name answer)
+      (answer_status answer) status

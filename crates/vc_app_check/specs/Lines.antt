@@ -49,13 +49,15 @@ file_line name files.OutOfMemory = memory_line
 -- a text's first fault, by its number, with its line
 abbrev pub text_line : ModelFaultKind → ℕ → List ℕ
 text_line kind line =
-    codes "model refused: text " ++ (decimal (text_faults.number_of kind) ++ (codes " line " ++ (decimal line ++ codes "\n")))
+    codes "model refused: text "
+    ++ (decimal (text_faults.number_of kind) ++ (codes " line " ++ (decimal line ++ codes "\n")))
 
 -- a table's, with its row
 abbrev pub row_line : List ℕ → Option ℕ → ℕ → List ℕ
 row_line table None row = memory_line
 row_line table (Some number) row =
-    codes "model refused: table " ++ (table ++ (codes " " ++ (decimal number ++ (codes " row " ++ (decimal row ++ codes "\n")))))
+    codes "model refused: table "
+    ++ (table ++ (codes " " ++ (decimal number ++ (codes " row " ++ (decimal row ++ codes "\n")))))
 
 abbrev pub table_line : List ℕ → TableFault → List ℕ
 table_line table fault = row_line table (table_faults.number_of fault) (table_faults.row_of fault)
@@ -72,7 +74,8 @@ compile_line compile.TooManyRules = size_line (sizes.number_of compile.TooManyRu
 compile_line compile.TooManyAtoms = size_line (sizes.number_of compile.TooManyAtoms)
 compile_line compile.TooManyCells = size_line (sizes.number_of compile.TooManyCells)
 compile_line (compile.Typing kind line) =
-    codes "model refused: type " ++ (decimal (type_faults.number_of kind) ++ (codes " line " ++ (decimal line ++ codes "\n")))
+    codes "model refused: type "
+    ++ (decimal (type_faults.number_of kind) ++ (codes " line " ++ (decimal line ++ codes "\n")))
 compile_line compile.OutOfMemory = memory_line
 
 -- why the model of this name has no plan

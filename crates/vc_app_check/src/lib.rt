@@ -8,6 +8,3 @@ pub mod stops;
 
 pub use checking::check;
 pub use counts::Counts;
-
-#[cfg(test)]
-mod tests;

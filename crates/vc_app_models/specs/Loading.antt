@@ -1,6 +1,7 @@
 -- What is read of a model: its text, the files of its tables in the order of the model, each checked before the next is
 -- looked for, and then the plan.
-use Rattle.std.specs.Prelude.{◌≡◌, ◌≢◌, ℕ, ◌≤◌, List, [], ◌∷◌, length, slice_get, option_map, Option, Some, Result, Ok, Err}
+use Rattle.std.specs.Prelude.{◌≡◌, ◌≢◌, ℕ, ◌≤◌, List, [], ◌∷◌, length, slice_get, option_map, Option, Some, Result, Ok}
+use Rattle.std.specs.Prelude.{Err}
 use Rattle.vc_outside.specs.Faults.{Raised}
 use Rattle.vc_outside.specs.Shelves.{Files, Holds, Lacks, Exceeds}
 use Rattle.vc_outside.specs.declared.file.FileFault.{FileFault}
@@ -65,7 +66,8 @@ pub record IsNoTableIn (files : Option Files) (model : Model) (declared : Table)
 abbrev pub AreTablesIn : Option Files → Model → List Table → List VariantTable → Type 0
 AreTablesIn files model declared [] = Unit {0}
 AreTablesIn files model [] (table ∷ tables) = ⊥
-AreTablesIn files model (first ∷ declared) (table ∷ tables) = IsTableIn files model first table × AreTablesIn files model declared tables
+AreTablesIn files model (first ∷ declared) (table ∷ tables) = IsTableIn files model first table
+    × AreTablesIn files model declared tables
 
 -- why a file wasn't read: it isn't there, the shelf's count of faults rose, it is too large, or memory was wanting
 abbrev pub IsUnread : Option Files → ℕ → ℕ → List ℕ → FileFault → Type 0
@@ -93,7 +95,8 @@ stop_at name table_faults.OutOfMemory = stops.OutOfMemory
 
 -- this is the table of this number
 abbrev pub IsTableAt : Option Files → Model → ℕ → VariantTable → Type 0
-IsTableAt files model number table = (declared : Table) × (slice_get model.tables number ≡ Some declared) × IsTableIn files model declared table
+IsTableAt files model number table = (declared : Table) × (slice_get model.tables number ≡ Some declared)
+    × IsTableIn files model declared table
 
 -- why the table of this number isn't there: its file wasn't read, or holds no rows of it
 abbrev pub IsTableStop : Option Files → ℕ → ℕ → Model → ℕ → ModelStop → Type 0
@@ -163,14 +166,17 @@ pub record IsUncompiledIn (files : Option Files) (name : List ℕ) (fault : Comp
 
 -- the model is read, and its tables aren't all there
 abbrev pub IsStopAfter : Option Files → ℕ → ℕ → List ℕ → ModelStop → Type 0
-IsStopAfter files before after name stop = (model : Model) × IsModelIn files name model × IsTablesStop files before after model stop
+IsStopAfter files before after name stop = (model : Model) × IsModelIn files name model
+    × IsTablesStop files before after model stop
 
 -- why a model has no plan: its text wasn't read or spells none, or the text is read and its tables aren't all there, or
 -- all is there and nothing can be made of it
 abbrev pub IsStop : Option Files → ℕ → ℕ → List ℕ → ModelStop → Type 0
 IsStop files before after name (stops.Unread fault) = IsUnread files before after name fault
 IsStop files before after name (stops.TextRefused kind line) = IsRefusedIn files name kind line
-IsStop files before after name (stops.TableUnread file fault) = IsStopAfter files before after name (stops.TableUnread file fault)
-IsStop files before after name (stops.TableRefused table fault) = IsStopAfter files before after name (stops.TableRefused table fault)
+IsStop files before after name (stops.TableUnread file fault) =
+    IsStopAfter files before after name (stops.TableUnread file fault)
+IsStop files before after name (stops.TableRefused table fault) =
+    IsStopAfter files before after name (stops.TableRefused table fault)
 IsStop files before after name (stops.Uncompiled fault) = IsUncompiledIn files name fault
 IsStop files before after name stops.OutOfMemory = Unit {0}

@@ -9,6 +9,3 @@ pub mod tables;
 pub use files::read_file;
 pub use loading::load_plan;
 pub use stop::ModelStop;
-
-#[cfg(test)]
-mod tests;

@@ -3,7 +3,9 @@
 ghost use Rattle.std.specs.Prelude.{◌≡◌, ◌≤◌, None, IfOk, IfErr};
 ghost use Rattle.vc_model.specs.Spelled.{Spells};
 ghost use Rattle.vc_model_drafts.specs.Seen.{seen_model};
+ghost use Rattle.vc_plan.specs.Valid.{IsValid};
 ghost use Rattle.vc_compile_plan.specs.Refusals.{size_fault};
+ghost use Rattle.vc_compile.specs.Compiled.{IsValidIfRead};
 ghost use Rattle.vc_app_models.specs.Loading as loading;
 
 use crate::files::read_file;
@@ -50,6 +52,7 @@ fn load_text<F: Shelf>(alloc: Global, shelf: &mut F, name: &str) -> Result<Model
 fn plan_of(alloc: Global, model: &Model, tables: &[VariantTable]) -> Result<Plan, ModelStop>
     ensures plan { IfOk result (loading.HasPlan model.now tables.now) }
     ensures within { IfOk result (λ plan. size_fault plan ≡ None) }
+    ensures valid { IfOk result (λ plan. IsValidIfRead model.now tables.now plan) }
     ensures stops { IfErr result (loading.IsCompileStop model.now tables.now) }
 {
     match compile(alloc, model, tables) {
@@ -59,10 +62,11 @@ fn plan_of(alloc: Global, model: &Model, tables: &[VariantTable]) -> Result<Plan
 }
 
 /// Reads the model's file, then those of its tables in order, each checked before the next is looked for, and compiles:
-/// the model's plan, or the first thing that is wrong. A plan that is answered is within all sizes.
+/// the model's plan, or the first thing that is wrong. A plan that is answered is valid, and within all sizes.
 pub fn load_plan<F: Shelf>(alloc: Global, shelf: &mut F, name: &str) -> Result<Plan, ModelStop>
     ensures plan { IfOk result (loading.IsPlanIn (F.files shelf.old) name.now) }
     ensures within { IfOk result (λ plan. size_fault plan ≡ None) }
+    ensures valid { IfOk result IsValid }
     ensures stops { IfErr result (loading.IsStop (F.files shelf.old) (F.faults shelf.old)
         (F.faults shelf.new) name.now) }
     ensures files { F.files shelf.new ≡ F.files shelf.old }

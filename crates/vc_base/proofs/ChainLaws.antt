@@ -1,9 +1,11 @@
 -- Laws of accepted lists of steps.
-use Rattle.std.proofs.Common.{◌≡◌, ℕ, zero, suc, ◌<◌, Bool, true, false, cond, ◌&&◌, List, [], ◌∷◌, ◌++◌, length, map, refl, sym, ◌∙◌, ap, subst, inl, inr, arith, length-append}
+use Rattle.std.proofs.Common.{◌≡◌, ℕ, zero, suc, ◌<◌, Bool, true, false, cond, ◌&&◌, List, [], ◌∷◌, ◌++◌, length, map}
+use Rattle.std.proofs.Common.{refl, sym, ◌∙◌, ap, subst, inl, inr, arith, length-append}
 use Rattle.std.specs.Prelude.{Option, None, Some, is_none, nat_lt, slice_get}
 use Rattle.std.specs.List.{list_all}
 use Rattle.std.proofs.lemmas.Bool.{and_parts, and_from, lt-ltb}
-use Rattle.vc_base.specs.Chains.{StepForm, conclusions, before_all, cited, all_pass, is_justified, accepted, first_refused, cites_earlier}
+use Rattle.vc_base.specs.Chains.{StepForm, conclusions, before_all, cited, all_pass, is_justified, accepted}
+use Rattle.vc_base.specs.Chains.{first_refused, cites_earlier}
 use Rattle.vc_base.specs.Rounds.{System, atoms_of}
 use Rattle.vc_base.specs.Sets.{has, Within}
 use Rattle.vc_base.proofs.SetLaws.{has_either, has_first, has_more, within_cons}
@@ -48,9 +50,11 @@ accepted_parts {A = A} form follows earlier step steps e =
     record { atoms = q.0; cites = q.1; from = q.2; later = p.1 }
 
 -- each step of an accepted list follows from something
-pub accepted_at : {S A : Type 0} (form : StepForm S A) (follows : S → List A → Bool) (earlier : List A) (steps : List S) (i : ℕ)
+pub accepted_at : {S A : Type 0} (form : StepForm S A) (follows : S → List A → Bool) (earlier : List A) (steps : List S)
+    (i : ℕ)
     (step : S)
-    → accepted form follows earlier steps ≡ true → slice_get steps i ≡ Some step → (atoms : List A) × (follows step atoms ≡ true)
+    → accepted form follows earlier steps ≡ true → slice_get steps i ≡ Some step
+    → (atoms : List A) × (follows step atoms ≡ true)
 accepted_at form follows earlier [] i step e g = absurd (cc)
 accepted_at form follows earlier (first ∷ steps) zero step e g =
     let p = accepted_parts form follows earlier first steps e in
@@ -61,7 +65,8 @@ accepted_at form follows earlier (first ∷ steps) (suc i) step e g =
     accepted_at form follows (earlier ++ form.conclusion first ∷ []) steps i step p.later g
 
 -- what is cited has a place
-pub cited_at : {A : Type 0} (earlier : List A) (numbers : List ℕ) (cites : List A) (a : A) → cited earlier numbers ≡ Some cites
+pub cited_at : {A : Type 0} (earlier : List A) (numbers : List ℕ) (cites : List A) (a : A)
+    → cited earlier numbers ≡ Some cites
     → IsIn a cites → (i : ℕ) × (slice_get earlier i ≡ Some a)
 cited_at earlier [] cites a e i = let none : [] ≡ cites = cc in absurd (subst (IsIn a) (sym none) i)
 cited_at earlier (zero ∷ numbers) cites a e i = cited_at earlier numbers cites a e i
@@ -80,7 +85,8 @@ get_mapped f (x ∷ xs) zero y e = (x, refl, cc)
 get_mapped f (x ∷ xs) (suc i) y e = get_mapped f xs i y e
 
 -- no step is refused exactly where all are accepted
-pub accepted_unrefused : {S A : Type 0} (form : StepForm S A) (follows : S → List A → Bool) (earlier : List A) (steps : List S)
+pub accepted_unrefused : {S A : Type 0} (form : StepForm S A) (follows : S → List A → Bool) (earlier : List A)
+    (steps : List S)
     → accepted form follows earlier steps ≡ is_none (first_refused form follows earlier steps)
 accepted_unrefused form follows earlier [] = refl
 accepted_unrefused form follows earlier (step ∷ steps) =
@@ -93,7 +99,8 @@ accepted_unrefused form follows earlier (step ∷ steps) =
     choice false c o e = refl
 
 -- what is cited is there, so its steps come earlier
-pub cited_earlier : {A : Type 0} (earlier : List A) (numbers : List ℕ) (atoms : List A) → cited earlier numbers ≡ Some atoms
+pub cited_earlier : {A : Type 0} (earlier : List A) (numbers : List ℕ) (atoms : List A)
+    → cited earlier numbers ≡ Some atoms
     → list_all (λ k. nat_lt k (suc (length earlier))) numbers ≡ true
 cited_earlier earlier [] atoms e = refl
 cited_earlier earlier (zero ∷ numbers) atoms e =
@@ -105,7 +112,8 @@ cited_earlier earlier (suc n ∷ numbers) atoms e =
     and_from (nat_lt (suc n) (suc (length earlier))) (list_all (λ k. nat_lt k (suc (length earlier))) numbers)
     (lt-ltb (suc n) (suc (length earlier)) (omega arith)) (cited_earlier earlier numbers r.1 r.3)
 
-pub accepted_earlier : {S A : Type 0} (form : StepForm S A) (follows : S → List A → Bool) (earlier : List A) (steps : List S)
+pub accepted_earlier : {S A : Type 0} (form : StepForm S A) (follows : S → List A → Bool) (earlier : List A)
+    (steps : List S)
     → accepted form follows earlier steps ≡ true → cites_earlier form (suc (length earlier)) steps ≡ true
 accepted_earlier form follows earlier [] e = refl
 accepted_earlier form follows earlier (step ∷ steps) e =
@@ -146,7 +154,8 @@ module _ {S A O : Type 0} (system : System A O) (laws : Laws system) (form : Ste
       × (has system.same (atoms_of (system.gives o (base ++ atoms))) (form.conclusion step) ≡ true)
 
   -- what is added to two sets within a third
-  pub both_within : (xs ys zs : List A) → Within system.same xs zs → Within system.same ys zs → Within system.same (xs ++ ys) zs
+  pub both_within : (xs ys zs : List A) → Within system.same xs zs → Within system.same ys zs
+      → Within system.same (xs ++ ys) zs
   both_within xs ys zs v w a h =
       elim (has_either system.same laws.exact laws.itself xs ys a h) [ inl e ↦ v a e | inr e ↦ w a e ]
 
@@ -169,4 +178,5 @@ module _ {S A O : Type 0} (system : System A O) (laws : Laws system) (form : Ste
       (both_within base p.atoms closed b cites) g.2 in
       within_cons system.same laws.exact laws.itself (form.conclusion step) (conclusions form steps) closed stands
       (accepted_within given closed c b (earlier ++ form.conclusion step ∷ []) steps
-      (both_within earlier (form.conclusion step ∷ []) closed w (one_within (form.conclusion step) closed stands)) p.later)
+      (both_within earlier (form.conclusion step ∷ []) closed w (one_within (form.conclusion step) closed stands))
+      p.later)

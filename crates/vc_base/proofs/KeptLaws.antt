@@ -1,5 +1,6 @@
 -- Laws of what is kept of a list of steps.
-use Rattle.std.proofs.Common.{◌≡◌, ℕ, zero, suc, ◌<◌, Bool, true, false, cond, ◌⊎◌, List, [], ◌∷◌, ◌++◌, length, refl, sym, ◌∙◌, ap, inl, inr, arith, length-append}
+use Rattle.std.proofs.Common.{◌≡◌, ℕ, zero, suc, ◌<◌, Bool, true, false, cond, ◌⊎◌, List, [], ◌∷◌, ◌++◌, length, refl}
+use Rattle.std.proofs.Common.{sym, ◌∙◌, ap, inl, inr, arith, length-append}
 use Rattle.std.specs.Prelude.{Option, None, Some, slice_get}
 use Rattle.std.proofs.lemmas.Bool.{and_from}
 use Rattle.vc_base.specs.Chains.{StepForm, before_all, cited, all_pass, is_justified, accepted}
@@ -7,7 +8,8 @@ use Rattle.vc_base.specs.Kept.{kept_number, new_numbers, new_premises, with_step
 use Rattle.vc_base.proofs.ChainLaws.{all_there, get_below, accepted_parts}
 
 -- an element of a list with one more: the last one, or one of the others
-pub get_front : {X : Type 0} (xs : List X) (y : X) (i : ℕ) (x : X) → slice_get xs i ≡ Some x → slice_get (xs ++ y ∷ []) i ≡ Some x
+pub get_front : {X : Type 0} (xs : List X) (y : X) (i : ℕ) (x : X) → slice_get xs i ≡ Some x
+    → slice_get (xs ++ y ∷ []) i ≡ Some x
 get_front [] y i x e = absurd (cc)
 get_front (z ∷ xs) y zero x e = e
 get_front (z ∷ xs) y (suc i) x e = get_front xs y i x e
@@ -26,7 +28,8 @@ get_cases (z ∷ xs) y (suc i) x e =
 
 -- the new number of a step names among the later conclusions what the old one named among the earlier
 abbrev pub Agrees : {A : Type 0} → List (Option ℕ) → List A → List A → Type 0
-Agrees {A = A} numbers earlier later = (n m : ℕ) (a : A) → slice_get numbers n ≡ Some (Some m) → slice_get earlier n ≡ Some a
+Agrees {A = A} numbers earlier later = (n m : ℕ) (a : A) → slice_get numbers n ≡ Some (Some m)
+    → slice_get earlier n ≡ Some a
     → (k : ℕ) × (m ≡ suc k) × (slice_get later k ≡ Some a)
 
 kept_is : (o : Option (Option ℕ)) (m : ℕ) → kept_number o ≡ Some m → o ≡ Some (Some m)
@@ -37,20 +40,24 @@ cited_one : {A : Type 0} (later : List A) (m k : ℕ) (a : A) (numbers : List �
     → slice_get later k ≡ Some a
     → cited later numbers ≡ Some atoms → cited later (m ∷ numbers) ≡ Some (a ∷ atoms)
 cited_one later m k a numbers atoms e f g =
-    ap (λ z. cited later (z ∷ numbers)) e ∙ (ap (λ o. before_all o (cited later numbers)) f ∙ ap (before_all (Some a)) g)
+    ap (λ z. cited later (z ∷ numbers)) e
+    ∙ (ap (λ o. before_all o (cited later numbers)) f ∙ ap (before_all (Some a)) g)
 
-cited_zero : {A : Type 0} (later : List A) (m : ℕ) (numbers : List ℕ) → m ≡ zero → cited later (m ∷ numbers) ≡ cited later numbers
+cited_zero : {A : Type 0} (later : List A) (m : ℕ) (numbers : List ℕ) → m ≡ zero
+    → cited later (m ∷ numbers) ≡ cited later numbers
 cited_zero later m numbers e = ap (λ z. cited later (z ∷ numbers)) e
 
 -- so new premises cite what the old ones cited
-pub cited_again : {A : Type 0} (numbers : List (Option ℕ)) (earlier later : List A) (premises premises' : List ℕ) (atoms : List A)
+pub cited_again : {A : Type 0} (numbers : List (Option ℕ)) (earlier later : List A) (premises premises' : List ℕ)
+    (atoms : List A)
     → Agrees numbers earlier later → new_numbers numbers premises ≡ Some premises' → cited earlier premises ≡ Some atoms
     → cited later premises' ≡ Some atoms
 cited_again numbers earlier later [] ns atoms agrees e f = let none : [] ≡ ns = cc in ap (cited later) (sym none) ∙ f
 cited_again numbers earlier later (zero ∷ premises) ns atoms agrees e f =
     let r = all_there (Some zero) (new_numbers numbers premises) ns e in
     let is : zero ≡ r.0 = cc in
-    ap (cited later) r.4 ∙ (cited_zero later r.0 r.1 (sym is) ∙ cited_again numbers earlier later premises r.1 atoms agrees r.3 f)
+    ap (cited later) r.4
+    ∙ (cited_zero later r.0 r.1 (sym is) ∙ cited_again numbers earlier later premises r.1 atoms agrees r.3 f)
 cited_again numbers earlier later (suc n ∷ premises) ns atoms agrees e f =
     let r = all_there (kept_number (slice_get numbers n)) (new_numbers numbers premises) ns e in
     let c = all_there (slice_get earlier n) (cited earlier premises) atoms f in
@@ -59,7 +66,8 @@ cited_again numbers earlier later (suc n ∷ premises) ns atoms agrees e f =
     ∙ (cited_one later r.0 k.0 c.0 r.1 c.1 k.1 k.2 (cited_again numbers earlier later premises r.1 c.1 agrees r.3 c.3)
     ∙ ap Some (sym c.4))
 
-agrees_dropped : {A : Type 0} (numbers : List (Option ℕ)) (earlier later : List A) (a : A) → length numbers ≡ length earlier
+agrees_dropped : {A : Type 0} (numbers : List (Option ℕ)) (earlier later : List A) (a : A)
+    → length numbers ≡ length earlier
     → Agrees numbers earlier later
     → Agrees (numbers ++ None ∷ []) (earlier ++ a ∷ []) later
 agrees_dropped numbers earlier later a same agrees n m b e f =
@@ -98,7 +106,8 @@ one_more : {X : Type 0} (count : ℕ) (xs : List X) (x : X) → count ≡ length
 one_more count xs x is = omega (arith, length-append xs (x ∷ []), is)
 
 -- the parts of new premises
-pub not_gone : {S A : Type 0} (form : StepForm S A) (gone : S → Bool) (numbers : List (Option ℕ)) (step : S) (premises : List ℕ)
+pub not_gone : {S A : Type 0} (form : StepForm S A) (gone : S → Bool) (numbers : List (Option ℕ)) (step : S)
+    (premises : List ℕ)
     → new_premises form gone numbers step ≡ Some premises
     → (gone step ≡ false) × (new_numbers numbers (form.premises step) ≡ Some premises)
 not_gone form gone numbers step premises e = choice (gone step) (new_numbers numbers (form.premises step)) e
@@ -108,15 +117,18 @@ not_gone form gone numbers step premises e = choice (gone step) (new_numbers num
     choice false o k = (refl, k)
 
 module _ {S A : Type 0} (form : StepForm S A) (gone : S → Bool) (before after : S → List A → Bool) where
-  -- a step keeps its conclusion when it is renumbered, and follows afterwards from what it followed from before, if it isn't gone
+  -- a step keeps its conclusion when it is renumbered, and follows afterwards from what it followed from before, if it
+  -- isn't gone
   pub record Stays : Type 0 where
-    pub same : (step : S) (premises : List ℕ) → form.conclusion (form.with_premises step premises) ≡ form.conclusion step
+    pub same : (step : S) (premises : List ℕ)
+        → form.conclusion (form.with_premises step premises) ≡ form.conclusion step
     pub numbers : (step : S) (premises : List ℕ) → form.premises (form.with_premises step premises) ≡ premises
     pub follows : (step : S) (premises : List ℕ) (atoms : List A) → gone step ≡ false → before step atoms ≡ true
         → after (form.with_premises step premises) atoms ≡ true
 
   -- a step that is kept, before others that are accepted after it
-  kept_first : Stays → (later : List A) (step : S) (premises : List ℕ) (atoms : List A) (rest : List S) → gone step ≡ false
+  kept_first : Stays → (later : List A) (step : S) (premises : List ℕ) (atoms : List A) (rest : List S)
+      → gone step ≡ false
       → cited later premises ≡ Some atoms → before step atoms ≡ true
       → accepted form after (later ++ form.conclusion step ∷ []) rest ≡ true
       → accepted form after later (form.with_premises step premises ∷ rest) ≡ true
@@ -125,7 +137,8 @@ module _ {S A : Type 0} (form : StepForm S A) (gone : S → Bool) (before after 
       let justified : is_justified form after later new ≡ true
       = ap (λ ns. all_pass (after new) (cited later ns)) (stays.numbers step premises)
       ∙ (ap (all_pass (after new)) again ∙ stays.follows step premises atoms stands from) in
-      and_from (is_justified form after later new) (accepted form after (later ++ form.conclusion new ∷ []) rest) justified
+      and_from (is_justified form after later new) (accepted form after (later ++ form.conclusion new ∷ []) rest)
+      justified
       (ap (λ a. accepted form after (later ++ a ∷ []) rest) (stays.same step premises) ∙ onwards)
 
   -- what is kept of an accepted list is accepted

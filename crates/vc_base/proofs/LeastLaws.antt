@@ -1,10 +1,12 @@
 -- What is kept of steps is what the least set of dropped steps leaves.
-use Rattle.std.proofs.Common.{◌≡◌, ℕ, zero, suc, ◌<◌, Bool, true, false, cond, ◌||◌, List, [], ◌∷◌, ◌++◌, length, map, refl, sym, ◌∙◌, ap, inl, inr, arith, append_assoc, append-nil, length-append}
+use Rattle.std.proofs.Common.{◌≡◌, ℕ, zero, suc, ◌<◌, Bool, true, false, cond, ◌||◌, List, [], ◌∷◌, ◌++◌, length, map}
+use Rattle.std.proofs.Common.{refl, sym, ◌∙◌, ap, inl, inr, arith, append_assoc, append-nil, length-append}
 use Rattle.std.specs.Prelude.{Option, None, Some, nat_lt, slice_get}
 use Rattle.std.specs.List.{list_all, list_any}
 use Rattle.std.proofs.lemmas.Bool.{and_parts, or_cases, or_right, or_left, ltb-true}
 use Rattle.vc_base.specs.Chains.{StepForm, before_all, cites_earlier}
-use Rattle.vc_base.specs.Kept.{kept_number, new_numbers, new_premises, with_step, number_for, count_with, kept, has_step, is_to_drop, IsDropping, number_left, without, IsLeft}
+use Rattle.vc_base.specs.Kept.{kept_number, new_numbers, new_premises, with_step, number_for, count_with, kept}
+use Rattle.vc_base.specs.Kept.{has_step, is_to_drop, IsDropping, number_left, without, IsLeft}
 use Rattle.vc_base.proofs.ChainLaws.{all_there}
 use Rattle.vc_base.proofs.KeptLaws.{get_cases, not_gone}
 
@@ -42,7 +44,8 @@ module _ {S A : Type 0} (form : StepForm S A) (gone : S → Bool) where
   numbers_from numbers count [] = []
   numbers_from numbers count (step ∷ steps) =
       let premises = new_premises form gone numbers step in
-      number_for premises count ∷ numbers_from (numbers ++ number_for premises count ∷ []) (count_with premises count) steps
+      number_for premises count
+      ∷ numbers_from (numbers ++ number_for premises count ∷ []) (count_with premises count) steps
 
   -- a step that is gone, or has a dropped premise, has no new premises
   gone_none : (numbers : List (Option ℕ)) (step : S) → gone step ≡ true → new_premises form gone numbers step ≡ None
@@ -65,14 +68,16 @@ module _ {S A : Type 0} (form : StepForm S A) (gone : S → Bool) (all : List (O
     pub numbered : (k m : ℕ) → slice_get numbers k ≡ Some (Some m) → number_left (dropped_by all) (suc k) ≡ m
 
   -- what is said of a number before
-  before : (n : ℕ) (numbers : List (Option ℕ)) (count : ℕ) (steps : List S) → Fits n numbers count steps → (k : ℕ) → k < n
+  before : (n : ℕ) (numbers : List (Option ℕ)) (count : ℕ) (steps : List S) → Fits n numbers count steps → (k : ℕ)
+      → k < n
       → slice_get all k ≡ slice_get numbers k
   before n numbers count steps f k below =
       ap (λ xs. slice_get xs k) f.whole
       ∙ get_front numbers (numbers_from form gone numbers count steps) k (omega (arith, f.place))
 
   -- and of the number itself
-  here : (n : ℕ) (numbers : List (Option ℕ)) (count : ℕ) (step : S) (steps : List S) → Fits n numbers count (step ∷ steps)
+  here : (n : ℕ) (numbers : List (Option ℕ)) (count : ℕ) (step : S) (steps : List S)
+      → Fits n numbers count (step ∷ steps)
       → slice_get all n ≡ Some (number_for (new_premises form gone numbers step) count)
   here n numbers count step steps f =
       let number = number_for (new_premises form gone numbers step) count in
@@ -87,13 +92,15 @@ module _ {S A : Type 0} (form : StepForm S A) (gone : S → Bool) (all : List (O
   left_next n count None e f =
       ap (λ p. cond (is_unnumbered p) (number_left (dropped_by all) n) (suc (number_left (dropped_by all) n))) e ∙ f
   left_next n count (Some ps) e f =
-      ap (λ p. cond (is_unnumbered p) (number_left (dropped_by all) n) (suc (number_left (dropped_by all) n))) e ∙ ap suc f
+      ap (λ p. cond (is_unnumbered p) (number_left (dropped_by all) n) (suc (number_left (dropped_by all) n))) e
+      ∙ ap suc f
 
   number_is : (o : Option (List ℕ)) (count m : ℕ) → Some m ≡ number_for o count → count_with o count ≡ m
   number_is None count m e = absurd (cc)
   number_is (Some ps) count m e = let is : m ≡ suc count = cc in sym is
 
-  fits_next : (n : ℕ) (numbers : List (Option ℕ)) (count : ℕ) (step : S) (steps : List S) → Fits n numbers count (step ∷ steps)
+  fits_next : (n : ℕ) (numbers : List (Option ℕ)) (count : ℕ) (step : S) (steps : List S)
+      → Fits n numbers count (step ∷ steps)
       → Fits (suc n) (numbers ++ number_for (new_premises form gone numbers step) count ∷ [])
       (count_with (new_premises form gone numbers step) count) steps
   fits_next n numbers count step steps f =
@@ -108,12 +115,14 @@ module _ {S A : Type 0} (form : StepForm S A) (gone : S → Bool) (all : List (O
         counted = next;
         numbered = λ k m e. elim (get_cases numbers number k (Some m) e) [
           | inl h ↦ f.numbered k m h
-          | inr h ↦ ap (λ z. number_left (dropped_by all) (suc z)) (h.0 ∙ sym f.place) ∙ (next ∙ number_is o count m h.1)
+          | inr h ↦ ap (λ z. number_left (dropped_by all) (suc z)) (h.0 ∙ sym f.place)
+              ∙ (next ∙ number_is o count m h.1)
         ];
       }
 
   -- a premise that is dropped has no new number
-  unnew : (n : ℕ) (numbers : List (Option ℕ)) (count : ℕ) (steps : List S) → Fits n numbers count steps → (premises : List ℕ)
+  unnew : (n : ℕ) (numbers : List (Option ℕ)) (count : ℕ) (steps : List S) → Fits n numbers count steps
+      → (premises : List ℕ)
       → list_all (λ k. nat_lt k (suc n)) premises ≡ true → list_any (has_step (dropped_by all)) premises ≡ true
       → new_numbers numbers premises ≡ None
   unnew n numbers count steps f [] earlier e = absurd (cc)
@@ -144,7 +153,8 @@ module _ {S A : Type 0} (form : StepForm S A) (gone : S → Bool) (all : List (O
       r.4 ∙ (ap (λ z. z ∷ r.1) (sym is) ∙ ap (λ zs. zero ∷ zs) (new_are n numbers count steps f premises r.1 r.3))
   new_are n numbers count steps f (suc k ∷ premises) news e =
       let r = all_there (kept_number (slice_get numbers k)) (new_numbers numbers premises) news e in
-      let is : number_left (dropped_by all) (suc k) ≡ r.0 = f.numbered k r.0 (number_there (slice_get numbers k) r.0 r.2) in
+      let is : number_left (dropped_by all) (suc k) ≡ r.0
+      = f.numbered k r.0 (number_there (slice_get numbers k) r.0 r.2) in
       r.4 ∙ (ap (λ z. z ∷ r.1) (sym is)
       ∙ ap (λ zs. number_left (dropped_by all) (suc k) ∷ zs) (new_are n numbers count steps f premises r.1 r.3))
     where
@@ -153,7 +163,8 @@ module _ {S A : Type 0} (form : StepForm S A) (gone : S → Bool) (all : List (O
       number_there (Some number) m g = ap Some g
 
   -- a step that is to be dropped has its number among the dropped
-  dropped_here : (n : ℕ) (numbers : List (Option ℕ)) (count : ℕ) (step : S) (steps : List S) → Fits n numbers count (step ∷ steps)
+  dropped_here : (n : ℕ) (numbers : List (Option ℕ)) (count : ℕ) (step : S) (steps : List S)
+      → Fits n numbers count (step ∷ steps)
       → list_all (λ k. nat_lt k (suc n)) (form.premises step) ≡ true → is_to_drop form gone (dropped_by all) step ≡ true
       → dropped_by all (suc n) ≡ true
   dropped_here n numbers count step steps f earlier e =
@@ -161,7 +172,8 @@ module _ {S A : Type 0} (form : StepForm S A) (gone : S → Bool) (all : List (O
       let none : new_premises form gone numbers step ≡ None
       = elim (or_cases (gone step) some e) [
         | inl h ↦ gone_none form gone numbers step h
-        | inr h ↦ unnew_none form gone numbers step (unnew n numbers count (step ∷ steps) f (form.premises step) earlier h)
+        | inr h ↦ unnew_none form gone numbers step
+            (unnew n numbers count (step ∷ steps) f (form.premises step) earlier h)
       ] in
       ap is_unnumbered (here n numbers count step steps f) ∙ ap (λ o. is_unnumbered (Some (number_for o count))) none
 
@@ -179,7 +191,8 @@ module _ {S A : Type 0} (form : StepForm S A) (gone : S → Bool) (all : List (O
       )
 
   -- what is kept is what is left without the dropped
-  left_here : (n : ℕ) (count : ℕ) (step : S) (o : Option (List ℕ)) (later : List S) → slice_get all n ≡ Some (number_for o count)
+  left_here : (n : ℕ) (count : ℕ) (step : S) (o : Option (List ℕ)) (later : List S)
+      → slice_get all n ≡ Some (number_for o count)
       → ((news : List ℕ) → o ≡ Some news → news ≡ map (number_left (dropped_by all)) (form.premises step))
       → with_step form step o later ≡ cond (dropped_by all (suc n)) later
       (form.with_premises step (map (number_left (dropped_by all)) (form.premises step)) ∷ later)
@@ -196,13 +209,15 @@ module _ {S A : Type 0} (form : StepForm S A) (gone : S → Bool) (all : List (O
   left_is n numbers count [] f = refl
   left_is n numbers count (step ∷ steps) f =
       let o = new_premises form gone numbers step in
-      let rest : kept form gone (numbers ++ number_for o count ∷ []) (count_with o count) steps ≡ without form (dropped_by all)
+      let rest : kept form gone (numbers ++ number_for o count ∷ []) (count_with o count) steps
+      ≡ without form (dropped_by all)
       (suc (suc n)) steps
       = left_is (suc n) (numbers ++ number_for o count ∷ []) (count_with o count) steps
       (fits_next n numbers count step steps f) in
       ap (with_step form step o) rest
       ∙ left_here n count step o (without form (dropped_by all) (suc (suc n)) steps) (here n numbers count step steps f)
-      (λ news e. new_are n numbers count (step ∷ steps) f (form.premises step) news (not_gone form gone numbers step news e).1)
+      (λ news e. new_are n numbers count (step ∷ steps) f (form.premises step) news
+      (not_gone form gone numbers step news e).1)
 
 -- a premise of a step that is dropped is dropped in each such set, if the ones before are
 module _ {S A : Type 0} (form : StepForm S A) (gone : S → Bool) (other : ℕ → Bool) where
@@ -258,7 +273,8 @@ module _ {S A : Type 0} (form : StepForm S A) (gone : S → Bool) (other : ℕ �
         | false ↦ λ g. some_dropped n numbers is holds (form.premises step) earlier g
       ] e
 
-  holds_next : (n : ℕ) (numbers : List (Option ℕ)) (count : ℕ) (o : Option (List ℕ)) → n ≡ length numbers → Holds numbers
+  holds_next : (n : ℕ) (numbers : List (Option ℕ)) (count : ℕ) (o : Option (List ℕ)) → n ≡ length numbers
+      → Holds numbers
       → (o ≡ None → other (suc n) ≡ true) → Holds (numbers ++ number_for o count ∷ [])
   holds_next n numbers count o is holds g k e =
       elim (get_cases numbers (number_for o count) k None e) [
@@ -273,7 +289,8 @@ module _ {S A : Type 0} (form : StepForm S A) (gone : S → Bool) (other : ℕ �
   least_from : (n : ℕ) (numbers : List (Option ℕ)) (count : ℕ) (steps : List S) → n ≡ length numbers → Holds numbers
       → cites_earlier form (suc n) steps ≡ true → IsDropping form gone other (suc n) steps
       → Holds (numbers ++ numbers_from form gone numbers count steps)
-  least_from n numbers count [] is holds earlier d k e = holds k (ap (λ xs. slice_get xs k) (sym (append-nil numbers)) ∙ e)
+  least_from n numbers count [] is holds earlier d k e =
+      holds k (ap (λ xs. slice_get xs k) (sym (append-nil numbers)) ∙ e)
   least_from n numbers count (step ∷ steps) is holds earlier d k e =
       let p = and_parts (list_all (λ j. nat_lt j (suc n)) (form.premises step))
       (cites_earlier form (suc (suc n)) steps) earlier in
@@ -286,7 +303,8 @@ module _ {S A : Type 0} (form : StepForm S A) (gone : S → Bool) (other : ℕ �
       (ap (λ xs. slice_get xs k) (append_assoc numbers (number ∷ []) later) ∙ e)
 
 -- what is kept is what the least set of dropped steps leaves
-pub kept_is_left : {S A : Type 0} (form : StepForm S A) (gone : S → Bool) (steps : List S) → cites_earlier form 1 steps ≡ true
+pub kept_is_left : {S A : Type 0} (form : StepForm S A) (gone : S → Bool) (steps : List S)
+    → cites_earlier form 1 steps ≡ true
     → IsLeft form gone steps (kept form gone [] 0 steps)
 kept_is_left form gone steps earlier =
     let all = numbers_from form gone [] 0 steps in
@@ -296,11 +314,13 @@ kept_is_left form gone steps earlier =
       dropped = dropped_by all;
       is = is_dropping form gone all 0 [] 0 steps f earlier;
       least =
-          λ other d n e. among all other (λ k. least_from form gone other 0 [] 0 steps refl (λ j g. absurd (cc)) earlier d k) n e;
+          λ other d n e. among all other
+          (λ k. least_from form gone other 0 [] 0 steps refl (λ j g. absurd (cc)) earlier d k) n e;
       rest = left_is form gone all 0 [] 0 steps f;
     }
   where
-    among : (numbers : List (Option ℕ)) (other : ℕ → Bool) → ((k : ℕ) → slice_get numbers k ≡ Some None → other (suc k) ≡ true)
+    among : (numbers : List (Option ℕ)) (other : ℕ → Bool)
+        → ((k : ℕ) → slice_get numbers k ≡ Some None → other (suc k) ≡ true)
         → (n : ℕ) → dropped_by numbers n ≡ true → other n ≡ true
     among numbers other g zero e = absurd (cc)
     among numbers other g (suc n) e = g n (unnumbered_is (slice_get numbers n) e)

@@ -1,5 +1,6 @@
 -- Laws of numbers in a range, and of what is left of a list by a test.
-use Rattle.std.proofs.Common.{◌≡◌, ℕ, zero, suc, ◌+◌, ◌-◌, ◌<◌, ◌≤◌, Bool, true, false, cond, not, ◌&&◌, ◌⊎◌, List, [], ◌∷◌, ◌++◌, length, map, get_or, refl, sym, ◌∙◌, ap, subst, inl, inr, arith, add-zero}
+use Rattle.std.proofs.Common.{◌≡◌, ℕ, zero, suc, ◌+◌, ◌-◌, ◌<◌, ◌≤◌, Bool, true, false, cond, not, ◌&&◌, ◌⊎◌, List, []}
+use Rattle.std.proofs.Common.{◌∷◌, ◌++◌, length, map, get_or, refl, sym, ◌∙◌, ap, subst, inl, inr, arith, add-zero}
 use Rattle.std.specs.Prelude.{None, Some, nat_eq, ◌==◌}
 use Rattle.std.specs.List.{filter, find, list_all, range_with_len}
 use Rattle.std.proofs.lemmas.Bool.{eqb-true, eqb-false, eq-eqb}
@@ -16,7 +17,8 @@ pub number_itself : (a : ℕ) → nat_eq a a ≡ true
 number_itself a = eq-eqb a a refl
 
 -- a range of two parts
-pub range_split : (a m n k b : ℕ) → k ≡ m + n → b ≡ a + m → range_with_len a k ≡ range_with_len a m ++ range_with_len b n
+pub range_split : (a m n k b : ℕ) → k ≡ m + n → b ≡ a + m
+    → range_with_len a k ≡ range_with_len a m ++ range_with_len b n
 range_split a zero n k b e f =
     let k_is : k ≡ n = omega arith in
     let b_is : b ≡ a = omega arith in
@@ -30,10 +32,12 @@ pub range_has : (a n g : ℕ) → a ≤ g → g < a + n → has nat_eq (range_wi
 range_has a zero g low high = absurd (omega arith)
 range_has a (suc n) g low high =
     elim (told (nat_eq g a)) [
-      | inl e ↦ subst (λ z. has nat_eq (a ∷ range_with_len (a + 1) n) z ≡ true) (sym (number_exact g a e)) (has_first nat_eq number_exact number_itself a (range_with_len (a + 1) n))
+      | inl e ↦ subst (λ z. has nat_eq (a ∷ range_with_len (a + 1) n) z ≡ true) (sym (number_exact g a e))
+          (has_first nat_eq number_exact number_itself a (range_with_len (a + 1) n))
       | inr e ↦
           let differ : (g ≡ a → ⊥) = eqb-false g a e in
-          has_more nat_eq number_exact number_itself a (range_with_len (a + 1) n) g (range_has (a + 1) n g (omega arith) (omega arith))
+          has_more nat_eq number_exact number_itself a (range_with_len (a + 1) n) g
+          (range_has (a + 1) n g (omega arith) (omega arith))
     ]
 
 pub has_range : (a n g : ℕ) → has nat_eq (range_with_len a n) g ≡ true → (a ≤ g) × (g < a + n)
@@ -45,7 +49,8 @@ has_range a (suc n) g h =
     ]
 
 -- the numbers of a test, with one number more
-pub filter_next : (p : ℕ → Bool) (n : ℕ) → filter p (numbers_below (n + 1)) ≡ filter p (numbers_below n) ++ cond (p n) (n ∷ []) []
+pub filter_next : (p : ℕ → Bool) (n : ℕ)
+    → filter p (numbers_below (n + 1)) ≡ filter p (numbers_below n) ++ cond (p n) (n ∷ []) []
 filter_next p n =
     ap (filter p) (range_split 0 n 1 (n + 1) n refl (omega arith)) ∙ filter-append p (numbers_below n) (n ∷ [])
 
@@ -66,7 +71,8 @@ filter_at p i n below passes =
 pub filter_none : {A : Type 0} (p : A → Bool) (xs : List A) → filter (λ x. not (p x)) xs ≡ [] → list_all p xs ≡ true
 filter_none p [] e = refl
 filter_none p (x ∷ xs) e =
-    elim (p x) as (λ b. cond (not b) (x ∷ filter (λ y. not (p y)) xs) (filter (λ y. not (p y)) xs) ≡ [] → (b && list_all p xs) ≡ true) [
+    elim (p x) as (λ b. cond (not b) (x ∷ filter (λ y. not (p y)) xs) (filter (λ y. not (p y)) xs) ≡ []
+    → (b && list_all p xs) ≡ true) [
       | true ↦ λ k. filter_none p xs k
       | false ↦ λ k. absurd (cc)
     ] e
@@ -74,13 +80,15 @@ filter_none p (x ∷ xs) e =
 pub none_filter : {A : Type 0} (p : A → Bool) (xs : List A) → list_all p xs ≡ true → filter (λ x. not (p x)) xs ≡ []
 none_filter p [] e = refl
 none_filter p (x ∷ xs) e =
-    elim (p x) as (λ b. (b && list_all p xs) ≡ true → cond (not b) (x ∷ filter (λ y. not (p y)) xs) (filter (λ y. not (p y)) xs) ≡ []) [
+    elim (p x) as (λ b. (b && list_all p xs) ≡ true
+    → cond (not b) (x ∷ filter (λ y. not (p y)) xs) (filter (λ y. not (p y)) xs) ≡ []) [
       | true ↦ λ k. none_filter p xs k
       | false ↦ λ k. absurd (cc)
     ] e
 
 -- by a stricter test, nothing stays of nothing, and of one element that or nothing
-pub filter_none_stays : {A : Type 0} (p q : A → Bool) → ((x : A) → q x ≡ true → p x ≡ true) → (xs : List A) → filter p xs ≡ [] → filter q xs ≡ []
+pub filter_none_stays : {A : Type 0} (p q : A → Bool) → ((x : A) → q x ≡ true → p x ≡ true) → (xs : List A)
+    → filter p xs ≡ [] → filter q xs ≡ []
 filter_none_stays p q f [] e = refl
 filter_none_stays p q f (x ∷ xs) e =
     elim (p x) as (λ b. p x ≡ b → cond b (x ∷ filter p xs) (filter p xs) ≡ [] → filter q (x ∷ xs) ≡ []) [
@@ -91,23 +99,28 @@ filter_none_stays p q f (x ∷ xs) e =
       ] refl
     ] refl e
 
-pub filter_one_stays : {A : Type 0} (p q : A → Bool) → ((x : A) → q x ≡ true → p x ≡ true) → (xs : List A) (g : A) → filter p xs ≡ g ∷ []
+pub filter_one_stays : {A : Type 0} (p q : A → Bool) → ((x : A) → q x ≡ true → p x ≡ true) → (xs : List A) (g : A)
+    → filter p xs ≡ g ∷ []
     → (filter q xs ≡ []) ⊎ (filter q xs ≡ g ∷ [])
 filter_one_stays p q f [] g e = absurd (cc)
 filter_one_stays p q f (x ∷ xs) g e =
-    elim (p x) as (λ b. p x ≡ b → cond b (x ∷ filter p xs) (filter p xs) ≡ g ∷ [] → (filter q (x ∷ xs) ≡ []) ⊎ (filter q (x ∷ xs) ≡ g ∷ [])) [
+    elim (p x) as (λ b. p x ≡ b → cond b (x ∷ filter p xs) (filter p xs) ≡ g ∷ []
+    → (filter q (x ∷ xs) ≡ []) ⊎ (filter q (x ∷ xs) ≡ g ∷ [])) [
       | true ↦ λ is k.
           let same : x ≡ g = cc in
           let empty : filter p xs ≡ [] = cc in
           let rest : filter q xs ≡ [] = filter_none_stays p q f xs empty in
-          elim (q x) as (λ b. (cond b (x ∷ filter q xs) (filter q xs) ≡ []) ⊎ (cond b (x ∷ filter q xs) (filter q xs) ≡ g ∷ [])) [
+          elim (q x) as (λ b. (cond b (x ∷ filter q xs) (filter q xs) ≡ [])
+          ⊎ (cond b (x ∷ filter q xs) (filter q xs) ≡ g ∷ [])) [
             | true ↦ inr (ap (λ t. x ∷ t) rest ∙ ap (λ t. t ∷ []) same)
             | false ↦ inl rest
           ]
-      | false ↦ λ is k. elim (q x) as (λ b. q x ≡ b → (cond b (x ∷ filter q xs) (filter q xs) ≡ []) ⊎ (cond b (x ∷ filter q xs) (filter q xs) ≡ g ∷ [])) [
-        | true ↦ λ now. absurd (both (f x now) is)
-        | false ↦ λ now. filter_one_stays p q f xs g k
-      ] refl
+      | false ↦ λ is k. elim (q x) as
+          (λ b. q x ≡ b → (cond b (x ∷ filter q xs) (filter q xs) ≡ [])
+          ⊎ (cond b (x ∷ filter q xs) (filter q xs) ≡ g ∷ [])) [
+            | true ↦ λ now. absurd (both (f x now) is)
+            | false ↦ λ now. filter_one_stays p q f xs g k
+          ] refl
     ] refl e
 
 -- a range mapped number by number is a list mapped element by element

@@ -1,5 +1,6 @@
 -- Laws of sets as lists.
-use Rattle.std.proofs.Common.{◌≡◌, ◌<◌, ◌≤◌, Bool, true, false, cond, ◌||◌, ◌⊎◌, List, [], ◌∷◌, ◌++◌, length, refl, sym, ◌∙◌, ap, subst, inl, inr, arith}
+use Rattle.std.proofs.Common.{◌≡◌, ◌<◌, ◌≤◌, Bool, true, false, cond, ◌||◌, ◌⊎◌, List, [], ◌∷◌, ◌++◌, length, refl, sym}
+use Rattle.std.proofs.Common.{◌∙◌, ap, subst, inl, inr, arith}
 use Rattle.std.specs.List.{list_any, list_all, filter, IsDistinct, AllByRecursion}
 use Rattle.std.proofs.lemmas.Bool.{or_cases, or_left, or_right, or_parts, or_from, and_parts, and_from}
 use Rattle.std.proofs.lemmas.List.Folds.{list_any-append}
@@ -30,9 +31,11 @@ none_from p (x ∷ xs) e = none_step (p x) (list_any p xs) e (none_from p xs)
     none_step false c e f = (refl, f e)
 
 -- the laws of a test that tells elements exactly
-module _ {A : Type 0} (same : A → A → Bool) (exact : (a b : A) → same a b ≡ true → a ≡ b) (itself : (a : A) → same a a ≡ true) where
+module _ {A : Type 0} (same : A → A → Bool) (exact : (a b : A) → same a b ≡ true → a ≡ b)
+    (itself : (a : A) → same a a ≡ true) where
   -- an element of two sets together is in one of them
-  pub has_either : (xs ys : List A) (a : A) → has same (xs ++ ys) a ≡ true → (has same xs a ≡ true) ⊎ (has same ys a ≡ true)
+  pub has_either : (xs ys : List A) (a : A) → has same (xs ++ ys) a ≡ true
+      → (has same xs a ≡ true) ⊎ (has same ys a ≡ true)
   has_either xs ys a h = or_cases (has same xs a) (has same ys a) (sym (list_any-append (same a) xs ys) ∙ h)
 
   pub has_front : (xs ys : List A) (a : A) → has same xs a ≡ true → has same (xs ++ ys) a ≡ true
@@ -71,21 +74,27 @@ module _ {A : Type 0} (same : A → A → Bool) (exact : (a b : A) → same a b 
   with_all_right xs [] a h = absurd (cc)
   with_all_right xs (y ∷ ys) a h =
       elim (has_cases y ys a h) [
-        | inl p ↦ elim (has same xs y) as (λ b. has same xs y ≡ b → has same (with_all same (cond b xs (y ∷ xs)) ys) a ≡ true) [
-          | true ↦ λ e. with_all_left xs ys a (ap (has same xs) p ∙ e)
-          | false ↦ λ e. with_all_left (y ∷ xs) ys a (subst (λ z. has same (y ∷ xs) z ≡ true) (sym p) (has_first y xs))
-        ] refl
+        | inl p ↦ elim (has same xs y) as
+            (λ b. has same xs y ≡ b → has same (with_all same (cond b xs (y ∷ xs)) ys) a ≡ true) [
+              | true ↦ λ e. with_all_left xs ys a (ap (has same xs) p ∙ e)
+              | false ↦ λ e. with_all_left (y ∷ xs) ys a
+                  (subst (λ z. has same (y ∷ xs) z ≡ true) (sym p) (has_first y xs))
+            ] refl
         | inr p ↦ with_all_right (cond (has same xs y) xs (y ∷ xs)) ys a p
       ]
 
   -- nothing else comes
-  pub with_all_cases : (xs ys : List A) (a : A) → has same (with_all same xs ys) a ≡ true → (has same xs a ≡ true) ⊎ (has same ys a ≡ true)
+  pub with_all_cases : (xs ys : List A) (a : A) → has same (with_all same xs ys) a ≡ true
+      → (has same xs a ≡ true) ⊎ (has same ys a ≡ true)
   with_all_cases xs [] a h = inl h
   with_all_cases xs (y ∷ ys) a h =
-      elim (has same xs y) as (λ b. has same (with_all same (cond b xs (y ∷ xs)) ys) a ≡ true → (has same xs a ≡ true) ⊎ (has same (y ∷ ys) a ≡ true)) [
+      elim (has same xs y) as
+      (λ b. has same (with_all same (cond b xs (y ∷ xs)) ys) a ≡ true
+      → (has same xs a ≡ true) ⊎ (has same (y ∷ ys) a ≡ true)) [
         | true ↦ λ e. elim (with_all_cases xs ys a e) [ inl p ↦ inl p | inr p ↦ inr (has_more y ys a p) ]
         | false ↦ λ e. elim (with_all_cases (y ∷ xs) ys a e) [
-          | inl p ↦ elim (has_cases y xs a p) [ inl q ↦ inr (subst (λ z. has same (y ∷ ys) z ≡ true) (sym q) (has_first y ys)) | inr q ↦ inl q ]
+          | inl p ↦ elim (has_cases y xs a p)
+              [ inl q ↦ inr (subst (λ z. has same (y ∷ ys) z ≡ true) (sym q) (has_first y ys)) | inr q ↦ inl q ]
           | inr p ↦ inr (has_more y ys a p)
         ]
       ] h
@@ -103,15 +112,19 @@ module _ {A : Type 0} (same : A → A → Bool) (exact : (a b : A) → same a b 
   with_all_length xs (y ∷ ys) =
       elim (has same xs y) as (λ b. length xs ≤ length (with_all same (cond b xs (y ∷ xs)) ys)) [
         | true ↦ with_all_length xs ys
-        | false ↦ let h : length (y ∷ xs) ≤ length (with_all same (y ∷ xs) ys) = with_all_length (y ∷ xs) ys in omega arith
+        | false ↦ let h : length (y ∷ xs) ≤ length (with_all same (y ∷ xs) ys) = with_all_length (y ∷ xs) ys in
+            omega arith
       ]
 
-  pub with_all_longer : (xs ys : List A) (a : A) → has same ys a ≡ true → has same xs a ≡ false → length xs < length (with_all same xs ys)
+  pub with_all_longer : (xs ys : List A) (a : A) → has same ys a ≡ true → has same xs a ≡ false
+      → length xs < length (with_all same xs ys)
   with_all_longer xs [] a h n = absurd (cc)
   with_all_longer xs (y ∷ ys) a h n =
       elim (has same xs y) as (λ b. has same xs y ≡ b → length xs < length (with_all same (cond b xs (y ∷ xs)) ys)) [
-        | true ↦ λ e. elim (has_cases y ys a h) [ inl p ↦ absurd (both (ap (has same xs) p ∙ e) n) | inr p ↦ with_all_longer xs ys a p n ]
-        | false ↦ λ e. let h : length (y ∷ xs) ≤ length (with_all same (y ∷ xs) ys) = with_all_length (y ∷ xs) ys in omega arith
+        | true ↦ λ e. elim (has_cases y ys a h)
+            [ inl p ↦ absurd (both (ap (has same xs) p ∙ e) n) | inr p ↦ with_all_longer xs ys a p n ]
+        | false ↦ λ e. let h : length (y ∷ xs) ≤ length (with_all same (y ∷ xs) ys) = with_all_length (y ∷ xs) ys in
+            omega arith
       ] refl
 
   -- a set without doubles stays one
@@ -133,7 +146,8 @@ module _ {A : Type 0} (same : A → A → Bool) (exact : (a b : A) → same a b 
 
   pub all_from : (p : A → Bool) (xs : List A) → ((a : A) → has same xs a ≡ true → p a ≡ true) → list_all p xs ≡ true
   all_from p [] f = refl
-  all_from p (x ∷ xs) f = and_from (p x) (list_all p xs) (f x (has_first x xs)) (all_from p xs (λ a h. f a (has_more x xs a h)))
+  all_from p (x ∷ xs) f =
+      and_from (p x) (list_all p xs) (f x (has_first x xs)) (all_from p xs (λ a h. f a (has_more x xs a h)))
 
   -- what no element passes, one of them fails, and the other way
   pub none_at : (p : A → Bool) (xs : List A) (a : A) → list_any p xs ≡ false → has same xs a ≡ true → p a ≡ false
@@ -142,23 +156,29 @@ module _ {A : Type 0} (same : A → A → Bool) (exact : (a b : A) → same a b 
       let both_parts : (p x ≡ false) × (list_any p xs ≡ false) = or_parts (p x) (list_any p xs) none in
       elim (has_cases x xs a h) [ inl q ↦ ap p q ∙ both_parts.0 | inr q ↦ none_at p xs a both_parts.1 q ]
 
-  pub none_passes : (p : A → Bool) (xs : List A) → ((a : A) → has same xs a ≡ true → p a ≡ false) → list_any p xs ≡ false
+  pub none_passes : (p : A → Bool) (xs : List A) → ((a : A) → has same xs a ≡ true → p a ≡ false)
+      → list_any p xs ≡ false
   none_passes p [] f = refl
-  none_passes p (x ∷ xs) f = or_from (p x) (list_any p xs) (f x (has_first x xs)) (none_passes p xs (λ a h. f a (has_more x xs a h)))
+  none_passes p (x ∷ xs) f =
+      or_from (p x) (list_any p xs) (f x (has_first x xs)) (none_passes p xs (λ a h. f a (has_more x xs a h)))
 
   -- the elements that pass a test
-  pub has_filter : (p : A → Bool) (xs : List A) (a : A) → has same (filter p xs) a ≡ true → (has same xs a ≡ true) × (p a ≡ true)
+  pub has_filter : (p : A → Bool) (xs : List A) (a : A) → has same (filter p xs) a ≡ true
+      → (has same xs a ≡ true) × (p a ≡ true)
   has_filter p [] a h = absurd (cc)
   has_filter p (x ∷ xs) a h =
-      elim (p x) as (λ b. p x ≡ b → has same (cond b (x ∷ filter p xs) (filter p xs)) a ≡ true → (has same (x ∷ xs) a ≡ true) × (p a ≡ true)) [
+      elim (p x) as (λ b. p x ≡ b → has same (cond b (x ∷ filter p xs) (filter p xs)) a ≡ true
+      → (has same (x ∷ xs) a ≡ true) × (p a ≡ true)) [
         | true ↦ λ e k. elim (has_cases x (filter p xs) a k) [
           | inl q ↦ (subst (λ z. has same (x ∷ xs) z ≡ true) (sym q) (has_first x xs), ap p q ∙ e)
           | inr q ↦ let r : (has same xs a ≡ true) × (p a ≡ true) = has_filter p xs a q in (has_more x xs a r.0, r.1)
         ]
-        | false ↦ λ e k. let r : (has same xs a ≡ true) × (p a ≡ true) = has_filter p xs a k in (has_more x xs a r.0, r.1)
+        | false ↦ λ e k. let r : (has same xs a ≡ true)
+            × (p a ≡ true) = has_filter p xs a k in (has_more x xs a r.0, r.1)
       ] refl h
 
-  pub filter_has : (p : A → Bool) (xs : List A) (a : A) → has same xs a ≡ true → p a ≡ true → has same (filter p xs) a ≡ true
+  pub filter_has : (p : A → Bool) (xs : List A) (a : A) → has same xs a ≡ true → p a ≡ true
+      → has same (filter p xs) a ≡ true
   filter_has p [] a h e = absurd (cc)
   filter_has p (x ∷ xs) a h e =
       elim (p x) as (λ b. p x ≡ b → has same (cond b (x ∷ filter p xs) (filter p xs)) a ≡ true) [

@@ -1,5 +1,6 @@
 -- The laws that a system of givers owes, and what follows for rounds and for sets that grow.
-use Rattle.std.proofs.Common.{◌≡◌, ℕ, zero, suc, Bool, true, false, cond, ◌⊎◌, List, [], ◌∷◌, ◌++◌, map, refl, ◌∙◌, ap, subst, inl, inr}
+use Rattle.std.proofs.Common.{◌≡◌, ℕ, zero, suc, Bool, true, false, cond, ◌⊎◌, List, [], ◌∷◌, ◌++◌, map, refl, ◌∙◌, ap}
+use Rattle.std.proofs.Common.{subst, inl, inr}
 use Rattle.std.specs.List.{list_any, flat_map}
 use Rattle.std.proofs.lemmas.Bool.{or_cases, or_left, or_right}
 use Rattle.vc_base.specs.Growing.{Grows}
@@ -12,7 +13,8 @@ abbrev pub IsIn : {O : Type 0} → O → List O → Type 0
 IsIn o [] = ⊥
 IsIn o (x ∷ xs) = (o ≡ x) ⊎ IsIn o xs
 
--- what a system owes: its atoms are told apart exactly, a part of a clear set is clear, and what a giver gives at a part
+-- what a system owes: its atoms are told apart exactly, a part of a clear set is clear, and what a giver gives at a
+-- part
 -- of a clear set, a clash or an atom, it gives at that set too, unless the atom stands there or the giver clashes there
 pub record Laws {A O : Type 0} (system : System A O) : Type 0 where
   pub exact : (a b : A) → system.same a b ≡ true → a ≡ b
@@ -53,15 +55,18 @@ module _ {A O : Type 0} (system : System A O) (laws : Laws system) where
   giver_of f (o ∷ os) a h =
       elim (has_either system.same laws.exact laws.itself (f o) (flat_map f os) a h) [
         | inl e ↦ (o, inl refl, e)
-        | inr e ↦ let r : (o : O) × IsIn o os × (has system.same (f o) a ≡ true) = giver_of f os a e in (r.0, inr r.1, r.2)
+        | inr e ↦ let r : (o : O) × IsIn o os
+            × (has system.same (f o) a ≡ true) = giver_of f os a e in (r.0, inr r.1, r.2)
       ]
 
   pub given_of : (f : O → List A) (o : O) (os : List O) (a : A) → IsIn o os → has system.same (f o) a ≡ true
       → has system.same (flat_map f os) a ≡ true
   given_of f o [] a i h = absurd i
   given_of f o (x ∷ os) a (inl e) h =
-      has_front system.same laws.exact laws.itself (f x) (flat_map f os) a (subst (λ z. has system.same (f z) a ≡ true) e h)
-  given_of f o (x ∷ os) a (inr i) h = has_back system.same laws.exact laws.itself (f x) (flat_map f os) a (given_of f o os a i h)
+      has_front system.same laws.exact laws.itself (f x) (flat_map f os) a
+      (subst (λ z. has system.same (f z) a ≡ true) e h)
+  given_of f o (x ∷ os) a (inr i) h =
+      has_back system.same laws.exact laws.itself (f x) (flat_map f os) a (given_of f o os a i h)
 
   -- what a giver gives at a part of a closed set stands in it, and it doesn't clash there
   pub given_stands : (P N : List A) (o : O) (a : A) → IsIn o system.givers → IsClosed system N → Within system.same P N
@@ -75,7 +80,8 @@ module _ {A O : Type 0} (system : System A O) (laws : Laws system) where
         ]
       ]
 
-  pub all_stand : (P N : List A) → IsClosed system N → Within system.same P N → Within system.same (all_given system P) N
+  pub all_stand : (P N : List A) → IsClosed system N → Within system.same P N
+      → Within system.same (all_given system P) N
   all_stand P N closed w a h =
       let r : (o : O) × IsIn o system.givers × (has system.same (atoms_of (system.gives o P)) a ≡ true)
       = giver_of (λ g. atoms_of (system.gives g P)) system.givers a h in
@@ -87,11 +93,13 @@ module _ {A O : Type 0} (system : System A O) (laws : Laws system) where
         | inl e ↦
             let r : (o : O) × IsIn o system.givers × (is_clash (system.gives o P) ≡ true)
             = any_at (λ g. is_clash (system.gives g P)) system.givers e in
-            absurd (both (at_any (λ g. is_clash (system.gives g N)) r.0 system.givers r.1 (laws.clash r.0 P N r.1 closed.clear w r.2)) closed.calm)
+            absurd (both (at_any (λ g. is_clash (system.gives g N)) r.0 system.givers r.1
+            (laws.clash r.0 P N r.1 closed.clear w r.2)) closed.calm)
         | inr e ↦ e
       ]
 
-  pub next_within : (P N : List A) → IsClosed system N → Within system.same P N → Within system.same (next_round system P) N
+  pub next_within : (P N : List A) → IsClosed system N → Within system.same P N
+      → Within system.same (next_round system P) N
   next_within P N closed w a h =
       elim (with_all_cases system.same laws.exact laws.itself P (all_given system P) a h) [
         | inl e ↦ w a e
@@ -102,7 +110,8 @@ module _ {A O : Type 0} (system : System A O) (laws : Laws system) where
   pub settle-next : (n : ℕ) (S : List A) → some_clash system S ≡ false → system.is_clear (next_round system S) ≡ true
       → settle system (suc n) S ≡ settle system n (next_round system S)
   settle-next n S calm clear =
-      ap (λ b. cond b broken (cond (system.is_clear (next_round system S)) (settle system n (next_round system S)) broken)) calm
+      ap (λ b. cond b broken
+      (cond (system.is_clear (next_round system S)) (settle system n (next_round system S)) broken)) calm
       ∙ ap (λ b. cond b (settle system n (next_round system S)) broken) clear
 
   pub settle-zero : (S : List A) → some_clash system S ≡ false → settle system zero S ≡ settled S
@@ -133,10 +142,12 @@ module _ {A O : Type 0} (system : System A O) (laws : Laws system) where
   grown_within base [] N closed w g = w
   grown_within base (a ∷ added) N closed w g =
       let inside : Within system.same (added ++ base) N = grown_within base added N closed w g.0 in
-      within_cons system.same laws.exact laws.itself a (added ++ base) N (all_stand (added ++ base) N closed inside a g.1) inside
+      within_cons system.same laws.exact laws.itself a (added ++ base) N
+      (all_stand (added ++ base) N closed inside a g.1) inside
 
   -- it is clear
-  pub grown_clear : (base added : List A) → system.is_clear base ≡ true → Grows system base added → system.is_clear (added ++ base) ≡ true
+  pub grown_clear : (base added : List A) → system.is_clear base ≡ true → Grows system base added
+      → system.is_clear (added ++ base) ≡ true
   grown_clear base [] c g = c
   grown_clear base (a ∷ added) c g = g.2
 

@@ -1,5 +1,6 @@
 -- What things reach is the least list that holds them and all that is written from it.
-use Rattle.std.proofs.Common.{◌≡◌, ℕ, zero, suc, ◌+◌, ◌<◌, ◌≤◌, Bool, true, false, cond, ◌⊎◌, List, [], ◌∷◌, ◌++◌, length, refl, sym, ◌∙◌, ap, subst, inl, inr, arith, length-append}
+use Rattle.std.proofs.Common.{◌≡◌, ℕ, zero, suc, ◌+◌, ◌<◌, ◌≤◌, Bool, true, false, cond, ◌⊎◌, List, [], ◌∷◌, ◌++◌}
+use Rattle.std.proofs.Common.{length, refl, sym, ◌∙◌, ap, subst, inl, inr, arith, length-append}
 use Rattle.std.specs.Cmp.{IsEquivalence}
 use Rattle.std.specs.List.{flat_map, list_any, IsDistinct}
 use Rattle.std.proofs.lemmas.Bool.{or_cases, or_left, or_right}
@@ -7,12 +8,14 @@ use Rattle.std.proofs.lemmas.Map.Made.{length-le_from_is_member}
 use Rattle.vc_base.specs.Sets.{has, with_all, Within}
 use Rattle.vc_base.specs.Spreading.{Links, reads_some, written_from, spread, reach, IsSpread}
 use Rattle.vc_base.proofs.Counting.{missing}
-use Rattle.vc_base.proofs.SetLaws.{same_test, has_either, has_front, has_back, with_all_left, with_all_right, with_all_cases, with_all_same, with_all_longer, with_all_distinct}
+use Rattle.vc_base.proofs.SetLaws.{same_test, has_either, has_front, has_back, with_all_left, with_all_right}
+use Rattle.vc_base.proofs.SetLaws.{with_all_cases, with_all_same, with_all_longer, with_all_distinct}
 
 module _ {T R : Type 0} (links : Links T R) (exact : (a b : T) → links.same a b ≡ true → a ≡ b)
     (itself : (a : T) → links.same a a ≡ true) where
   -- a rule that reads a thing of a list reads one of a longer list
-  more_read : (xs ys : List T) → Within links.same xs ys → (things : List T) → list_any (has links.same xs) things ≡ true
+  more_read : (xs ys : List T) → Within links.same xs ys → (things : List T)
+      → list_any (has links.same xs) things ≡ true
       → list_any (has links.same ys) things ≡ true
   more_read xs ys w [] e = e
   more_read xs ys w (a ∷ things) e =
@@ -42,7 +45,8 @@ module _ {T R : Type 0} (links : Links T R) (exact : (a b : T) → links.same a 
       first true false xs g k = let no : false ≡ true = g refl in absurd (cc)
       first false c xs g k = absurd (cc)
 
-  written_grows : (xs ys : List T) → Within links.same xs ys → Within links.same (written_from links xs) (written_from links ys)
+  written_grows : (xs ys : List T) → Within links.same xs ys
+      → Within links.same (written_from links xs) (written_from links ys)
   written_grows xs ys w =
       if_more (reads_some links xs) (reads_some links ys) (λ r e. more_read xs ys w (links.reads r) e) links.rules
 
@@ -87,7 +91,8 @@ module _ {T R : Type 0} (links : Links T R) (exact : (a b : T) → links.same a 
   whole_or_long (suc n) xs =
       let next = with_all links.same xs (written_from links xs) in
       elim (missing (has links.same xs) links.same itself exact (written_from links xs)) [
-        | inl all ↦ inl (subst (λ z. Within links.same (written_from links z) z) (sym (spread_stays (suc n) xs all)) all)
+        | inl all ↦ inl (subst (λ z. Within links.same (written_from links z) z) (sym (spread_stays (suc n) xs all))
+            all)
         | inr one ↦
             let longer : length xs < length next
             = with_all_longer links.same exact itself xs (written_from links xs) one.0 one.1 one.2 in
@@ -148,4 +153,5 @@ module _ {T R : Type 0} (links : Links T R) (exact : (a b : T) → links.same a 
   pub reach_least : (things all : List T) → IsSpread links things all → Within links.same (reach links things) all
   reach_least things all s =
       spread_within (suc (length (flat_map links.writes links.rules))) (with_all links.same [] things) all
-      (λ a h. elim (with_all_cases links.same exact itself [] things a h) [ inl e ↦ absurd (cc) | inr e ↦ s.holds a e ]) s.written
+      (λ a h. elim (with_all_cases links.same exact itself [] things a h) [ inl e ↦ absurd (cc) | inr e ↦ s.holds a e ])
+      s.written

@@ -1,6 +1,7 @@
 -- Lists of steps, each with a conclusion and the numbers of the steps that it follows from. Steps are numbered from 1;
 -- number 0 is what stands from the start.
-use Rattle.std.specs.Prelude.{ℕ, zero, suc, Bool, true, false, ◌&&◌, ◌||◌, ◌==◌, if◌then◌else◌, nat_lt, List, [], ◌∷◌, ◌++◌, length, map, slice_get, Option, None, Some}
+use Rattle.std.specs.Prelude.{ℕ, zero, suc, Bool, true, false, ◌&&◌, ◌||◌, ◌==◌, if◌then◌else◌, nat_lt, List, [], ◌∷◌}
+use Rattle.std.specs.Prelude.{◌++◌, length, map, slice_get, Option, None, Some}
 use Rattle.std.specs.List.{list_any, list_all}
 
 -- how steps are read: what a step concludes, the numbers of its premises, and the same step with other numbers
@@ -50,7 +51,8 @@ first_refused form follows earlier (step ∷ steps) =
 -- whether each step, of which the first has this number, cites only steps before it
 abbrev pub cites_earlier : {S A : Type 0} → StepForm S A → ℕ → List S → Bool
 cites_earlier form n [] = true
-cites_earlier form n (step ∷ steps) = list_all (λ k. nat_lt k n) (form.premises step) && cites_earlier form (suc n) steps
+cites_earlier form n (step ∷ steps) = list_all (λ k. nat_lt k n) (form.premises step)
+    && cites_earlier form (suc n) steps
 
 -- whether the number is among these
 abbrev pub is_among : ℕ → List ℕ → Bool

@@ -1,5 +1,6 @@
 -- What is left of a list of steps when some are gone, and with them all that needs them.
-use Rattle.std.specs.Prelude.{◌≡◌, ℕ, zero, suc, Bool, true, false, ◌||◌, if◌then◌else◌, List, [], ◌∷◌, ◌++◌, map, slice_get, Option, None, Some}
+use Rattle.std.specs.Prelude.{◌≡◌, ℕ, zero, suc, Bool, true, false, ◌||◌, if◌then◌else◌, List, [], ◌∷◌, ◌++◌, map}
+use Rattle.std.specs.Prelude.{slice_get, Option, None, Some}
 use Rattle.std.specs.List.{list_any}
 use Rattle.vc_base.specs.Chains.{StepForm, before_all}
 
@@ -33,13 +34,15 @@ abbrev pub count_with : Option (List ℕ) → ℕ → ℕ
 count_with None count = count
 count_with (Some premises) count = suc count
 
--- what is kept of steps: those that aren't gone and whose premises are kept, renumbered. The new numbers of the steps before
+-- what is kept of steps: those that aren't gone and whose premises are kept, renumbered. The new numbers of the steps
+-- before
 -- them are given, and how many of those are kept
 abbrev pub kept : {S A : Type 0} → StepForm S A → (S → Bool) → List (Option ℕ) → ℕ → List S → List S
 kept form gone numbers count [] = []
 kept form gone numbers count (step ∷ steps) =
     let premises = new_premises form gone numbers step in
-    with_step form step premises (kept form gone (numbers ++ number_for premises count ∷ []) (count_with premises count) steps)
+    with_step form step premises
+    (kept form gone (numbers ++ number_for premises count ∷ []) (count_with premises count) steps)
 
 -- whether a step of this number is in the set; number 0 is no step
 abbrev pub has_step : (ℕ → Bool) → ℕ → Bool

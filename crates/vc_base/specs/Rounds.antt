@@ -18,7 +18,8 @@ abbrev pub atoms_of : {A : Type 0} → Given A → List A
 atoms_of clash = []
 atoms_of (atoms given) = given
 
--- what settling is about: when two atoms are the same, which sets are clear, what each giver gives at a set, and the givers
+-- what settling is about: when two atoms are the same, which sets are clear, what each giver gives at a set, and the
+-- givers
 pub record System (A O : Type 0) : Type 0 where
   pub same : A → A → Bool
   pub is_clear : List A → Bool

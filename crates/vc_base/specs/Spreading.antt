@@ -17,7 +17,8 @@ reads_some links things rule = list_any (has links.same things) (links.reads rul
 -- what the rules write that read a thing of the list
 abbrev pub written_from : {T R : Type 0} → Links T R → List T → List T
 written_from links things =
-    flat_map (λ rule. let written = links.writes rule in if reads_some links things rule then written else []) links.rules
+    flat_map (λ rule. let written = links.writes rule in if reads_some links things rule then written else [])
+    links.rules
 
 -- the list with what is written from it, so many times
 abbrev pub spread : {T R : Type 0} → Links T R → ℕ → List T → List T

@@ -1,5 +1,6 @@
 -- The bill of a slot by a walk over its own lines.
-use Rattle.std.proofs.Common.{◌≡◌, ℕ, zero, suc, ◌+◌, ◌-◌, ◌<◌, ◌≤◌, Bool, true, false, cond, ◌&&◌, List, [], ◌∷◌, ◌++◌, length, get_or, refl, sym, ◌∙◌, ap, inl, inr, arith, append_assoc}
+use Rattle.std.proofs.Common.{◌≡◌, ℕ, zero, suc, ◌+◌, ◌-◌, ◌<◌, ◌≤◌, Bool, true, false, cond, ◌&&◌, List, [], ◌∷◌, ◌++◌}
+use Rattle.std.proofs.Common.{length, get_or, refl, sym, ◌∙◌, ap, inl, inr, arith, append_assoc}
 use Rattle.std.specs.Prelude.{Option, None, Some, slice_get, if◌then◌else◌}
 use Rattle.std.specs.List.{filter, flat_map, range_with_len}
 use Rattle.std.proofs.lemmas.Bool.{cases_lt, ne_eqb}
@@ -11,7 +12,8 @@ use Rattle.vc_plan.specs.declared.plans.Operation.{Operation}
 use Rattle.vc_plan.specs.declared.plans.Plan.{Plan}
 use Rattle.vc_plan.specs.declared.shown.BillLine.{BillLine}
 use Rattle.vc_plan.specs.declared.shown.OperationLine.{OperationLine}
-use Rattle.vc_plan.specs.Bills.{bill_from, component_of, is_line_of, operation_line, routing_of, takes_line, takes_operation}
+use Rattle.vc_plan.specs.Bills.{bill_from, component_of, is_line_of, operation_line, routing_of, takes_line}
+use Rattle.vc_plan.specs.Bills.{takes_operation}
 use Rattle.vc_plan.specs.Domains.{numbers_below}
 use Rattle.vc_plan.specs.Readings.{Reading}
 use Rattle.vc_plan.specs.Seen.{Seen}
@@ -25,12 +27,14 @@ given_by_passing p f [] = refl
 given_by_passing p f (x ∷ xs) = by (p x) (given_by_passing p f xs)
   where
     by : (b : Bool) → flat_map f (filter p xs) ≡ flat_map (λ y. if p y then f y else []) xs
-        → flat_map f (cond b (x ∷ filter p xs) (filter p xs)) ≡ (cond b (f x) [] ++ flat_map (λ y. if p y then f y else []) xs)
+        → flat_map f (cond b (x ∷ filter p xs) (filter p xs))
+        ≡ (cond b (f x) [] ++ flat_map (λ y. if p y then f y else []) xs)
     by true later = ap (λ ys. f x ++ ys) later
     by false later = later
 
 -- numbers that give nothing, and those of a stretch outside of which none gives anything
-none_given : {Y : Type 0} (g : ℕ → List Y) (a n : ℕ) → ((k : ℕ) → a ≤ k → k < a + n → g k ≡ []) → flat_map g (range_with_len a n) ≡ []
+none_given : {Y : Type 0} (g : ℕ → List Y) (a n : ℕ) → ((k : ℕ) → a ≤ k → k < a + n → g k ≡ [])
+    → flat_map g (range_with_len a n) ≡ []
 none_given g a zero none = refl
 none_given g a (suc n) none =
     ap (λ ys. ys ++ flat_map g (range_with_len (a + 1) n)) (none a (omega arith) (omega arith))
@@ -42,10 +46,13 @@ stretch_given : {Y : Type 0} (g : ℕ → List Y) (start end count : ℕ) → st
 stretch_given g start end count order inside before after =
     ap (flat_map g) (range_split 0 start (count - start) count start (omega (arith, order, inside)) (omega arith))
     ∙ (flat_map-append g (range_with_len 0 start) (range_with_len start (count - start))
-    ∙ (ap (λ ys. ys ++ flat_map g (range_with_len start (count - start))) (none_given g 0 start (λ k low high. before k (omega (arith, high))))
-    ∙ (ap (flat_map g) (range_split start (end - start) (count - end) (count - start) end (omega (arith, order, inside)) (omega (arith, order)))
+    ∙ (ap (λ ys. ys ++ flat_map g (range_with_len start (count - start)))
+    (none_given g 0 start (λ k low high. before k (omega (arith, high))))
+    ∙ (ap (flat_map g) (range_split start (end - start) (count - end) (count - start) end (omega (arith, order, inside))
+    (omega (arith, order)))
     ∙ (flat_map-append g (range_with_len start (end - start)) (range_with_len end (count - end))
-    ∙ (ap (λ ys. flat_map g (range_with_len start (end - start)) ++ ys) (none_given g end (count - end) (λ k low high. after k low))
+    ∙ (ap (λ ys. flat_map g (range_with_len start (end - start)) ++ ys)
+    (none_given g end (count - end) (λ k low high. after k low))
     ∙ ends (flat_map g (range_with_len start (end - start))))))))
   where
     ends : {Z : Type 0} (ys : List Z) → ys ++ [] ≡ ys
@@ -57,14 +64,17 @@ module _ (plan : Plan) (seen : Seen) (reading : Reading) (i start end : ℕ)
     (begun : start ≤ length plan.lines)
     (before : (k : ℕ) (x : Line) → slice_get plan.lines k ≡ Some x → k < start → x.slot < i)
     (after : (k : ℕ) (x : Line) → slice_get plan.lines k ≡ Some x → end ≤ k → i < x.slot) where
-  other_slot : (n : ℕ) (o : Option Line) → ((x : Line) → o ≡ Some x → x.slot ≡ i → ⊥) → is_line_of plan seen reading i n o ≡ false
+  other_slot : (n : ℕ) (o : Option Line) → ((x : Line) → o ≡ Some x → x.slot ≡ i → ⊥)
+      → is_line_of plan seen reading i n o ≡ false
   other_slot n None apart = refl
-  other_slot n (Some x) apart = ap (λ b. b && takes_line plan seen reading x (component_of plan n)) (ne_eqb x.slot i (apart x refl))
+  other_slot n (Some x) apart =
+      ap (λ b. b && takes_line plan seen reading x (component_of plan n)) (ne_eqb x.slot i (apart x refl))
 
   nothing_of : (levels level n : ℕ) → ((x : Line) → slice_get plan.lines n ≡ Some x → x.slot ≡ i → ⊥)
       → line_bill plan seen reading levels level i n ≡ []
   nothing_of levels level n apart =
-      ap (λ b. cond b (with_component_bill plan seen reading levels level i n) []) (other_slot n (slice_get plan.lines n) apart)
+      ap (λ b. cond b (with_component_bill plan seen reading levels level i n) [])
+      (other_slot n (slice_get plan.lines n) apart)
 
   line_there : (n : ℕ) → n < length plan.lines → (x : Line) × (slice_get plan.lines n ≡ Some x)
   line_there n low = by plan.lines n low
@@ -89,7 +99,8 @@ module _ (plan : Plan) (seen : Seen) (reading : Reading) (i start end : ℕ)
       → flat_map (line_bill plan seen reading levels level i) (range_with_len start (end - start))
       ≡ bill_from plan seen reading (suc levels) level i
   walked_below levels level =
-      sym (given_by_passing (λ n. is_line_of plan seen reading i n (slice_get plan.lines n)) (with_component_bill plan seen reading levels level i)
+      sym (given_by_passing (λ n. is_line_of plan seen reading i n (slice_get plan.lines n))
+      (with_component_bill plan seen reading levels level i)
       (numbers_below (length plan.lines))
       ∙ stretch_given (line_bill plan seen reading levels level i) start end (length plan.lines) ordered inside
       (λ k low. nothing_of levels level k (λ x is same. let h = before k x is low in omega (arith, h, same)))
@@ -101,7 +112,8 @@ module _ (plan : Plan) (seen : Seen) (reading : Reading) (i start end : ℕ)
   walked zero level some = absurd (omega (arith, some))
   walked (suc levels) level some =
       let less : suc levels - 1 ≡ levels = omega arith in
-      ap (λ m. flat_map (line_bill plan seen reading m level i) (range_with_len start (end - start))) less ∙ walked_below levels level
+      ap (λ m. flat_map (line_bill plan seen reading m level i) (range_with_len start (end - start))) less
+      ∙ walked_below levels level
 
 -- the walk of the code: where it begins, and its next step
 module _ (plan : Plan) (seen : Seen) (reading : Reading) where
@@ -152,7 +164,8 @@ module _ (plan : Plan) (seen : Seen) (reading : Reading) where
       → operations ≡ plan.operations → n < length operations → x ≡ get_or operations n x
       → next ≡ out ++ taken_operation plan seen reading n (Some x)
       → out ++ flat_map operation_rows (range_with_len n (length plan.operations - n)) ≡ routing_of plan seen reading
-      → next ++ flat_map operation_rows (range_with_len (n + 1) (length plan.operations - (n + 1))) ≡ routing_of plan seen reading
+      → next ++ flat_map operation_rows (range_with_len (n + 1) (length plan.operations - (n + 1)))
+      ≡ routing_of plan seen reading
   routing_next n out next operations x is low there put so_far =
       let rest = flat_map operation_rows (range_with_len (n + 1) (length plan.operations - (n + 1))) in
       let inside : n < length plan.operations = omega (arith, low, ap length is) in

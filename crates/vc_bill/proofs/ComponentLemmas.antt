@@ -1,5 +1,6 @@
 -- The slots that stand for lines, found from the last slot to the first: what is put later is the earlier slot.
-use Rattle.std.proofs.Common.{◌≡◌, ℕ, zero, suc, ◌+◌, ◌-◌, ◌<◌, ◌≤◌, Bool, true, false, cond, ◌&&◌, List, ◌∷◌, length, get_or, map, replicate, refl, sym, ◌∙◌, ap, arith}
+use Rattle.std.proofs.Common.{◌≡◌, ℕ, zero, suc, ◌+◌, ◌-◌, ◌<◌, ◌≤◌, Bool, true, false, cond, ◌&&◌, List, ◌∷◌, length}
+use Rattle.std.proofs.Common.{get_or, map, replicate, refl, sym, ◌∙◌, ap, arith}
 use Rattle.std.specs.Prelude.{Option, None, Some, is_some, slice_get, slice_set, ◌==◌}
 use Rattle.std.specs.List.{find, range_with_len}
 use Rattle.std.proofs.lemmas.Bool.{eq-eqb, ne_eqb}
@@ -15,7 +16,8 @@ pub none_put : {X : Type 0} (xs : List X) (n : ℕ) (x : X) → length xs ≤ n 
 none_put xs n x past = sym (set_past xs n x past)
 
 -- what a function gives of the numbers of a range, where another gives the same
-mapped_same : {X : Type 0} (f g : ℕ → X) (a m : ℕ) → ((n : ℕ) → a ≤ n → f n ≡ g n) → map f (range_with_len a m) ≡ map g (range_with_len a m)
+mapped_same : {X : Type 0} (f g : ℕ → X) (a m : ℕ) → ((n : ℕ) → a ≤ n → f n ≡ g n)
+    → map f (range_with_len a m) ≡ map g (range_with_len a m)
 mapped_same f g a zero each = refl
 mapped_same f g a (suc m) each =
     ap (λ y. y ∷ map f (range_with_len (a + 1) m)) (each a (omega arith))
@@ -32,7 +34,8 @@ written_over f v a (suc m) zero =
     (mapped_same f (λ n. cond (a + 0 == n) v (f n)) (a + 1) m
     (λ n low. sym (ap (λ b. cond b v (f n)) (ne_eqb (a + 0) n (λ same. omega (arith, same, low))))))
 written_over f v a (suc m) (suc l) =
-    let first : f a ≡ cond (a + suc l == a) v (f a) = sym (ap (λ b. cond b v (f a)) (ne_eqb (a + suc l) a (λ same. omega (arith, same)))) in
+    let first : f a ≡ cond (a + suc l == a) v (f a)
+    = sym (ap (λ b. cond b v (f a)) (ne_eqb (a + suc l) a (λ same. omega (arith, same)))) in
     let place : (a + 1) + l ≡ a + suc l = omega arith in
     ap (λ ys. f a ∷ ys) (written_over f v (a + 1) m l)
     ∙ (ap (λ k. f a ∷ map (λ n. cond (k == n) v (f n)) (range_with_len (a + 1) m)) place
@@ -59,7 +62,8 @@ module _ (plan : Plan) where
       ∙ mapped_same (λ n. None) (component_from plan j) 0 (length plan.lines) (λ n low. sym (past_all j n past)))
 
   first_of_slots : (j n : ℕ) (slot : Slot) → j < count → slice_get plan.slots j ≡ Some slot
-      → component_from plan j n ≡ cond (is_some slot.parent && (slot.line == n)) (Some j) (component_from plan (j + 1) n)
+      → component_from plan j n
+      ≡ cond (is_some slot.parent && (slot.line == n)) (Some j) (component_from plan (j + 1) n)
   first_of_slots j n slot low is =
       let more : count - j ≡ suc (count - (j + 1)) = omega (arith, low) in
       ap (λ k. find (λ i. is_for_line n (slice_get plan.slots i)) (range_with_len j k)) more
@@ -71,18 +75,24 @@ module _ (plan : Plan) where
   one_before j slot low is = by (is_some slot.parent) refl
     where
       by : (b : Bool) → is_some slot.parent ≡ b
-          → cond (is_some slot.parent) (slice_set (components_from plan (j + 1)) slot.line (Some j)) (components_from plan (j + 1))
+          → cond (is_some slot.parent) (slice_set (components_from plan (j + 1)) slot.line (Some j))
+          (components_from plan (j + 1))
           ≡ components_from plan j
       by true e =
-          ap (λ c. cond c (slice_set (components_from plan (j + 1)) slot.line (Some j)) (components_from plan (j + 1))) e
+          ap (λ c. cond c (slice_set (components_from plan (j + 1)) slot.line (Some j)) (components_from plan (j + 1)))
+          e
           ∙ (written_over (component_from plan (j + 1)) (Some j) 0 (length plan.lines) slot.line
-          ∙ mapped_same (λ n. cond (0 + slot.line == n) (Some j) (component_from plan (j + 1) n)) (component_from plan j) 0 (length plan.lines)
+          ∙ mapped_same (λ n. cond (0 + slot.line == n) (Some j) (component_from plan (j + 1) n))
+          (component_from plan j) 0 (length plan.lines)
           (λ n least. ap (λ k. cond (k == n) (Some j) (component_from plan (j + 1) n)) (omega arith)
-          ∙ (ap (λ c. cond (c && (slot.line == n)) (Some j) (component_from plan (j + 1) n)) (sym e) ∙ sym (first_of_slots j n slot low is))))
+          ∙ (ap (λ c. cond (c && (slot.line == n)) (Some j) (component_from plan (j + 1) n)) (sym e)
+          ∙ sym (first_of_slots j n slot low is))))
       by false e =
-          ap (λ c. cond c (slice_set (components_from plan (j + 1)) slot.line (Some j)) (components_from plan (j + 1))) e
+          ap (λ c. cond c (slice_set (components_from plan (j + 1)) slot.line (Some j)) (components_from plan (j + 1)))
+          e
           ∙ mapped_same (component_from plan (j + 1)) (component_from plan j) 0 (length plan.lines)
-          (λ n least. ap (λ c. cond (c && (slot.line == n)) (Some j) (component_from plan (j + 1) n)) (sym e) ∙ sym (first_of_slots j n slot low is))
+          (λ n least. ap (λ c. cond (c && (slot.line == n)) (Some j) (component_from plan (j + 1) n)) (sym e)
+          ∙ sym (first_of_slots j n slot low is))
 
   -- at the first slot it is all of them
   from_first : (n : ℕ) → component_from plan 0 n ≡ component_of plan n
@@ -93,12 +103,15 @@ module _ (plan : Plan) where
   pub all_put : (j : ℕ) → j ≤ 0 → components_from plan j ≡ map (component_of plan) (numbers_below (length plan.lines))
   all_put j first =
       let none : j ≡ 0 = omega (arith, first) in
-      ap (components_from plan) none ∙ mapped_same (component_from plan 0) (component_of plan) 0 (length plan.lines) (λ n low. from_first n)
+      ap (components_from plan) none
+      ∙ mapped_same (component_from plan 0) (component_of plan) 0 (length plan.lines) (λ n low. from_first n)
 
   -- the slot before the one at hand, as it is read
-  pub stepped : (slots : List Slot) (number : ℕ) (d : Slot) (table next : List (Option ℕ)) → slots ≡ plan.slots → 0 < number
+  pub stepped : (slots : List Slot) (number : ℕ) (d : Slot) (table next : List (Option ℕ)) → slots ≡ plan.slots
+      → 0 < number
       → number ≤ count → table ≡ components_from plan number
-      → next ≡ with_component (get_or slots (number - 1) d) (number - 1) table → next ≡ components_from plan (number - 1)
+      → next ≡ with_component (get_or slots (number - 1) d) (number - 1) table
+      → next ≡ components_from plan (number - 1)
   stepped slots number d table next is some inside so_far put =
       let slot = get_or slots (number - 1) d in
       let low : number - 1 < length slots = omega (arith, some, inside, ap length is) in

@@ -37,7 +37,8 @@ module _ (plan : Plan) (valid : IsValid plan) where
   few_lines =
       few_in_all (λ (line : Line). line.slot) 1_000 (length plan.slots) plan.lines
       (all_weaker (line_there plan) (λ (line : Line). nat_lt line.slot (length plan.slots))
-      (λ line e. (and_parts (is_of plan.slots line.slot) (is_of plan.terms line.quantity && list_all (selection_there plan) line.selections) e).0)
+      (λ line e. (and_parts (is_of plan.slots line.slot)
+      (is_of plan.terms line.quantity && list_all (selection_there plan) line.selections) e).0)
       plan.lines valid.lines_there)
       (λ i low. leb-true (length (lines_at plan i)) 1_000
       (at_slot (λ j. nat_le (length (lines_at plan j)) 1_000) (length plan.slots) i valid.line_limit low))
@@ -46,7 +47,8 @@ module _ (plan : Plan) (valid : IsValid plan) where
   few_operations =
       few_in_all (λ (operation : Operation). operation.slot) 1_000 (length plan.slots) plan.operations
       (all_weaker (operation_there plan) (λ (operation : Operation). nat_lt operation.slot (length plan.slots))
-      (λ operation e. (and_parts (is_of plan.slots operation.slot) (is_of plan.terms operation.time && list_all (selection_there plan) operation.selections) e).0)
+      (λ operation e. (and_parts (is_of plan.slots operation.slot)
+      (is_of plan.terms operation.time && list_all (selection_there plan) operation.selections) e).0)
       plan.operations valid.operations_there)
       (λ i low. leb-true (length (operations_at plan i)) 1_000
       (at_slot (λ j. nat_le (length (operations_at plan j)) 1_000) (length plan.slots) i valid.operation_limit low))

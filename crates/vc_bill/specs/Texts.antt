@@ -16,7 +16,8 @@ spaced word = word ++ codes " "
 
 -- a number with zeros in front, at least four digits
 abbrev pub zeros : ℕ → List ℕ
-zeros n = if nat_lt n 10 then codes "000" else (if nat_lt n 100 then codes "00" else (if nat_lt n 1_000 then codes "0" else []))
+zeros n = if nat_lt n 10
+    then codes "000" else (if nat_lt n 100 then codes "00" else (if nat_lt n 1_000 then codes "0" else []))
 
 abbrev pub four_digits : ℕ → List ℕ
 four_digits n = zeros n ++ decimal n
@@ -32,7 +33,8 @@ measured amount unit = spaced (amount_text amount) ++ (unit ++ codes "\n")
 
 -- `LEVEL ITEM MATERIAL QUANTITY UNIT`
 abbrev pub bill_line : BillLine → bill.Line → List ℕ
-bill_line row line = spaced (decimal row.level) ++ (spaced (four_digits line.item) ++ (spaced line.material ++ measured row.quantity line.unit))
+bill_line row line = spaced (decimal row.level)
+    ++ (spaced (four_digits line.item) ++ (spaced line.material ++ measured row.quantity line.unit))
 
 abbrev pub bill_line_if : BillLine → Option bill.Line → List ℕ
 bill_line_if row None = []
@@ -47,7 +49,8 @@ bill_text plan rows = flat_map (bill_row plan) rows
 -- `SLOT NUMBER CENTRE TIME UNIT`
 abbrev pub operation_line : OperationLine → Operation → List ℕ
 operation_line row operation =
-    spaced (decimal row.slot) ++ (spaced (four_digits operation.number) ++ (spaced operation.name ++ measured row.time operation.unit))
+    spaced (decimal row.slot)
+    ++ (spaced (four_digits operation.number) ++ (spaced operation.name ++ measured row.time operation.unit))
 
 abbrev pub operation_line_if : OperationLine → Option Operation → List ℕ
 operation_line_if row None = []

@@ -22,4 +22,5 @@ line_bill plan seen reading levels level i n =
 -- an operation, where it is taken
 abbrev pub taken_operation : Plan → Seen → Reading → ℕ → Option Operation → List OperationLine
 taken_operation plan seen reading n operation =
-    let rows = operation_line plan reading n operation in if takes_operation plan seen reading operation then rows else []
+    let rows
+    = operation_line plan reading n operation in if takes_operation plan seen reading operation then rows else []

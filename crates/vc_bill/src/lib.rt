@@ -13,6 +13,3 @@ pub mod texts;
 pub use billing::bill_lines;
 pub use routing::operations;
 pub use texts::{print_bill, print_routing};
-
-#[cfg(test)]
-mod tests;

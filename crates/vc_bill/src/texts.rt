@@ -10,12 +10,24 @@ use vc_plan::{BillLine, Line, Operation, OperationLine, Plan};
 use vc_rule_terms::elements::element;
 use vc_value::{Dec, Word};
 
+// Puts a number's digits last, without a text of their own.
+#[tactic(auto, using(crate::proofs::DigitLemmas::one_digit, crate::proofs::DigitLemmas::more_digits))]
+fn put_digits(out: &mut Word, number: u32) -> Result<(), AllocError>
+    ensures { OnOk result (out.new ≡ out.old ++ decimal number) }
+{
+    if number < 10 {
+        return out.append(&[b'0' + number as u8]);
+    }
+    put_digits(out, number / 10)?;
+    out.append(&[b'0' + (number % 10) as u8])
+}
+
 // Puts a number last, and a space.
-fn put_number(alloc: Global, out: &mut Word, number: u32) -> Result<(), AllocError>
+fn put_number(out: &mut Word, number: u32) -> Result<(), AllocError>
     ensures { OnOk result (out.new ≡ out.old ++ texts.spaced (decimal number)) }
 {
-    let digits = format!(in alloc; "{number}")?;
-    put_spaced(out, digits.as_bytes())
+    put_digits(out, number)?;
+    out.append_text(" ")
 }
 
 // Puts a word last, and a space.
@@ -41,11 +53,11 @@ fn zeros(number: u32) -> &'static str
     }
 }
 
-fn put_four_digits(alloc: Global, out: &mut Word, number: u32) -> Result<(), AllocError>
+fn put_four_digits(out: &mut Word, number: u32) -> Result<(), AllocError>
     ensures { OnOk result (out.new ≡ out.old ++ texts.spaced (texts.four_digits number)) }
 {
     out.append_text(zeros(number))?;
-    put_number(alloc, out, number)
+    put_number(out, number)
 }
 
 fn put_amount(alloc: Global, out: &mut Word, amount: Option<Dec>) -> Result<(), AllocError>
@@ -82,8 +94,8 @@ fn put_bill_line(
 ) -> Result<(), AllocError>
     ensures { OnOk result (out.new ≡ out.old ++ texts.bill_line row line.now) }
 {
-    put_number(alloc, out, u32::from(row.level))?;
-    put_four_digits(alloc, out, line.item)?;
+    put_number(out, u32::from(row.level))?;
+    put_four_digits(out, line.item)?;
     put_spaced(out, line.material.bytes())?;
     put_measured(alloc, out, row.quantity, line.unit.bytes())
 }
@@ -116,8 +128,8 @@ fn put_operation(
 ) -> Result<(), AllocError>
     ensures { OnOk result (out.new ≡ out.old ++ texts.operation_line row operation.now) }
 {
-    put_number(alloc, out, row.slot)?;
-    put_four_digits(alloc, out, operation.number)?;
+    put_number(out, row.slot)?;
+    put_four_digits(out, operation.number)?;
     put_spaced(out, operation.name.bytes())?;
     put_measured(alloc, out, row.time, operation.unit.bytes())
 }

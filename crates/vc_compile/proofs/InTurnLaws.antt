@@ -1,8 +1,15 @@
 -- What is numbered kind by kind is what a plan has.
-use Rattle.std.proofs.Common.{◌≡◌, ℕ, suc, ◌+◌, List, [], ◌∷◌, ◌++◌, length, flat_map, refl, sym, ap, ◌∙◌, length-append}
+use Rattle.std.proofs.Common.{◌≡◌, ℕ, suc, ◌+◌, List, [], ◌∷◌, ◌++◌, length, flat_map, refl, sym, ap, ◌∙◌}
+use Rattle.std.proofs.Common.{length-append}
 use Rattle.std.proofs.lemmas.List.{append_assoc, append-nil}
 use Rattle.vc_compile_plan.specs.Layouts.{Layout}
-use Rattle.vc_compile_plan.specs.Numbering.{Brings, brought_conditions, brought_terms, conditions_of, drafts_of, guard_brings, guard_from, guards_begin, guards_of, item_brings, line_from, lines_begin, line_terms_begin, lines_of, numbered, operation_from, operations_begin, operation_terms_begin, operations_of, procedure_brings, procedure_from, procedures_begin, procedure_terms_begin, procedures_of, requirement_brings, requirement_from, requirements_begin, requirements_of, rule_brings, rule_from, rules_of, terms_of}
+use Rattle.vc_compile_plan.specs.Numbering.{Brings, brought_conditions, brought_terms, conditions_of, drafts_of}
+use Rattle.vc_compile_plan.specs.Numbering.{guard_brings, guard_from, guards_begin, guards_of, item_brings, line_from}
+use Rattle.vc_compile_plan.specs.Numbering.{lines_begin, line_terms_begin, lines_of, numbered, operation_from}
+use Rattle.vc_compile_plan.specs.Numbering.{operations_begin, operation_terms_begin, operations_of, procedure_brings}
+use Rattle.vc_compile_plan.specs.Numbering.{procedure_from, procedures_begin, procedure_terms_begin, procedures_of}
+use Rattle.vc_compile_plan.specs.Numbering.{requirement_brings, requirement_from, requirements_begin, requirements_of}
+use Rattle.vc_compile_plan.specs.Numbering.{rule_brings, rule_from, rules_of, terms_of}
 use Rattle.vc_compile_plan.specs.Shown.{GuardDraft, RequirementDraft}
 use Rattle.vc_compile_plan.specs.Trees.{Condition, Term, Always}
 use Rattle.vc_compile_numbering.specs.Growing.{Kept, with_drafts}
@@ -11,7 +18,8 @@ use Rattle.vc_compile.specs.InTurn.{over, ruled, guarded, required, lined, opera
 
 -- drafts over what is kept: what they bring comes behind it, and their numbers begin there
 behind_conditions : {D X : Type 0} (brings : Brings D) (make : ℕ → ℕ → D → X) (before : Kept) (drafts : List D)
-    → ((with_drafts brings make (over before) drafts).kept).conditions ≡ before.conditions ++ brought_conditions brings drafts
+    → ((with_drafts brings make (over before) drafts).kept).conditions
+    ≡ before.conditions ++ brought_conditions brings drafts
 behind_conditions brings make before drafts =
     ap (λ n. (n.kept).conditions) (drafts_are_numbered brings make before.conditions before.terms [] drafts)
 
@@ -36,10 +44,12 @@ no_terms : {D : Type 0} (drafts : List D) → flat_map nothing drafts ≡ []
 no_terms [] = refl
 no_terms (draft ∷ drafts) = no_terms drafts
 
-guards_take_no_terms : (drafts : List GuardDraft) (c t : ℕ) → numbered guard_brings guard_from c t drafts ≡ numbered guard_brings guard_from c 0 drafts
+guards_take_no_terms : (drafts : List GuardDraft) (c t : ℕ)
+    → numbered guard_brings guard_from c t drafts ≡ numbered guard_brings guard_from c 0 drafts
 guards_take_no_terms [] c t = refl
 guards_take_no_terms (draft ∷ drafts) c t =
-    ap (λ rest. guard_from c 0 draft ∷ rest) (guards_take_no_terms drafts (c + 1) (t + 0) ∙ sym (guards_take_no_terms drafts (c + 1) 0))
+    ap (λ rest. guard_from c 0 draft ∷ rest)
+    (guards_take_no_terms drafts (c + 1) (t + 0) ∙ sym (guards_take_no_terms drafts (c + 1) 0))
 
 requirements_take_no_terms : (drafts : List RequirementDraft) (c t : ℕ)
     → numbered requirement_brings requirement_from c t drafts ≡ numbered requirement_brings requirement_from c 0 drafts
@@ -49,7 +59,8 @@ requirements_take_no_terms (draft ∷ drafts) c t =
     (requirements_take_no_terms drafts (c + 1) (t + 0) ∙ sym (requirements_take_no_terms drafts (c + 1) 0))
 
 -- the conditions so far, kind by kind
-rule_conditions : (layout : Layout) → ((ruled layout).kept).conditions ≡ Always ∷ brought_conditions rule_brings (drafts_of layout).rules
+rule_conditions : (layout : Layout)
+    → ((ruled layout).kept).conditions ≡ Always ∷ brought_conditions rule_brings (drafts_of layout).rules
 rule_conditions layout = behind_conditions rule_brings rule_from _ (drafts_of layout).rules
 
 guard_conditions : (layout : Layout) → ((guarded layout).kept).conditions
@@ -58,7 +69,8 @@ guard_conditions layout = behind_conditions guard_brings guard_from (ruled layou
 
 requirement_conditions : (layout : Layout) → ((required layout).kept).conditions
     ≡ ((guarded layout).kept).conditions ++ brought_conditions requirement_brings (drafts_of layout).requirements
-requirement_conditions layout = behind_conditions requirement_brings requirement_from (guarded layout).kept (drafts_of layout).requirements
+requirement_conditions layout =
+    behind_conditions requirement_brings requirement_from (guarded layout).kept (drafts_of layout).requirements
 
 line_conditions : (layout : Layout) → ((lined layout).kept).conditions
     ≡ ((required layout).kept).conditions ++ brought_conditions item_brings (drafts_of layout).lines
@@ -66,11 +78,13 @@ line_conditions layout = behind_conditions item_brings line_from (required layou
 
 operation_conditions : (layout : Layout) → ((operated layout).kept).conditions
     ≡ ((lined layout).kept).conditions ++ brought_conditions item_brings (drafts_of layout).operations
-operation_conditions layout = behind_conditions item_brings operation_from (lined layout).kept (drafts_of layout).operations
+operation_conditions layout =
+    behind_conditions item_brings operation_from (lined layout).kept (drafts_of layout).operations
 
 procedure_conditions : (layout : Layout) → ((proceeded layout).kept).conditions
     ≡ ((operated layout).kept).conditions ++ brought_conditions procedure_brings (drafts_of layout).procedures
-procedure_conditions layout = behind_conditions procedure_brings procedure_from (operated layout).kept (drafts_of layout).procedures
+procedure_conditions layout =
+    behind_conditions procedure_brings procedure_from (operated layout).kept (drafts_of layout).procedures
 
 pub conditions_are : (layout : Layout) → ((proceeded layout).kept).conditions ≡ conditions_of (drafts_of layout)
 conditions_are layout =
@@ -106,7 +120,8 @@ guard_terms layout =
 requirement_terms : (layout : Layout) → ((required layout).kept).terms ≡ ((ruled layout).kept).terms
 requirement_terms layout =
     behind_terms requirement_brings requirement_from (guarded layout).kept (drafts_of layout).requirements
-    ∙ ap (λ ts. ((guarded layout).kept).terms ++ ts) (no_terms (drafts_of layout).requirements) ∙ append-nil _ ∙ guard_terms layout
+    ∙ ap (λ ts. ((guarded layout).kept).terms ++ ts) (no_terms (drafts_of layout).requirements) ∙ append-nil _
+    ∙ guard_terms layout
 
 line_terms : (layout : Layout) → ((lined layout).kept).terms
     ≡ ((required layout).kept).terms ++ brought_terms item_brings (drafts_of layout).lines
@@ -118,7 +133,8 @@ operation_terms layout = behind_terms item_brings operation_from (lined layout).
 
 procedure_terms : (layout : Layout) → ((proceeded layout).kept).terms
     ≡ ((operated layout).kept).terms ++ brought_terms procedure_brings (drafts_of layout).procedures
-procedure_terms layout = behind_terms procedure_brings procedure_from (operated layout).kept (drafts_of layout).procedures
+procedure_terms layout =
+    behind_terms procedure_brings procedure_from (operated layout).kept (drafts_of layout).procedures
 
 pub terms_are : (layout : Layout) → ((proceeded layout).kept).terms ≡ terms_of (drafts_of layout)
 terms_are layout =
@@ -141,7 +157,8 @@ count_more all before more n is counted = ap length is ∙ length-append before 
 guards_begin_at : (layout : Layout) → length ((ruled layout).kept).conditions ≡ guards_begin (drafts_of layout)
 guards_begin_at layout = ap length (rule_conditions layout)
 
-requirements_begin_at : (layout : Layout) → length ((guarded layout).kept).conditions ≡ requirements_begin (drafts_of layout)
+requirements_begin_at : (layout : Layout)
+    → length ((guarded layout).kept).conditions ≡ requirements_begin (drafts_of layout)
 requirements_begin_at layout = count_more _ _ _ _ (guard_conditions layout) (guards_begin_at layout)
 
 lines_begin_at : (layout : Layout) → length ((required layout).kept).conditions ≡ lines_begin (drafts_of layout)
@@ -150,7 +167,8 @@ lines_begin_at layout = count_more _ _ _ _ (requirement_conditions layout) (requ
 operations_begin_at : (layout : Layout) → length ((lined layout).kept).conditions ≡ operations_begin (drafts_of layout)
 operations_begin_at layout = count_more _ _ _ _ (line_conditions layout) (lines_begin_at layout)
 
-procedures_begin_at : (layout : Layout) → length ((operated layout).kept).conditions ≡ procedures_begin (drafts_of layout)
+procedures_begin_at : (layout : Layout)
+    → length ((operated layout).kept).conditions ≡ procedures_begin (drafts_of layout)
 procedures_begin_at layout = count_more _ _ _ _ (operation_conditions layout) (operations_begin_at layout)
 
 line_terms_at : (layout : Layout) → length ((required layout).kept).terms ≡ line_terms_begin (drafts_of layout)
@@ -159,7 +177,8 @@ line_terms_at layout = ap length (requirement_terms layout ∙ rule_terms layout
 operation_terms_at : (layout : Layout) → length ((lined layout).kept).terms ≡ operation_terms_begin (drafts_of layout)
 operation_terms_at layout = count_more _ _ _ _ (line_terms layout) (line_terms_at layout)
 
-procedure_terms_at : (layout : Layout) → length ((operated layout).kept).terms ≡ procedure_terms_begin (drafts_of layout)
+procedure_terms_at : (layout : Layout)
+    → length ((operated layout).kept).terms ≡ procedure_terms_begin (drafts_of layout)
 procedure_terms_at layout = count_more _ _ _ _ (operation_terms layout) (operation_terms_at layout)
 
 -- the things with their numbers
@@ -168,7 +187,8 @@ rules_are layout = numbered_behind rule_brings rule_from _ (drafts_of layout).ru
 
 pub guards_are : (layout : Layout) → (guarded layout).items ≡ guards_of (drafts_of layout)
 guards_are layout =
-    numbered_behind guard_brings guard_from (ruled layout).kept (drafts_of layout).guards (guards_begin (drafts_of layout)) _
+    numbered_behind guard_brings guard_from (ruled layout).kept (drafts_of layout).guards
+    (guards_begin (drafts_of layout)) _
     (guards_begin_at layout) refl
     ∙ guards_take_no_terms (drafts_of layout).guards (guards_begin (drafts_of layout)) _
 
@@ -180,7 +200,8 @@ requirements_are layout =
 
 pub lines_are : (layout : Layout) → (lined layout).items ≡ lines_of (drafts_of layout)
 lines_are layout =
-    numbered_behind item_brings line_from (required layout).kept (drafts_of layout).lines (lines_begin (drafts_of layout))
+    numbered_behind item_brings line_from (required layout).kept (drafts_of layout).lines
+    (lines_begin (drafts_of layout))
     (line_terms_begin (drafts_of layout)) (lines_begin_at layout) (line_terms_at layout)
 
 pub operations_are : (layout : Layout) → (operated layout).items ≡ operations_of (drafts_of layout)

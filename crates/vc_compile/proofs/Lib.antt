@@ -3,3 +3,4 @@ pub mod InTurnLaws
 pub mod RefusalLaws
 pub mod RoomLaws
 pub mod SizeLaws
+pub mod ValidLaws

@@ -1,12 +1,14 @@
 -- The first fault of a model with its tables, by what is found on the way to its plan.
-use Rattle.std.proofs.Common.{◌≡◌, ◌<◌, Bool, true, false, List, length, refl, sym, ap, subst, ◌∙◌, Option, None, Some, if◌then◌else◌}
+use Rattle.std.proofs.Common.{◌≡◌, ◌<◌, Bool, true, false, List, length, refl, sym, ap, subst, ◌∙◌, Option, None, Some}
+use Rattle.std.proofs.Common.{if◌then◌else◌}
 use Rattle.vc_model_parts.specs.declared.parts.Model.{Model}
 use Rattle.vc_table.specs.declared.table.VariantTable.{VariantTable}
 use Rattle.vc_plan.specs.declared.plans.Plan.{Plan}
 use Rattle.vc_compile_plan.specs.Layouts.{Layout, layout_of}
 use Rattle.vc_compile_plan.specs.Numbering.{drafts_of}
 use Rattle.vc_compile_plan.specs.PlanOf.{IsPlanOf, IsPlanOver, plan_of}
-use Rattle.vc_compile_plan.specs.Refusals.{TypeFault, compile_fault, has_too_many_atoms, has_too_many_cells, has_too_many_rules, most_rules, size_fault, type_fault, typing_fault_or}
+use Rattle.vc_compile_plan.specs.Refusals.{TypeFault, compile_fault, has_too_many_atoms, has_too_many_cells}
+use Rattle.vc_compile_plan.specs.Refusals.{has_too_many_rules, most_rules, size_fault, type_fault, typing_fault_or}
 use Rattle.vc_compile_plan.specs.Slots.{has_too_many_slots, is_too_deep}
 use Rattle.vc_compile_plan.specs.Trees.{Spot}
 use Rattle.vc_compile_plan.specs.declared.fault.CompileFault.{CompileFault}
@@ -25,7 +27,8 @@ first_fault deep many typing sizes =
     if deep then Some faults.TooDeep else slots
 
 fault_is : (p : Spot) (model : Model) (tables : List VariantTable) (deep many : Bool) (typing : Option TypeFault)
-    (sizes : Option CompileFault) → is_too_deep model ≡ deep → has_too_many_slots model ≡ many → type_fault model ≡ typing
+    (sizes : Option CompileFault) → is_too_deep model ≡ deep → has_too_many_slots model ≡ many
+    → type_fault model ≡ typing
     → size_fault (plan_of p model tables) ≡ sizes → compile_fault p model tables ≡ first_fault deep many typing sizes
 fault_is p model tables deep many typing sizes levels slots types large =
     ap (λ d. first_fault d (has_too_many_slots model) (type_fault model) (size_fault (plan_of p model tables))) levels
@@ -33,17 +36,21 @@ fault_is p model tables deep many typing sizes levels slots types large =
     ∙ ap (λ t. first_fault deep many t (size_fault (plan_of p model tables))) types
     ∙ ap (first_fault deep many typing) large
 
-pub deep_refuses : (model : Model) (tables : List VariantTable) → is_too_deep model ≡ true → IsRefusal model tables faults.TooDeep
+pub deep_refuses : (model : Model) (tables : List VariantTable) → is_too_deep model ≡ true
+    → IsRefusal model tables faults.TooDeep
 deep_refuses model tables deep p =
-    fault_is p model tables true (has_too_many_slots model) (type_fault model) (size_fault (plan_of p model tables)) deep refl refl refl
+    fault_is p model tables true (has_too_many_slots model) (type_fault model) (size_fault (plan_of p model tables))
+    deep refl refl refl
 
-pub slots_refuse : (model : Model) (tables : List VariantTable) → is_too_deep model ≡ false → has_too_many_slots model ≡ true
+pub slots_refuse : (model : Model) (tables : List VariantTable) → is_too_deep model ≡ false
+    → has_too_many_slots model ≡ true
     → IsRefusal model tables faults.TooManySlots
 slots_refuse model tables levels many p =
     fault_is p model tables false true (type_fault model) (size_fault (plan_of p model tables)) levels many refl refl
 
 -- a size of one of its plans is one of all
-size_of_all : (p : Spot) (model : Model) (tables : List VariantTable) (plan : Plan) (fault : Option CompileFault) → IsPlanOf model tables plan
+size_of_all : (p : Spot) (model : Model) (tables : List VariantTable) (plan : Plan) (fault : Option CompileFault)
+    → IsPlanOf model tables plan
     → size_fault plan ≡ fault → size_fault (plan_of p model tables) ≡ fault
 size_of_all p model tables plan fault its large =
     sizes_same (layout_of model) (drafts_of (layout_of model)) tables (plan_of p model tables) plan
@@ -51,10 +58,12 @@ size_of_all p model tables plan fault its large =
     ∙ large
 
 too_many_rules : (p : Spot) (model : Model) (tables : List VariantTable)
-    → most_rules < length (drafts_of (layout_of model)).rules → size_fault (plan_of p model tables) ≡ Some faults.TooManyRules
+    → most_rules < length (drafts_of (layout_of model)).rules
+    → size_fault (plan_of p model tables) ≡ Some faults.TooManyRules
 too_many_rules p model tables many =
     ap (λ b. if b then Some faults.TooManyRules else (if has_too_many_atoms (plan_of p model tables)
-    then Some faults.TooManyAtoms else (if has_too_many_cells (plan_of p model tables) then Some faults.TooManyCells else None)))
+    then Some faults.TooManyAtoms
+    else (if has_too_many_cells (plan_of p model tables) then Some faults.TooManyCells else None)))
     (above _ _ (subst (λ n. most_rules < n) (sym (rules_are_counted (layout_of model))) many))
 
 -- the fault by whether rules, atoms and cells are too many
@@ -81,7 +90,8 @@ of_sizes false true cells = tt
 of_sizes false false true = tt
 of_sizes false false false = tt
 
-size_is : (plan : Plan) (fault : CompileFault) → size_fault plan ≡ Some fault → IsOfSizes (has_too_many_rules plan) (Some fault)
+size_is : (plan : Plan) (fault : CompileFault) → size_fault plan ≡ Some fault
+    → IsOfSizes (has_too_many_rules plan) (Some fault)
 size_is plan fault large =
     subst (IsOfSizes (has_too_many_rules plan)) large
     (of_sizes (has_too_many_rules plan) (has_too_many_atoms plan) (has_too_many_cells plan))
@@ -101,7 +111,8 @@ size_refuses layout tables plan faults.TooManyAtoms typed its large =
     record { typed = typed; plan = plan; is_its = its; large = large }
 size_refuses layout tables plan faults.TooManyCells typed its large =
     record { typed = typed; plan = plan; is_its = its; large = large }
-size_refuses layout tables plan (faults.Typing kind line) typed its large = absurd (size_is plan (faults.Typing kind line) large)
+size_refuses layout tables plan (faults.Typing kind line) typed its large =
+    absurd (size_is plan (faults.Typing kind line) large)
 
 -- what refuses a layout refuses the model
 pub layout_refuses : (model : Model) (tables : List VariantTable) (standings : List Standing) (fault : CompileFault)
@@ -119,7 +130,8 @@ layout_refuses model tables standings faults.TooManyCells laid found = λ p.
     fault_is p model tables false false None (Some faults.TooManyCells) laid.levels laid.slots found.typed
     (size_of_all p model tables found.plan (Some faults.TooManyCells) found.is_its found.large)
 layout_refuses model tables standings (faults.Typing kind line) laid found = λ p.
-    fault_is p model tables false false (Some (record { line = line; kind = kind })) (size_fault (plan_of p model tables))
+    fault_is p model tables false false (Some (record { line = line; kind = kind }))
+    (size_fault (plan_of p model tables))
     laid.levels laid.slots found refl
 
 -- a plan within its sizes makes its model sound

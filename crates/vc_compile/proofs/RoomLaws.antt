@@ -14,7 +14,8 @@ pub adds_both : (room : Room) (before now after : Numbered Rule) (first second :
     → now ≡ with_drafts rule_brings rule_from before first → Adds room now second after
     → Adds room before (first ++ second) after
 adds_both rooms.Enough before now after first second is added =
-    added ∙ ap (λ n. with_drafts rule_brings rule_from n second) is ∙ sym (drafts_append rule_brings rule_from before first second)
+    added ∙ ap (λ n. with_drafts rule_brings rule_from n second) is
+    ∙ sym (drafts_append rule_brings rule_from before first second)
 adds_both rooms.TooMany before now after first second is added =
     let counted : length now.items ≡ length before.items + length first
     = ap (λ n. length n.items) is ∙ drafts_are_counted rule_brings rule_from before first in

@@ -1,5 +1,7 @@
 -- How large a plan is doesn't depend on where the nodes of its trees stand in memory.
-use Rattle.std.proofs.Common.{◌≡◌, ℕ, ◌+◌, max, nat_lt, Bool, ◌&&◌, ◌||◌, ◌==◌, not, List, [], ◌∷◌, ◌++◌, length, drop, map, flat_map, slice_get, refl, sym, ap, ◌∙◌, Option, None, Some, option_map, if◌then◌else◌}
+use Rattle.std.proofs.Common.{◌≡◌, ℕ, ◌+◌, max, nat_lt, Bool, ◌&&◌, ◌||◌, ◌==◌, not, List, [], ◌∷◌, ◌++◌, length, drop}
+use Rattle.std.proofs.Common.{map, flat_map, slice_get, refl, sym, ap, ◌∙◌, Option, None, Some, option_map}
+use Rattle.std.proofs.Common.{if◌then◌else◌}
 use Rattle.std.specs.List.{filter, list_all, sum_by}
 use Rattle.std.proofs.Math.Path.{fun_ext}
 use Rattle.std.proofs.lemmas.Option.{slice_get-map}
@@ -18,8 +20,12 @@ use Rattle.vc_plan.specs.declared.rules.Restriction.TheVariants.{Against, OneOf}
 use Rattle.vc_plan.specs.declared.rules.Rule.{Rule}
 use Rattle.vc_plan.specs.declared.terms.Term as stored_term
 use Rattle.vc_plan.specs.declared.terms.Term.TheVariants as terms
-use Rattle.vc_plan.specs.Bounds.{Place, here_at, out_at, is_at, acting_size, bound_of, cell_bound, clash_bound, compare_bound, distinct, equate_bound, greatest, here_bound, is_bound, is_side, is_this, is_narrowed, kind_clash_bound, only_if, out_bound, place_bound, places, places_of, rows_with, side_grains, sides_size, source_bound}
-use Rattle.vc_plan.specs.Domains.{atom_count, count_of, domain_of, grains_in, grains_of, is_grain_with, is_restrictable, is_restrictable_in, numbers_below, passes}
+use Rattle.vc_plan.specs.Bounds.{Place, here_at, out_at, is_at, acting_size, bound_of, cell_bound, clash_bound}
+use Rattle.vc_plan.specs.Bounds.{compare_bound, distinct, equate_bound, greatest, here_bound, is_bound, is_side}
+use Rattle.vc_plan.specs.Bounds.{is_this, is_narrowed, kind_clash_bound, only_if, out_bound, place_bound, places}
+use Rattle.vc_plan.specs.Bounds.{places_of, rows_with, side_grains, sides_size, source_bound}
+use Rattle.vc_plan.specs.Domains.{atom_count, count_of, domain_of, grains_in, grains_of, is_grain_with, is_restrictable}
+use Rattle.vc_plan.specs.Domains.{is_restrictable_in, numbers_below, passes}
 use Rattle.vc_plan.specs.Reads.{vars_in, vars_read, vars_of_condition, vars_of_term}
 use Rattle.vc_plan.specs.Restrictions.{allows, if_inferred, is_inferred, lone, lone_in, lone_inferred}
 use Rattle.vc_plan.specs.Pieces.{lies_in}
@@ -130,7 +136,8 @@ lone_if (Some (terms.Joined' operator p a q b)) = refl
 terms_by : {X : Type 0} (f : Option trees.Term → X) (p q : Plan) → Alike p q → (t : ℕ)
     → f (option_map trees.term_of (slice_get p.terms t)) ≡ f (option_map trees.term_of (slice_get q.terms t))
 terms_by f p q a t =
-    ap f (sym (slice_get-map trees.term_of p.terms t) ∙ ap (λ ts. slice_get ts t) a.terms ∙ slice_get-map trees.term_of q.terms t)
+    ap f (sym (slice_get-map trees.term_of p.terms t) ∙ ap (λ ts. slice_get ts t) a.terms
+    ∙ slice_get-map trees.term_of q.terms t)
 
 term_same : (p q : Plan) → Alike p q → (t : ℕ) → vars_of_term (slice_get p.terms t) ≡ vars_of_term (slice_get q.terms t)
 term_same p q a t = term_if (slice_get p.terms t) ∙ terms_by reads_of_term p q a t ∙ sym (term_if (slice_get q.terms t))
@@ -163,7 +170,8 @@ count_same p q a v = ap length (grains_same p q a v)
 restrictable_same : (p q : Plan) → Alike p q → (v : ℕ) → is_restrictable p v ≡ is_restrictable q v
 restrictable_same p q a v = ap (λ vs. is_restrictable_in (slice_get vs v)) a.vars
 
-grain_same : (p q : Plan) → Alike p q → (v : ℕ) (test : Piece → Bool) (g : ℕ) → is_grain_with p v test g ≡ is_grain_with q v test g
+grain_same : (p q : Plan) → Alike p q → (v : ℕ) (test : Piece → Bool) (g : ℕ)
+    → is_grain_with p v test g ≡ is_grain_with q v test g
 grain_same p q a v test g = ap (λ gs. passes test (slice_get gs g)) (grains_same p q a v)
 
 allows_same : (p q : Plan) → Alike p q → (v : ℕ) (restriction : Restriction) (piece : Piece)
@@ -181,7 +189,9 @@ rows_with_same p q a table columns v g =
     ∙ ap (λ gs. length (filter (with_grains gs) (rows_of q table))) (grains_same p q a v)
   where
     with_grains : List Piece → List Value → Bool
-    with_grains gs row = list_all (λ column. cell_passes (λ b. passes (lies_in b) (slice_get gs g)) (slice_get row column.column)) (columns_of v columns)
+    with_grains gs row =
+        list_all (λ column. cell_passes (λ b. passes (lies_in b) (slice_get gs g)) (slice_get row column.column))
+        (columns_of v columns)
 
 -- what rules need
 acting_same : (p q : Plan) → Alike p q → (rule : Rule) → acting_size p rule ≡ acting_size q rule
@@ -231,18 +241,22 @@ if_same b c m n tests numbers = ap (λ x. only_if x m) tests ∙ ap (only_if c) 
 both_same : (x : Bool) (b c : Bool) → b ≡ c → (x && b) ≡ (x && c)
 both_same x b c e = ap (λ y. x && y) e
 
-here_same : (p q : Plan) → Alike p q → (rule : Rule) (kind : Kind) (i : ℕ) → here_bound p rule kind i ≡ here_bound q rule kind i
+here_same : (p q : Plan) → Alike p q → (rule : Rule) (kind : Kind) (i : ℕ)
+    → here_bound p rule kind i ≡ here_bound q rule kind i
 here_same p q a rule (Among v restriction) i = refl
 here_same p q a rule (Compare r s t) i = refl
 here_same p q a rule (Equate s t) i = refl
 here_same p q a rule (ByTable table columns) i = refl
 here_same p q a rule Never i = refl
 here_same p q a rule (Last v) i = refl
-here_same p q a rule (Line j) i = ap (λ vs. only_if (i == j) (1 + length (distinct vs))) (condition_same p q a rule.condition)
+here_same p q a rule (Line j) i =
+    ap (λ vs. only_if (i == j) (1 + length (distinct vs))) (condition_same p q a rule.condition)
 
-out_same : (p q : Plan) → Alike p q → (rule : Rule) (kind : Kind) (w g : ℕ) → out_bound p rule kind w g ≡ out_bound q rule kind w g
+out_same : (p q : Plan) → Alike p q → (rule : Rule) (kind : Kind) (w g : ℕ)
+    → out_bound p rule kind w g ≡ out_bound q rule kind w g
 out_same p q a rule (Among v restriction) w g =
-    if_same _ _ _ _ (both_same ((v == w) && is_inferred rule v) _ _ (tests (restrictable_same p q a v) outside)) (acting_same p q a rule)
+    if_same _ _ _ _ (both_same ((v == w) && is_inferred rule v) _ _ (tests (restrictable_same p q a v) outside))
+    (acting_same p q a rule)
   where
     tests : {b c d e : Bool} → b ≡ c → d ≡ e → (b && not d) ≡ (c && not e)
     tests b d = rw (b, d) refl
@@ -267,7 +281,8 @@ out_same p q a rule Never w g = refl
 out_same p q a rule (Last v) w g = refl
 out_same p q a rule (Line i) w g = refl
 
-is_same : (p q : Plan) → Alike p q → (rule : Rule) (kind : Kind) (w : ℕ) → is_bound p rule kind w ≡ is_bound q rule kind w
+is_same : (p q : Plan) → Alike p q → (rule : Rule) (kind : Kind) (w : ℕ)
+    → is_bound p rule kind w ≡ is_bound q rule kind w
 is_same p q a rule (Among v restriction) w =
     if_same _ _ _ _ (both_same ((v == w) && is_inferred rule v) _ _ (ap not (restrictable_same p q a v)))
     (sums (acting_same p q a rule) (count_same p q a v))
@@ -295,7 +310,8 @@ bound_same p q a (here_at i) rule = here_same p q a rule rule.kind i
 bound_same p q a (out_at v g) rule = out_same p q a rule rule.kind v g
 bound_same p q a (is_at v) rule = is_same p q a rule rule.kind v
 
-kind_clash_same : (p q : Plan) → Alike p q → (rule : Rule) (kind : Kind) → kind_clash_bound p rule kind ≡ kind_clash_bound q rule kind
+kind_clash_same : (p q : Plan) → Alike p q → (rule : Rule) (kind : Kind)
+    → kind_clash_bound p rule kind ≡ kind_clash_bound q rule kind
 kind_clash_same p q a rule (Among v restriction) = rw (acting_same p q a rule, count_same p q a v) refl
 kind_clash_same p q a rule (Compare r s t) = compare_same p q a rule s t
 kind_clash_same p q a rule (Equate s t) = equate_same p q a rule s t
@@ -317,8 +333,10 @@ places_of_same p q a v = ap (λ n. map (out_at v) (numbers_below n) ++ is_at v �
 
 places_same : (p q : Plan) → Alike p q → places p ≡ places q
 places_same p q a =
-    ap (λ slots. map here_at (drop 1 (numbers_below (length slots))) ++ flat_map (places_of p) (numbers_below (length p.vars))) a.slots
-    ∙ ap (λ vars. map here_at (drop 1 (numbers_below (length q.slots))) ++ flat_map (places_of p) (numbers_below (length vars))) a.vars
+    ap (λ slots. map here_at (drop 1 (numbers_below (length slots)))
+    ++ flat_map (places_of p) (numbers_below (length p.vars))) a.slots
+    ∙ ap (λ vars. map here_at (drop 1 (numbers_below (length q.slots)))
+    ++ flat_map (places_of p) (numbers_below (length vars))) a.vars
     ∙ ap (λ f. map here_at (drop 1 (numbers_below (length q.slots))) ++ flat_map f (numbers_below (length q.vars)))
     (fun_ext (places_of_same p q a))
 

@@ -1,8 +1,11 @@
--- What is said of a model that is compiled: that it has a plan, or why it has none.
+-- What is said of a model that is compiled: that it has a valid plan, or why it has none.
 use Rattle.std.specs.Prelude.{ℕ, ◌≡◌, ◌<◌, false, List, length, None, Some}
+use Rattle.vc_model.specs.Spelled.{Spells}
+use Rattle.vc_model_drafts.specs.Seen.{seen_model}
 use Rattle.vc_model_parts.specs.declared.parts.Model.{Model}
 use Rattle.vc_table.specs.declared.table.VariantTable.{VariantTable}
 use Rattle.vc_types.specs.declared.fault.TypeFaultKind.{TypeFaultKind}
+use Rattle.vc_plan.specs.Valid.{IsValid}
 use Rattle.vc_plan.specs.declared.plans.Plan.{Plan}
 use Rattle.vc_compile_plan.specs.Layouts.{Layout}
 use Rattle.vc_compile_plan.specs.Numbering.{drafts_of}
@@ -14,6 +17,7 @@ use Rattle.vc_compile_plan.specs.declared.standings.Standing.{Standing}
 use Rattle.vc_compile_plan.specs.Trees.{Spot}
 use Rattle.vc_compile_plan.specs.declared.fault.CompileFault.{CompileFault}
 use Rattle.vc_compile_plan.specs.declared.fault.CompileFault.TheVariants as faults
+use Rattle.vc_compile_laws.specs.Compiles.{AreRead}
 
 -- what stands at the slots of a model that has neither too many levels of them nor too many
 pub record IsLaidOut (model : Model) (standings : List Standing) : Type 0 where
@@ -68,6 +72,10 @@ IsFaultOver layout tables (faults.Typing kind line) = IsUntyped layout kind line
 abbrev pub IsSound : Model → List VariantTable → Type 0
 IsSound model tables = (p : Spot) → compile_fault p model tables ≡ None
 
+-- a valid plan, wherever a text spells the model and its tables were read with the headers that it gives them
+abbrev pub IsValidIfRead : Model → List VariantTable → Plan → Type 0
+IsValidIfRead model tables plan = (text : List ℕ) → Spells text (seen_model model) → AreRead model tables → IsValid plan
+
 -- the fault for which a model with its tables has no plan; want of memory tells nothing
 abbrev pub IsRefusal : Model → List VariantTable → CompileFault → Type 0
 IsRefusal model tables faults.OutOfMemory = Unit
@@ -76,4 +84,5 @@ IsRefusal model tables faults.TooManySlots = (p : Spot) → compile_fault p mode
 IsRefusal model tables faults.TooManyRules = (p : Spot) → compile_fault p model tables ≡ Some faults.TooManyRules
 IsRefusal model tables faults.TooManyAtoms = (p : Spot) → compile_fault p model tables ≡ Some faults.TooManyAtoms
 IsRefusal model tables faults.TooManyCells = (p : Spot) → compile_fault p model tables ≡ Some faults.TooManyCells
-IsRefusal model tables (faults.Typing kind line) = (p : Spot) → compile_fault p model tables ≡ Some (faults.Typing kind line)
+IsRefusal model tables (faults.Typing kind line) = (p : Spot)
+    → compile_fault p model tables ≡ Some (faults.Typing kind line)

@@ -26,18 +26,22 @@ abbrev pub ruled : Layout → Numbered Rule
 ruled layout = with_drafts numbering.rule_brings numbering.rule_from (over first_kept) (rule_drafts layout)
 
 abbrev pub guarded : Layout → Numbered Guard
-guarded layout = with_drafts numbering.guard_brings numbering.guard_from (over (ruled layout).kept) (guard_drafts layout)
+guarded layout = with_drafts numbering.guard_brings numbering.guard_from (over (ruled layout).kept)
+    (guard_drafts layout)
 
 abbrev pub required : Layout → Numbered Requirement
 required layout =
-    with_drafts numbering.requirement_brings numbering.requirement_from (over (guarded layout).kept) (requirement_drafts layout)
+    with_drafts numbering.requirement_brings numbering.requirement_from (over (guarded layout).kept)
+    (requirement_drafts layout)
 
 abbrev pub lined : Layout → Numbered Line
 lined layout = with_drafts numbering.item_brings numbering.line_from (over (required layout).kept) (line_drafts layout)
 
 abbrev pub operated : Layout → Numbered Operation
-operated layout = with_drafts numbering.item_brings numbering.operation_from (over (lined layout).kept) (operation_drafts layout)
+operated layout = with_drafts numbering.item_brings numbering.operation_from (over (lined layout).kept)
+    (operation_drafts layout)
 
 abbrev pub proceeded : Layout → Numbered Procedure
 proceeded layout =
-    with_drafts numbering.procedure_brings numbering.procedure_from (over (operated layout).kept) (procedure_drafts layout)
+    with_drafts numbering.procedure_brings numbering.procedure_from (over (operated layout).kept)
+    (procedure_drafts layout)

@@ -8,7 +8,8 @@ ghost use Rattle.vc_compile_plan.specs.PlanOf.{IsPlanOf, IsPlanOver};
 ghost use Rattle.vc_compile_plan.specs.Refusals.{size_fault};
 ghost use Rattle.vc_compile_sites.specs.Standing.{layout_seen};
 ghost use Rattle.vc_compile.specs.Parts.{AreNumbered};
-ghost use Rattle.vc_compile.specs.Compiled.{IsFaultOver, IsLaidOut, IsPlanWithin, IsRefusal, IsSound, IsTyped};
+ghost use Rattle.vc_compile.specs.Compiled.{IsFaultOver, IsLaidOut, IsPlanWithin};
+ghost use Rattle.vc_compile.specs.Compiled.{IsRefusal, IsSound, IsTyped, IsValidIfRead};
 
 use crate::numbered::{Numbered, numbered_of};
 use crate::sizes::within_sizes;
@@ -157,12 +158,14 @@ fn plan_over(
 
 /// The plan of a model with its tables, which are in the order of the model; or the first fault for which it has none:
 /// more levels of slots than a plan may have, more slots, the first fault of the typing, then more rules, atoms or
-/// cells. What comes later isn't asked where something earlier is found. Want of memory is the only other answer. A plan
-/// that is answered is within all sizes, so its atoms and cells can be counted.
+/// cells. What comes later isn't asked where something earlier is found. Want of memory is the only other answer.
+/// A plan that is answered is within all sizes, so its atoms and cells can be counted. It is valid wherever a text
+/// spells the model and its tables were read with the headers that it gives them.
 pub fn compile(alloc: Global, model: &Model, tables: &[VariantTable]) -> Result<Plan, CompileFault>
     ensures plan { IfOk result (λ plan. IsPlanOf model.now tables.now plan) }
     ensures sound { IfOk result (λ plan. IsSound model.now tables.now) }
     ensures within { IfOk result (λ plan. size_fault plan ≡ None) }
+    ensures valid { IfOk result (λ plan. IsValidIfRead model.now tables.now plan) }
     ensures fault { IfErr result (λ fault. IsRefusal model.now tables.now fault) }
 {
     let standings = laid_out(alloc, model)?;

@@ -9,6 +9,3 @@ pub mod sizes;
 pub mod taken;
 
 pub use compiling::compile;
-
-#[cfg(test)]
-mod tests;

@@ -1,5 +1,7 @@
 -- How many rules a constraint has at its tuples.
-use Rattle.std.proofs.Common.{◌≡◌, ℕ, suc, ◌+◌, ◌<◌, ◌≤◌, ◌==◌, Bool, true, false, List, [], ◌∷◌, ◌++◌, drop, get_or, length, map, refl, ap, ◌∙◌, arith, flat_map, length-append, Option, None, Some, IfSome, IfNone}
+use Rattle.std.proofs.Common.{◌≡◌, ℕ, suc, ◌+◌, ◌<◌, ◌≤◌, ◌==◌, Bool, true, false, List, [], ◌∷◌, ◌++◌, drop, get_or}
+use Rattle.std.proofs.Common.{length, map, refl, ap, ◌∙◌, arith, flat_map, length-append, Option, None, Some, IfSome}
+use Rattle.std.proofs.Common.{IfNone}
 use Rattle.std.proofs.Math.Seq.{drop-cons}
 use Rattle.std.proofs.lemmas.Bool.Decides.{nat_tests}
 use Rattle.vc_model_parts.specs.declared.parts.Model.{Model}
@@ -15,15 +17,18 @@ abbrev pub drafts_at : Layout → ℕ → Constraint → List ℕ → List Draft
 drafts_at layout d constraint tuple = restriction_drafts layout d constraint tuple 1 constraint.restrictions
 
 -- without restrictions there are none
-pub none_at : (layout : Layout) (d : ℕ) (constraint : Constraint) (tuples : List (List ℕ)) → constraint.restrictions ≡ []
+pub none_at : (layout : Layout) (d : ℕ) (constraint : Constraint) (tuples : List (List ℕ))
+    → constraint.restrictions ≡ []
     → flat_map (drafts_at layout d constraint) tuples ≡ []
 none_at layout d constraint [] is = refl
 none_at layout d constraint (tuple ∷ tuples) is =
-    ap (λ restrictions. restriction_drafts layout d constraint tuple 1 restrictions ++ flat_map (drafts_at layout d constraint) tuples) is
+    ap (λ restrictions. restriction_drafts layout d constraint tuple 1 restrictions
+    ++ flat_map (drafts_at layout d constraint) tuples) is
     ∙ none_at layout d constraint tuples is
 
 -- with some, each tuple has one at least
-pub some_at : (layout : Layout) (d : ℕ) (constraint : Constraint) (tuples : List (List ℕ)) → 0 < length constraint.restrictions
+pub some_at : (layout : Layout) (d : ℕ) (constraint : Constraint) (tuples : List (List ℕ))
+    → 0 < length constraint.restrictions
     → length tuples ≤ length (flat_map (drafts_at layout d constraint) tuples)
 some_at layout d constraint [] some = omega arith
 some_at layout d constraint (tuple ∷ tuples) some =
@@ -33,7 +38,8 @@ some_at layout d constraint (tuple ∷ tuples) some =
     omega (arith, some)
 
 -- tuples and active constraints hang on the model and its slots alone
-pub same_tuples : (layout : Layout) (model : Model) (slots : List Slot) (constraint : Constraint) → model ≡ layout.model → slots ≡ layout.slots
+pub same_tuples : (layout : Layout) (model : Model) (slots : List Slot) (constraint : Constraint) → model ≡ layout.model
+    → slots ≡ layout.slots
     → tuples_of (layout_over model layout.standings slots) constraint ≡ tuples_of layout constraint
 same_tuples layout model slots constraint of_model of_slots =
     ap (λ m. tuples_of (layout_over m layout.standings slots) constraint) of_model
@@ -65,7 +71,8 @@ no_more f (x ∷ xs) b tests is = absurd (apart (length xs) b tests is)
     apart : (n : ℕ) (b : Bool) → b ≡ (suc n == 0) → b ≡ true → ⊥
     apart n b tests is = grind (arith, nat_tests)
 
-pub some_more : {X Y : Type 0} (f : X → Y) (xs : List X) (b : Bool) → b ≡ (length xs == 0) → b ≡ false → 0 < length (map f xs)
+pub some_more : {X Y : Type 0} (f : X → Y) (xs : List X) (b : Bool) → b ≡ (length xs == 0) → b ≡ false
+    → 0 < length (map f xs)
 some_more f [] b tests is = absurd (cc (tests, is))
 some_more f (x ∷ xs) b tests is = omega arith
 

@@ -4,6 +4,3 @@
 pub mod constraints;
 
 pub use constraints::push_constraint_rules;
-
-#[cfg(test)]
-mod tests;

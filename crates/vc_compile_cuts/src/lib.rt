@@ -8,6 +8,3 @@ pub mod tables;
 
 pub use domains::domains_of;
 pub use marks::Mark;
-
-#[cfg(test)]
-mod tests;

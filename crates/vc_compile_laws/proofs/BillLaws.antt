@@ -33,21 +33,29 @@ use Rattle.vc_plan.specs.declared.plans.Slot.{Slot}
 use Rattle.vc_syntax_terms.specs.Trees.{Condition as SyntaxCondition, Dependency, dependency_of}
 use Rattle.vc_table.specs.declared.table.VariantTable.{VariantTable}
 use Rattle.vc_compile_plan.specs.Layouts.{Layout, layout_of, tree_of}
-use Rattle.vc_compile_plan.specs.Numbering.{drafts_of, conditions_of, item_brings, line_from, line_terms_begin, lines_begin, operation_from, operation_terms_begin, operations_begin, selections_from, terms_of}
+use Rattle.vc_compile_plan.specs.Numbering.{drafts_of, conditions_of, item_brings, line_from, line_terms_begin}
+use Rattle.vc_compile_plan.specs.Numbering.{lines_begin, operation_from, operation_terms_begin, operations_begin}
+use Rattle.vc_compile_plan.specs.Numbering.{selections_from, terms_of}
 use Rattle.vc_compile_plan.specs.PlanOf.{IsPlanOf}
 use Rattle.vc_compile_plan.specs.Places.{asked_by, operation_site, selection_in, selections_among, site_at}
-use Rattle.vc_compile_plan.specs.Shown.{Choice, ItemDraft, choice_at, is_configurable, line_at, line_choices, line_drafts, material_in, material_of, operation_at, operation_drafts, operations_in}
+use Rattle.vc_compile_plan.specs.Shown.{Choice, ItemDraft, choice_at, is_configurable, line_at, line_choices}
+use Rattle.vc_compile_plan.specs.Shown.{line_drafts, material_in, material_of, operation_at, operation_drafts}
+use Rattle.vc_compile_plan.specs.Shown.{operations_in}
 use Rattle.vc_compile_plan.specs.Sites.{Site}
 use Rattle.vc_compile_plan.specs.Slots.{bill_in, bill_of, slots_of}
 use Rattle.vc_types.specs.declared.place.At.TheVariants as at
 use Rattle.vc_compile_laws.specs.Bills.{HasBills}
 use Rattle.vc_compile_laws.specs.Compiles.{CompiledKeeps}
-use Rattle.vc_compile_valid.proofs.EachLaws.{Each, each_both, each_by_slot, each_mapped, each_more, each_passes, each_tested}
-use Rattle.vc_compile_valid.proofs.NumberingLaws.{StandFrom, condition_count, line_conditions, line_terms, numbered_each, operation_conditions, operation_terms, stand_within, term_count}
+use Rattle.vc_compile_valid.proofs.EachLaws.{Each, each_both, each_by_slot, each_mapped, each_more, each_passes}
+use Rattle.vc_compile_valid.proofs.EachLaws.{each_tested}
+use Rattle.vc_compile_valid.proofs.NumberingLaws.{StandFrom, condition_count, line_conditions, line_terms}
+use Rattle.vc_compile_valid.proofs.NumberingLaws.{numbered_each, operation_conditions, operation_terms, stand_within}
+use Rattle.vc_compile_valid.proofs.NumberingLaws.{term_count}
 use Rattle.vc_compile_laws.proofs.VariableLaws.{slots_same}
 
 -- a dependency that is asked is one of the model's
-pub asked_there : (condition_in : Option Dependency → Option SyntaxCondition) → condition_in None ≡ None → (model : Model)
+pub asked_there : (condition_in : Option Dependency → Option SyntaxCondition) → condition_in None ≡ None
+    → (model : Model)
     → (uses : List ℕ) → Each (λ a. a.dependency < length model.dependencies) (asked_by condition_in model uses)
 asked_there condition_in none model [] = tt
 asked_there condition_in none model (d ∷ uses) =
@@ -62,7 +70,8 @@ asked_there condition_in none model (d ∷ uses) =
     by : (o : Option SyntaxCondition) → condition_in (tree_of model d) ≡ o
         → Each (λ a. a.dependency < length model.dependencies) (asked_by condition_in model uses)
         → Each (λ a. a.dependency < length model.dependencies)
-        (cons_option (option_map (λ condition. record { dependency = d; condition = condition }) o) (asked_by condition_in model uses))
+        (cons_option (option_map (λ condition. record { dependency = d; condition = condition }) o)
+        (asked_by condition_in model uses))
     by None e more = more
     by (Some c) e more = (inside (slice_get model.dependencies d) refl c e, more)
 
@@ -75,9 +84,11 @@ pub record IsItem (slots dependencies : ℕ) (word : List ℕ → Bool) (draft :
   pub choices : Each (λ choice. choice.dependency < dependencies) draft.choices
 
 choices_there : (layout : Layout) (site : Site) (model : Model) (uses : List ℕ)
-    → Each (λ choice. choice.dependency < length model.dependencies) (map (choice_at layout site) (selections_among model uses))
+    → Each (λ choice. choice.dependency < length model.dependencies)
+    (map (choice_at layout site) (selections_among model uses))
 choices_there layout site model uses =
-    each_mapped (λ choice. choice.dependency < length model.dependencies) (choice_at layout site) (selections_among model uses)
+    each_mapped (λ choice. choice.dependency < length model.dependencies) (choice_at layout site)
+    (selections_among model uses)
     (asked_there selection_in refl model uses)
 
 -- what all lines, and all operations, of a model's objects pass
@@ -126,7 +137,8 @@ material_is model keeps (components.Object o) inside spelled =
         (sym (list_all-map (λ object. is_material object.material) seen_object model.objects) ∙ keeps.names.materials) e
 material_is model keeps (components.Plain material) inside spelled = spelled
 
-line_is_item : (layout : Layout) (model : Model) → Keeps (seen_model model) → layout ≡ layout_of model → (i : ℕ) (slot : Slot)
+line_is_item : (layout : Layout) (model : Model) → Keeps (seen_model model) → layout ≡ layout_of model
+    → (i : ℕ) (slot : Slot)
     → i < length (slots_of model) → Each (IsItem (length (slots_of model)) (length model.dependencies) is_material)
     (map (line_at layout i slot) (bill_of model slot.object))
 line_is_item layout model keeps of i slot below =
@@ -134,12 +146,14 @@ line_is_item layout model keeps of i slot below =
     (bill_of model slot.object)
     (each_more
     (λ item. (is_item_spelled (seen_item item) ≡ true)
-    × ((is_item_limited (seen_item item) ≡ true) × (is_component_there (length (map seen_object model.objects)) item.component ≡ true)))
+    × ((is_item_limited (seen_item item) ≡ true)
+    × (is_component_there (length (map seen_object model.objects)) item.component ≡ true)))
     (λ item. IsItem (length (slots_of model)) (length model.dependencies) is_material (line_at layout i slot item))
     (λ item h. made item h.0 h.1.0 h.1.1)
     (bill_of model slot.object)
     (each_both (λ item. is_item_spelled (seen_item item) ≡ true)
-    (λ item. (is_item_limited (seen_item item) ≡ true) × (is_component_there (length (map seen_object model.objects)) item.component ≡ true))
+    (λ item. (is_item_limited (seen_item item) ≡ true)
+    × (is_component_there (length (map seen_object model.objects)) item.component ≡ true))
     (bill_of model slot.object) (items_pass model is_item_spelled keeps.names.items slot.object)
     (each_both (λ item. is_item_limited (seen_item item) ≡ true)
     (λ item. is_component_there (length (map seen_object model.objects)) item.component ≡ true)
@@ -151,7 +165,8 @@ line_is_item layout model keeps of i slot below =
         → Each (λ choice. choice.dependency < length model.dependencies) (line_choices layout site x uses)
     choices (components.Object o) uses site = tt
     choices (components.Plain material) uses site =
-        subst (λ m. Each (λ choice. choice.dependency < length model.dependencies) (map (choice_at layout site) (selections_among m uses)))
+        subst (λ m. Each (λ choice. choice.dependency < length model.dependencies)
+        (map (choice_at layout site) (selections_among m uses)))
         (ap (λ l. l.model) (sym of)) (choices_there layout site model uses)
 
     made : (item : BillItem) → is_item_spelled (seen_item item) ≡ true → is_item_limited (seen_item item) ≡ true
@@ -168,23 +183,27 @@ line_is_item layout model keeps of i slot below =
           choices = choices item.component item.uses (site_at layout i slot (at.Line (is_configurable item.component)));
         }
 
-operation_is_item : (layout : Layout) (model : Model) → Keeps (seen_model model) → layout ≡ layout_of model → (i : ℕ) (slot : Slot)
+operation_is_item : (layout : Layout) (model : Model) → Keeps (seen_model model) → layout ≡ layout_of model
+    → (i : ℕ) (slot : Slot)
     → i < length (slots_of model) → Each (IsItem (length (slots_of model)) (length model.dependencies) is_upper_name)
     (map (operation_at layout i slot) (operations_in (slice_get model.objects slot.object)))
 operation_is_item layout model keeps of i slot below =
-    each_mapped (IsItem (length (slots_of model)) (length model.dependencies) is_upper_name) (operation_at layout i slot)
+    each_mapped (IsItem (length (slots_of model)) (length model.dependencies) is_upper_name)
+    (operation_at layout i slot)
     (operations_in (slice_get model.objects slot.object))
     (each_more
     (λ x. (is_operation_spelled (seen_operation x) ≡ true) × (is_operation_limited (seen_operation x) ≡ true))
     (λ x. IsItem (length (slots_of model)) (length model.dependencies) is_upper_name (operation_at layout i slot x))
     (λ x h. made x h.0 h.1)
     (operations_in (slice_get model.objects slot.object))
-    (each_both (λ x. is_operation_spelled (seen_operation x) ≡ true) (λ x. is_operation_limited (seen_operation x) ≡ true)
+    (each_both (λ x. is_operation_spelled (seen_operation x) ≡ true)
+    (λ x. is_operation_limited (seen_operation x) ≡ true)
     (operations_in (slice_get model.objects slot.object))
     (operations_pass model is_operation_spelled keeps.names.operations slot.object)
     (operations_pass model is_operation_limited keeps.limits.operation_limits slot.object)))
   where
-    made : (x : parts.Operation) → is_operation_spelled (seen_operation x) ≡ true → is_operation_limited (seen_operation x) ≡ true
+    made : (x : parts.Operation) → is_operation_spelled (seen_operation x) ≡ true
+        → is_operation_limited (seen_operation x) ≡ true
         → IsItem (length (slots_of model)) (length model.dependencies) is_upper_name (operation_at layout i slot x)
     made x spelled limited =
         let words = and_parts (is_upper_name x.centre) (is_material x.unit) spelled in
@@ -207,10 +226,12 @@ all_lines model keeps =
     line_is_item (layout_of model) model keeps refl (0 + k) slot (omega (arith, below)))
 
 pub all_operations : (model : Model) → Keeps (seen_model model)
-    → Each (IsItem (length (slots_of model)) (length model.dependencies) is_upper_name) (operation_drafts (layout_of model))
+    → Each (IsItem (length (slots_of model)) (length model.dependencies) is_upper_name)
+    (operation_drafts (layout_of model))
 all_operations model keeps =
     each_by_slot (IsItem (length (slots_of model)) (length model.dependencies) is_upper_name)
-    (λ i slot. map (operation_at (layout_of model) i slot) (operations_in (slice_get model.objects slot.object))) 0 (slots_of model)
+    (λ i slot. map (operation_at (layout_of model) i slot) (operations_in (slice_get model.objects slot.object))) 0
+    (slots_of model)
     (λ k slot e. let below = slice_get_within (slots_of model) k slot e in
     operation_is_item (layout_of model) model keeps refl (0 + k) slot (omega (arith, below)))
 
@@ -224,7 +245,8 @@ selections_there plan c (choice ∷ choices) all fits =
     and_from (is_of plan.dependencies choice.dependency && is_of plan.conditions c)
     (list_all (selection_there plan) (selections_from (suc c) choices))
     (and_from (is_of plan.dependencies choice.dependency) (is_of plan.conditions c)
-    (lt-ltb choice.dependency (length plan.dependencies) all.0) (lt-ltb c (length plan.conditions) (omega (arith, fits))))
+    (lt-ltb choice.dependency (length plan.dependencies) all.0)
+    (lt-ltb c (length plan.conditions) (omega (arith, fits))))
     (selections_there plan (suc c) choices all.1 (omega (arith, fits)))
 
 -- what a numbered line, and operation, has
@@ -239,11 +261,13 @@ pub record IsOperation (plan : Plan) (operation : Operation) : Type 0 where
   pub number : is_four_digits operation.number ≡ true
 
 -- what it names is there
-item_there : (model : Model) (tables : List VariantTable) (plan : Plan) → IsPlanOf model tables plan → (word : List ℕ → Bool)
+item_there : (model : Model) (tables : List VariantTable) (plan : Plan) → IsPlanOf model tables plan
+    → (word : List ℕ → Bool)
     → (c t : ℕ) (draft : ItemDraft) → IsItem (length (slots_of model)) (length model.dependencies) word draft
     → StandFrom (conditions_of (drafts_of (layout_of model))) c (item_brings.conditions draft)
     → StandFrom (terms_of (drafts_of (layout_of model))) t (item_brings.terms draft)
-    → (is_of plan.slots draft.slot && (is_of plan.terms t && list_all (selection_there plan) (selections_from c draft.choices)))
+    → (is_of plan.slots draft.slot
+    && (is_of plan.terms t && list_all (selection_there plan) (selections_from c draft.choices)))
     ≡ true
 item_there model tables plan is word c t draft item cs ts =
     let drafts = drafts_of (layout_of model) in
@@ -260,11 +284,13 @@ item_there model tables plan is word c t draft item cs ts =
     (and_from (is_of plan.terms t) (list_all (selection_there plan) (selections_from c draft.choices))
     (lt-ltb t (length plan.terms) (omega (arith, terms, term)))
     (selections_there plan c draft.choices
-    (each_more (λ choice. choice.dependency < length model.dependencies) (λ choice. choice.dependency < length plan.dependencies)
+    (each_more (λ choice. choice.dependency < length model.dependencies)
+    (λ choice. choice.dependency < length plan.dependencies)
     (λ choice h. omega (arith, h, dependencies)) draft.choices item.choices)
     (omega (arith, conditions, all))))
 
-lines : (model : Model) (tables : List VariantTable) (plan : Plan) → Keeps (seen_model model) → IsPlanOf model tables plan
+lines : (model : Model) (tables : List VariantTable) (plan : Plan) → Keeps (seen_model model)
+    → IsPlanOf model tables plan
     → Each (IsLine plan) plan.lines
 lines model tables plan keeps is =
     let drafts = drafts_of (layout_of model) in
@@ -275,9 +301,11 @@ lines model tables plan keeps is =
       is_there = item_there model tables plan is is_material c t draft item cs ts;
       words = and_from (is_material draft.word) (is_material draft.unit) item.word_is item.unit;
       item = item.number;
-    }) (lines_begin drafts) (line_terms_begin drafts) drafts.lines (all_lines model keeps) (line_conditions drafts) (line_terms drafts))
+    }) (lines_begin drafts) (line_terms_begin drafts) drafts.lines (all_lines model keeps) (line_conditions drafts)
+    (line_terms drafts))
 
-operations : (model : Model) (tables : List VariantTable) (plan : Plan) → Keeps (seen_model model) → IsPlanOf model tables plan
+operations : (model : Model) (tables : List VariantTable) (plan : Plan) → Keeps (seen_model model)
+    → IsPlanOf model tables plan
     → Each (IsOperation plan) plan.operations
 operations model tables plan keeps is =
     let drafts = drafts_of (layout_of model) in
@@ -299,10 +327,13 @@ has_bills text model tables plan spells read compiles =
     record {
       lines_there = each_passes (IsLine plan) (line_there plan) (λ x h. h.is_there) plan.lines ls;
       operations_there = each_passes (IsOperation plan) (operation_there plan) (λ x h. h.is_there) plan.operations os;
-      line_words = each_passes (IsLine plan) (λ line. is_material line.material && is_material line.unit) (λ x h. h.words) plan.lines ls;
-      operation_words = each_passes (IsOperation plan) (λ operation. is_upper_name operation.name && is_material operation.unit)
+      line_words = each_passes (IsLine plan) (λ line. is_material line.material && is_material line.unit)
+          (λ x h. h.words) plan.lines ls;
+      operation_words = each_passes (IsOperation plan)
+          (λ operation. is_upper_name operation.name && is_material operation.unit)
           (λ x h. h.words) plan.operations os;
       line_items = each_passes (IsLine plan) (λ line. is_four_digits line.item) (λ x h. h.item) plan.lines ls;
-      operation_numbers = each_passes (IsOperation plan) (λ operation. is_four_digits operation.number) (λ x h. h.number)
+      operation_numbers = each_passes (IsOperation plan) (λ operation. is_four_digits operation.number)
+          (λ x h. h.number)
           plan.operations os;
     }

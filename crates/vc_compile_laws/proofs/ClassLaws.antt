@@ -40,7 +40,8 @@ sets_back i [] = refl
 sets_back i (c ∷ cs) = ap (λ l. c ∷ l) (sets_back i cs)
 
 -- a characteristic of a slot's class has sets where it may have several values
-has_sets_same : (model : Model) (plan : Plan) → Keeps (seen_model model) → plan.sets ≡ sets_of model (slots_of model) → (k : ℕ)
+has_sets_same : (model : Model) (plan : Plan) → Keeps (seen_model model) → plan.sets ≡ sets_of model (slots_of model)
+    → (k : ℕ)
     (slot : Slot) → slice_get (slots_of model) k ≡ Some slot → (c : ℕ)
     → list_any (λ d. c == d) (members_of model slot.object) ≡ true → has_sets plan c ≡ is_multiple model c
 has_sets_same model plan keeps is k slot at c member =
@@ -50,7 +51,8 @@ has_sets_same model plan keeps is k slot at c member =
         → list_any (λ x. x.characteristic == c) (sets_of model (slots_of model)) ≡ is_multiple model c
     by true e =
         any_by_slot (λ x. x.characteristic == c) (sets_at model) 0 (slots_of model) k slot at
-        (any_made (λ x. x.characteristic == c) (set_at (0 + k)) (is_multiple model) c (eq-eqb c c refl) e (members_of model slot.object)
+        (any_made (λ x. x.characteristic == c) (set_at (0 + k)) (is_multiple model) c (eq-eqb c c refl) e
+        (members_of model slot.object)
         member) ∙ sym e
     by false e =
         not-true (list_any (λ x. x.characteristic == c) (sets_of model (slots_of model)))
@@ -84,19 +86,24 @@ has_classes text model tables plan spells read compiles = record {
     tests : (i : ℕ) (slot : Slot) → slice_get (slots_of model) i ≡ Some slot
         → Each (λ c. has_sets plan c ≡ is_multiple model c) (members_of model slot.object)
     tests i slot e =
-        each_more (λ c. list_any (λ d. c == d) (members_of model slot.object) ≡ true) (λ c. has_sets plan c ≡ is_multiple model c)
-        (λ c h. has_sets_same model plan (spelled_keeps_all text (seen_model model) spells) compiles.is_its.sets i slot e c h)
-        (members_of model slot.object) (each_among (λ c d. c == d) (λ c. eq-eqb c c refl) (members_of model slot.object))
+        each_more (λ c. list_any (λ d. c == d) (members_of model slot.object) ≡ true)
+        (λ c. has_sets plan c ≡ is_multiple model c)
+        (λ c h. has_sets_same model plan (spelled_keeps_all text (seen_model model) spells) compiles.is_its.sets i slot
+        e c h)
+        (members_of model slot.object)
+        (each_among (λ c d. c == d) (λ c. eq-eqb c c refl) (members_of model slot.object))
 
     vars_own : (i : ℕ) → (slot : Slot) × (slice_get (slots_of model) i ≡ Some slot) → has_its_vars plan i ≡ true
     vars_own i found =
         let single : ℕ → Bool = λ c. not (is_multiple model c) in
         let class = members_of model found.0.object in
-        same_from (classes.vars_at plan i) (filter (λ c. not (has_sets plan c)) (class_at plan (slice_get plan.slots i)))
+        same_from (classes.vars_at plan i)
+        (filter (λ c. not (has_sets plan c)) (class_at plan (slice_get plan.slots i)))
         (ap (λ xs. map (λ x. x.characteristic) (filter (λ x. x.slot == i) xs)) compiles.is_its.vars
         ∙ ap (map (λ x. x.characteristic)) (at_slot (λ x. x.slot) (vars_at model)
         (λ i slot. each_mapped (λ x. x.slot ≡ i) (var_at model i) (filter single (members_of model slot.object))
-        (each_of_all (λ x. i ≡ i) (λ x. refl) (filter single (members_of model slot.object)))) 0 (slots_of model) i found.0 found.1 i
+        (each_of_all (λ x. i ≡ i) (λ x. refl) (filter single (members_of model slot.object)))) 0 (slots_of model) i
+        found.0 found.1 i
         (no_front i))
         ∙ vars_back model i (filter single class)
         ∙ sym (ap (filter (λ c. not (has_sets plan c))) (class_is i found.0 found.1)
@@ -111,7 +118,8 @@ has_classes text model tables plan spells read compiles = record {
         (ap (λ xs. map (λ x. x.characteristic) (filter (λ x. x.slot == i) xs)) compiles.is_its.sets
         ∙ ap (map (λ x. x.characteristic)) (at_slot (λ x. x.slot) (sets_at model)
         (λ i slot. each_mapped (λ x. x.slot ≡ i) (set_at i) (filter (is_multiple model) (members_of model slot.object))
-        (each_of_all (λ x. i ≡ i) (λ x. refl) (filter (is_multiple model) (members_of model slot.object)))) 0 (slots_of model) i
+        (each_of_all (λ x. i ≡ i) (λ x. refl) (filter (is_multiple model) (members_of model slot.object)))) 0
+        (slots_of model) i
         found.0 found.1 i (no_front i))
         ∙ sets_back i (filter (is_multiple model) class)
         ∙ sym (ap (filter (has_sets plan)) (class_is i found.0 found.1)

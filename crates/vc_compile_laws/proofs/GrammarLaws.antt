@@ -1,5 +1,6 @@
 -- What the grammar says of trees: a constraint speaks of an object, and a call of a table names a column.
-use Rattle.std.proofs.Common.{◌≡◌, Bool, true, ◌&&◌, nat_lt, List, [], ◌∷◌, ◌++◌, length, length-append, arith, refl, sym, ◌∙◌}
+use Rattle.std.proofs.Common.{◌≡◌, Bool, true, ◌&&◌, nat_lt, List, [], ◌∷◌, ◌++◌, length, length-append, arith, refl}
+use Rattle.std.proofs.Common.{sym, ◌∙◌}
 use Rattle.std.specs.Prelude.{flat_map}
 use Rattle.std.specs.List.{list_all}
 use Rattle.std.proofs.lemmas.Bool.{and_from, and_parts, lt-ltb}
@@ -59,7 +60,8 @@ table_names : (ts : List Token) (call : TableCall) → IsTable ts call → names
 table_names _ _ (statements.called t u opening ts closing {bindings = bindings} word name begins listed ends) =
     listed_some _ _ ts bindings listed
 
-action_names : (ts : List Token) (action : Action) → IsAction ts action → list_all names_some (call_of_action action) ≡ true
+action_names : (ts : List Token) (action : Action) → IsAction ts action
+    → list_all names_some (call_of_action action) ≡ true
 action_names _ _ (statements.assign t dot u equal ts itself is_dot name is value) = refl
 action_names _ _ (statements.set_default t ts comma us closing word name is value closes) = refl
 action_names _ _ (statements.del_default t ts comma us closing word name is value closes) = refl
@@ -70,7 +72,8 @@ statement_names : (ts : List Token) (statement : Statement) → IsStatement ts s
     → list_all names_some (call_of_action statement.action) ≡ true
 statement_names _ _ (statements.stated ts us {action = action} acts asks) = action_names ts action acts
 
-demand_names : (ts : List Token) (demand : Demand) → IsDemand ts demand → list_all names_some (call_of_demand demand) ≡ true
+demand_names : (ts : List Token) (demand : Demand) → IsDemand ts demand
+    → list_all names_some (call_of_demand demand) ≡ true
 demand_names _ _ (statements.relation related) = refl
 demand_names _ _ (statements.table {ts = ts} {call = call} table) =
     and_from (names_some call) true (table_names ts call table) refl
@@ -82,19 +85,24 @@ restriction_names _ _ (statements.demanded ts us {what = what} demands asks) = d
 
 section_names : (ts : List Token) (restrictions : List Restriction) → IsRestrictionSection ts restrictions
     → list_all names_some (flat_map (λ restriction. call_of_demand restriction.demand) restrictions) ≡ true
-section_names _ _ (constraints.restriction t _ word (constraints.section colon ts period restrictions begins listed ends)) =
+section_names _ _ (constraints.restriction t _ word
+    (constraints.section colon ts period restrictions begins listed ends)) =
     all_flat names_some (λ restriction. call_of_demand restriction.demand) restrictions
     (listed_all _ _ _ restriction_names ts restrictions listed)
-section_names _ _ (constraints.restrictions t _ word (constraints.section colon ts period restrictions begins listed ends)) =
+section_names _ _ (constraints.restrictions t _ word
+    (constraints.section colon ts period restrictions begins listed ends)) =
     all_flat names_some (λ restriction. call_of_demand restriction.demand) restrictions
     (listed_all _ _ _ restriction_names ts restrictions listed)
 
-tree_names : (kind : Kind) (ts : List Token) (tree : Dependency) → IsDependency kind ts tree → list_all names_some (calls_in tree) ≡ true
+tree_names : (kind : Kind) (ts : List Token) (tree : Dependency) → IsDependency kind ts tree
+    → list_all names_some (calls_in tree) ≡ true
 tree_names _ _ _ (grammar.precondition ts us condition stops) = refl
 tree_names _ _ _ (grammar.selection ts us condition stops) = refl
 tree_names _ _ _ (grammar.procedure ts us {xs = xs} listed stops) =
-    all_flat names_some (λ statement. call_of_action statement.action) xs (listed_all _ _ _ statement_names ts xs listed)
-tree_names _ _ _ (grammar.constraint (constraints.constraint ts us vs ws {restrictions = restrictions} some_objects asks demands infers)) =
+    all_flat names_some (λ statement. call_of_action statement.action) xs
+    (listed_all _ _ _ statement_names ts xs listed)
+tree_names _ _ _ (grammar.constraint
+    (constraints.constraint ts us vs ws {restrictions = restrictions} some_objects asks demands infers)) =
     section_names vs restrictions demands
 tree_names _ _ _ (grammar.term term) = refl
 
@@ -107,7 +115,8 @@ tree_objects : (kind : Kind) (ts : List Token) (tree : Dependency) → IsDepende
 tree_objects _ _ _ (grammar.precondition ts us condition stops) = refl
 tree_objects _ _ _ (grammar.selection ts us condition stops) = refl
 tree_objects _ _ _ (grammar.procedure ts us listed stops) = refl
-tree_objects _ _ _ (grammar.constraint (constraints.constraint ts us vs ws {objects = objects} some_objects asks demands infers)) =
+tree_objects _ _ _ (grammar.constraint
+    (constraints.constraint ts us vs ws {objects = objects} some_objects asks demands infers)) =
     section_objects ts objects some_objects
 tree_objects _ _ _ (grammar.term term) = refl
 
@@ -115,11 +124,13 @@ tree_objects _ _ _ (grammar.term term) = refl
 pub keeps_objects : (model : Model) → KeepsTrees (seen_model model) → KeepsObjects model
 keeps_objects model keeps = record {
   objects = sym (list_all-map (λ dependency. has_objects dependency.tree) seen_dependency model.dependencies)
-      ∙ keeps.trees has_objects (λ tree spelled. tree_objects spelled.kind spelled.spells.tokens tree spelled.spells.spelled);
+      ∙ keeps.trees has_objects
+      (λ tree spelled. tree_objects spelled.kind spelled.spells.tokens tree spelled.spells.spelled);
 }
 
 pub keeps_bindings : (model : Model) → KeepsTrees (seen_model model) → KeepsBindings model
 keeps_bindings model keeps = record {
   bindings = sym (list_all-map (λ dependency. names_columns dependency.tree) seen_dependency model.dependencies)
-      ∙ keeps.trees names_columns (λ tree spelled. tree_names spelled.kind spelled.spells.tokens tree spelled.spells.spelled);
+      ∙ keeps.trees names_columns
+      (λ tree spelled. tree_names spelled.kind spelled.spells.tokens tree spelled.spells.spelled);
 }

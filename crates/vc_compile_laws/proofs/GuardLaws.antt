@@ -35,20 +35,26 @@ use Rattle.vc_plan.specs.declared.plans.Plan.{Plan}
 use Rattle.vc_plan.specs.declared.plans.Requirement.{Requirement}
 use Rattle.vc_table.specs.declared.table.VariantTable.{VariantTable}
 use Rattle.vc_compile_plan.specs.Layouts.{layout_of}
-use Rattle.vc_compile_plan.specs.Numbering.{drafts_of, conditions_of, guard_brings, guard_from, guards_begin, requirement_brings, requirement_from, requirements_begin, terms_of}
+use Rattle.vc_compile_plan.specs.Numbering.{drafts_of, conditions_of, guard_brings, guard_from, guards_begin}
+use Rattle.vc_compile_plan.specs.Numbering.{requirement_brings, requirement_from, requirements_begin, terms_of}
 use Rattle.vc_compile_plan.specs.PlanOf.{IsPlanOf}
-use Rattle.vc_compile_plan.specs.Places.{characteristic_site, precondition_in, preconditions_among, selection_in, selections_among}
-use Rattle.vc_compile_plan.specs.Shown.{Choice, GuardDraft, RequirementDraft, choice_at, entries_of, entry_of_numbers, entry_of_text, guard_drafts, guards_among, guards_at, guards_of, requirement_drafts, requirements_at, requirements_of}
+use Rattle.vc_compile_plan.specs.Places.{characteristic_site, precondition_in, preconditions_among, selection_in}
+use Rattle.vc_compile_plan.specs.Places.{selections_among}
+use Rattle.vc_compile_plan.specs.Shown.{Choice, GuardDraft, RequirementDraft, choice_at, entries_of, entry_of_numbers}
+use Rattle.vc_compile_plan.specs.Shown.{entry_of_text, guard_drafts, guards_among, guards_at, guards_of}
+use Rattle.vc_compile_plan.specs.Shown.{requirement_drafts, requirements_at, requirements_of}
 use Rattle.vc_compile_plan.specs.Sites.{Site, named_at}
 use Rattle.vc_compile_plan.specs.Slots.{slots_of}
 use Rattle.vc_compile_plan.specs.Variables.{members_of}
 use Rattle.vc_compile_laws.specs.Compiles.{CompiledKeeps}
 use Rattle.vc_compile_laws.specs.Guards.{HasGuards}
 use Rattle.vc_compile_laws.proofs.BillLaws.{asked_there}
-use Rattle.vc_compile_valid.proofs.EachLaws.{Each, each_both, each_by_slot, each_flat, each_joined, each_mapped, each_more, each_passes}
+use Rattle.vc_compile_valid.proofs.EachLaws.{Each, each_both, each_by_slot, each_flat, each_joined, each_mapped}
+use Rattle.vc_compile_valid.proofs.EachLaws.{each_more, each_passes}
 use Rattle.vc_compile_laws.proofs.ListedLaws.{list_same, list_there}
 use Rattle.vc_compile_valid.proofs.NamedLaws.{IsNamed, each_among, named_found}
-use Rattle.vc_compile_valid.proofs.NumberingLaws.{StandFrom, condition_count, guard_conditions, no_terms, numbered_each, requirement_conditions, stand_within}
+use Rattle.vc_compile_valid.proofs.NumberingLaws.{StandFrom, condition_count, guard_conditions, no_terms, numbered_each}
+use Rattle.vc_compile_valid.proofs.NumberingLaws.{requirement_conditions, stand_within}
 
 -- a piece is the same as itself
 not_above : (z : ℤ) → le_z z z ≡ true
@@ -57,12 +63,14 @@ not_above z = grind (arith, ints)
 same_itself : (p : Piece) → is_same_piece p p ≡ true
 same_itself (OneText t) = and_from (t == t) (t == t) (eq-eqb t t refl) (eq-eqb t t refl)
 same_itself (Stretch grain) =
-    let one = and_from (le_z grain.low.millionths grain.low.millionths) (le_z grain.high.millionths grain.high.millionths)
+    let one
+    = and_from (le_z grain.low.millionths grain.low.millionths) (le_z grain.high.millionths grain.high.millionths)
     (not_above grain.low.millionths) (not_above grain.high.millionths) in
     and_from (is_part (Stretch grain) (Stretch grain)) (is_part (Stretch grain) (Stretch grain)) one one
 
 -- the pieces of a characteristic's values are the grains of its list
-text_pieces : (xs : List TextValue) → map (λ e. e.piece) (map entry_of_text xs) ≡ map OneText (map (λ value. value.text) xs)
+text_pieces : (xs : List TextValue)
+    → map (λ e. e.piece) (map entry_of_text xs) ≡ map OneText (map (λ value. value.text) xs)
 text_pieces [] = refl
 text_pieces (x ∷ xs) = ap (λ ps. OneText x.text ∷ ps) (text_pieces xs)
 
@@ -84,7 +92,8 @@ texts_there : (plan : Plan) (ts : List ℕ) → list_all (is_of plan.texts) ts �
     → Each (λ p. piece_there plan p ≡ true) (map OneText ts)
 texts_there plan [] h = tt
 texts_there plan (t ∷ ts) h =
-    let parts = and_parts (is_of plan.texts t) (list_all (is_of plan.texts) ts) h in (parts.0, texts_there plan ts parts.1)
+    let parts
+    = and_parts (is_of plan.texts t) (list_all (is_of plan.texts) ts) h in (parts.0, texts_there plan ts parts.1)
 
 stretches_there : (plan : Plan) (gs : List Grain) → list_all grain_there gs ≡ true
     → Each (λ p. piece_there plan p ≡ true) (map Stretch gs)
@@ -96,7 +105,8 @@ grains_there : (plan : Plan) (v : Values) → domain_there plan (whole_domain v)
     → Each (λ p. piece_there plan p ≡ true) (grains_in (Some (whole_domain v)))
 grains_there plan (values.Texts size multiple listed) h = texts_there plan (map (λ value. value.text) listed) h
 grains_there plan (values.Numbers decimals unit listed) h =
-    stretches_there plan (map grain_of listed) (and_parts (nat_le decimals 6) (list_all grain_there (map grain_of listed)) h).1
+    stretches_there plan (map grain_of listed)
+    (and_parts (nat_le decimals 6) (list_all grain_there (map grain_of listed)) h).1
 
 entries_good : (plan : Plan) (v : Values) → domain_there plan (whole_domain v) ≡ true
     → Each (λ e. (piece_there plan e.piece ≡ true) × (is_entry (Some (whole_domain v)) e.piece ≡ true)) (entries_of v)
@@ -124,9 +134,11 @@ among_good : (model : Model) (plan : Plan) (site : Site) (n : Named) (value : Op
     → Each (IsGuard plan (length model.dependencies)) (guards_among (layout_of model) site n value uses)
 among_good model plan site n value uses at there listed =
     each_mapped (IsGuard plan (length model.dependencies))
-    (λ asked. record { at = n; value = value; choice = choice_at (layout_of model) site asked }) (preconditions_among model uses)
+    (λ asked. record { at = n; value = value; choice = choice_at (layout_of model) site asked })
+    (preconditions_among model uses)
     (each_more (λ a. a.dependency < length model.dependencies)
-    (λ a. IsGuard plan (length model.dependencies) (record { at = n; value = value; choice = choice_at (layout_of model) site a }))
+    (λ a. IsGuard plan (length model.dependencies)
+    (record { at = n; value = value; choice = choice_at (layout_of model) site a }))
     (λ a h. record { at = at; value = there; listed = listed; dependency = h }) (preconditions_among model uses)
     (asked_there precondition_in refl model uses))
 
@@ -145,7 +157,8 @@ guards_good model tables plan keeps is site n c named (Some x) at =
     (λ entry. guards_among (layout_of model) site n (Some entry.piece) entry.uses) (entries_of x.values)
     (each_more (λ e. (piece_there plan e.piece ≡ true) × (is_entry (Some (whole_domain x.values)) e.piece ≡ true))
     (λ e. Each (IsGuard plan (length model.dependencies)) (guards_among (layout_of model) site n (Some e.piece) e.uses))
-    (λ e h. among_good model plan site n (Some e.piece) e.uses named.is_there h.0 (ap (λ l. is_entry l e.piece) list ∙ h.1))
+    (λ e h. among_good model plan site n (Some e.piece) e.uses named.is_there h.0
+    (ap (λ l. is_entry l e.piece) list ∙ h.1))
     (entries_of x.values) (entries_good plan x.values (list_there model tables plan keeps is c x at))))
 
 requirements_good : (model : Model) (plan : Plan) (site : Site) (n : Named) → named_there plan n ≡ true
@@ -156,7 +169,8 @@ requirements_good model plan site n at (Some x) =
     each_mapped (IsRequirement plan (length model.dependencies))
     (λ asked. record { at = n; choice = choice_at (layout_of model) site asked }) (selections_among model x.uses)
     (each_more (λ a. a.dependency < length model.dependencies)
-    (λ a. IsRequirement plan (length model.dependencies) (record { at = n; choice = choice_at (layout_of model) site a }))
+    (λ a. IsRequirement plan (length model.dependencies)
+    (record { at = n; choice = choice_at (layout_of model) site a }))
     (λ a h. record { at = at; dependency = h }) (selections_among model x.uses)
     (asked_there selection_in refl model x.uses))
 
@@ -166,14 +180,17 @@ all_guards model tables plan keeps is =
     each_by_slot (IsGuard plan (length model.dependencies)) (guards_at (layout_of model)) 0 (slots_of model)
     (λ k slot e.
     each_flat (IsGuard plan (length model.dependencies))
-    (λ c. guards_of (layout_of model) (characteristic_site (layout_of model) (0 + k) slot) (named_at (layout_of model) (0 + k) c)
+    (λ c. guards_of (layout_of model) (characteristic_site (layout_of model) (0 + k) slot)
+    (named_at (layout_of model) (0 + k) c)
     (slice_get model.characteristics c)) (members_of model slot.object)
     (each_more (λ c. list_any (λ d. c == d) (members_of model slot.object) ≡ true)
     (λ c. Each (IsGuard plan (length model.dependencies))
-    (guards_of (layout_of model) (characteristic_site (layout_of model) (0 + k) slot) (named_at (layout_of model) (0 + k) c)
+    (guards_of (layout_of model) (characteristic_site (layout_of model) (0 + k) slot)
+    (named_at (layout_of model) (0 + k) c)
     (slice_get model.characteristics c)))
     (λ c h. guards_good model tables plan keeps is (characteristic_site (layout_of model) (0 + k) slot)
-    (named_at (layout_of model) (0 + k) c) c (named_found model tables plan is k slot e c h) (slice_get model.characteristics c) refl)
+    (named_at (layout_of model) (0 + k) c) c (named_found model tables plan is k slot e c h)
+    (slice_get model.characteristics c) refl)
     (members_of model slot.object) (each_among (λ c d. c == d) (λ c. eq-eqb c c refl) (members_of model slot.object))))
 
 all_requirements : (model : Model) (tables : List VariantTable) (plan : Plan) → IsPlanOf model tables plan
@@ -182,18 +199,22 @@ all_requirements model tables plan is =
     each_by_slot (IsRequirement plan (length model.dependencies)) (requirements_at (layout_of model)) 0 (slots_of model)
     (λ k slot e.
     each_flat (IsRequirement plan (length model.dependencies))
-    (λ c. requirements_of (layout_of model) (characteristic_site (layout_of model) (0 + k) slot) (named_at (layout_of model) (0 + k) c)
+    (λ c. requirements_of (layout_of model) (characteristic_site (layout_of model) (0 + k) slot)
+    (named_at (layout_of model) (0 + k) c)
     (slice_get model.characteristics c)) (members_of model slot.object)
     (each_more (λ c. list_any (λ d. c == d) (members_of model slot.object) ≡ true)
     (λ c. Each (IsRequirement plan (length model.dependencies))
-    (requirements_of (layout_of model) (characteristic_site (layout_of model) (0 + k) slot) (named_at (layout_of model) (0 + k) c)
+    (requirements_of (layout_of model) (characteristic_site (layout_of model) (0 + k) slot)
+    (named_at (layout_of model) (0 + k) c)
     (slice_get model.characteristics c)))
     (λ c h. requirements_good model plan (characteristic_site (layout_of model) (0 + k) slot)
-    (named_at (layout_of model) (0 + k) c) (named_found model tables plan is k slot e c h).is_there (slice_get model.characteristics c))
+    (named_at (layout_of model) (0 + k) c) (named_found model tables plan is k slot e c h).is_there
+    (slice_get model.characteristics c))
     (members_of model slot.object) (each_among (λ c d. c == d) (λ c. eq-eqb c c refl) (members_of model slot.object))))
 
 -- what is asked there has numbers that are there
-asked_is_there : (model : Model) (tables : List VariantTable) (plan : Plan) → IsPlanOf model tables plan → (c : ℕ) (choice : Choice)
+asked_is_there : (model : Model) (tables : List VariantTable) (plan : Plan) → IsPlanOf model tables plan
+    → (c : ℕ) (choice : Choice)
     → choice.dependency < length model.dependencies
     → StandFrom (conditions_of (drafts_of (layout_of model))) c (choice.condition ∷ [])
     → (is_of plan.dependencies choice.dependency && is_of plan.conditions c) ≡ true
@@ -206,13 +227,15 @@ asked_is_there model tables plan is c choice below cs =
     (lt-ltb choice.dependency (length plan.dependencies) (omega (arith, below, dependencies)))
     (lt-ltb c (length plan.conditions) (omega (arith, conditions, one)))
 
-guards : (model : Model) (tables : List VariantTable) (plan : Plan) → Keeps (seen_model model) → IsPlanOf model tables plan
+guards : (model : Model) (tables : List VariantTable) (plan : Plan) → Keeps (seen_model model)
+    → IsPlanOf model tables plan
     → Each (λ guard. (guard_there plan guard ≡ true) × (guard_listed plan guard ≡ true)) plan.guards
 guards model tables plan keeps is =
     let drafts = drafts_of (layout_of model) in
     let Good : Guard → Type 0 = λ guard. (guard_there plan guard ≡ true) × (guard_listed plan guard ≡ true) in
     subst (Each Good) (sym is.guards)
-    (numbered_each guard_brings guard_from (IsGuard plan (length model.dependencies)) Good (conditions_of drafts) (terms_of drafts)
+    (numbered_each guard_brings guard_from (IsGuard plan (length model.dependencies)) Good (conditions_of drafts)
+    (terms_of drafts)
     (λ c t draft guard cs ts. (
       and_from (named_there plan draft.at && piece_there_if plan draft.value)
           (is_of plan.dependencies draft.choice.dependency && is_of plan.conditions c)
@@ -228,21 +251,28 @@ requirements model tables plan is =
     let drafts = drafts_of (layout_of model) in
     let Good : Requirement → Type 0 = λ requirement. requirement_there plan requirement ≡ true in
     subst (Each Good) (sym is.requirements)
-    (numbered_each requirement_brings requirement_from (IsRequirement plan (length model.dependencies)) Good (conditions_of drafts)
+    (numbered_each requirement_brings requirement_from (IsRequirement plan (length model.dependencies)) Good
+    (conditions_of drafts)
     (terms_of drafts)
     (λ c t draft requirement cs ts.
-    and_from (named_there plan draft.at) (is_of plan.dependencies draft.choice.dependency && is_of plan.conditions c) requirement.at
-    (asked_is_there model tables plan is c draft.choice requirement.dependency cs)) (requirements_begin drafts) 0 drafts.requirements
-    (all_requirements model tables plan is) (requirement_conditions drafts) (no_terms (terms_of drafts) drafts.requirements))
+    and_from (named_there plan draft.at) (is_of plan.dependencies draft.choice.dependency && is_of plan.conditions c)
+    requirement.at
+    (asked_is_there model tables plan is c draft.choice requirement.dependency cs)) (requirements_begin drafts) 0
+    drafts.requirements
+    (all_requirements model tables plan is) (requirement_conditions drafts)
+    (no_terms (terms_of drafts) drafts.requirements))
 
 pub has_guards : CompiledKeeps HasGuards
 has_guards text model tables plan spells read compiles =
     let all = guards model tables plan (spelled_keeps_all text (seen_model model) spells) compiles.is_its in
     record {
-      guards_there = each_passes (λ guard. (guard_there plan guard ≡ true) × (guard_listed plan guard ≡ true)) (guard_there plan)
+      guards_there = each_passes (λ guard. (guard_there plan guard ≡ true) × (guard_listed plan guard ≡ true))
+          (guard_there plan)
           (λ guard h. h.0) plan.guards all;
-      requirements_there = each_passes (λ requirement. requirement_there plan requirement ≡ true) (requirement_there plan)
+      requirements_there =
+          each_passes (λ requirement. requirement_there plan requirement ≡ true) (requirement_there plan)
           (λ requirement h. h) plan.requirements (requirements model tables plan compiles.is_its);
-      guards = each_passes (λ guard. (guard_there plan guard ≡ true) × (guard_listed plan guard ≡ true)) (guard_listed plan)
+      guards = each_passes (λ guard. (guard_there plan guard ≡ true) × (guard_listed plan guard ≡ true))
+          (guard_listed plan)
           (λ guard h. h.1) plan.guards all;
     }

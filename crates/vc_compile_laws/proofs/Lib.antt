@@ -4,6 +4,8 @@ pub mod ClassLaws
 pub mod GrammarLaws
 pub mod GuardLaws
 pub mod ListedLaws
+pub mod NumberLaws
+pub mod NumberTokenLaws
 pub mod OrderLaws
 pub mod SizeLaws
 pub mod SlotLaws
@@ -12,6 +14,9 @@ pub mod StatementLaws
 pub mod TableLaws
 pub mod TextLaws
 pub mod ThingLaws
+pub mod TreeTestLaws
+pub mod TypedLaws
 pub mod ValidLaws
 pub mod VariableLaws
+pub mod WholeLaws
 pub mod WordLaws

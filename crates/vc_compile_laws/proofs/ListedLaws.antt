@@ -130,9 +130,11 @@ whole_proper : (v : Values) → are_proper v ≡ true → is_proper (whole_domai
 whole_proper (values.Texts size multiple listed) h = h
 whole_proper (values.Numbers decimals unit listed) h = h
 
-whole_few : (v : Values) → nat_le (count_of v) 1_000 ≡ true → nat_le (length (grains_in (Some (whole_domain v)))) 1_000 ≡ true
+whole_few : (v : Values) → nat_le (count_of v) 1_000 ≡ true
+    → nat_le (length (grains_in (Some (whole_domain v)))) 1_000 ≡ true
 whole_few (values.Texts size multiple listed) h =
-    ap (λ n. nat_le n 1_000) (length-map (map (λ value. value.text) listed) _ ∙ length-map listed (λ value. value.text)) ∙ h
+    ap (λ n. nat_le n 1_000) (length-map (map (λ value. value.text) listed) _ ∙ length-map listed (λ value. value.text))
+    ∙ h
 whole_few (values.Numbers decimals unit listed) h =
     ap (λ n. nat_le n 1_000) (length-map (map grain_of listed) _ ∙ length-map listed grain_of) ∙ h
 
@@ -147,10 +149,12 @@ lists_pass model tables plan keeps is p h =
     ∙ from_each (λ c. p (domain_of c.values)) model.characteristics
     (λ k c e. ap p (keeps.headers.domains k c e) ∙ h k c e)
 
-lists : (model : Model) (tables : List VariantTable) (plan : Plan) → Keeps (seen_model model) → IsPlanOf model tables plan
+lists : (model : Model) (tables : List VariantTable) (plan : Plan) → Keeps (seen_model model)
+    → IsPlanOf model tables plan
     → HasLists plan
 lists model tables plan keeps is = record {
-  characteristics_there = lists_pass model tables plan keeps is (domain_there plan) (list_there model tables plan keeps is);
+  characteristics_there =
+      lists_pass model tables plan keeps is (domain_there plan) (list_there model tables plan keeps is);
   objects_there = ap (λ n. list_all (λ o. list_all (λ c. nat_lt c n) o.characteristics) plan.objects)
       (ap length is.characteristics ∙ length-map model.characteristics characteristic_from)
       ∙ ap (list_all (λ o. are_below (length model.characteristics) o.characteristics)) is.objects
@@ -158,9 +162,11 @@ lists model tables plan keeps is = record {
   classes = ap (list_all (λ o. are_different o.characteristics)) is.objects
       ∙ objects_pass model are_different refl keeps.lists.members 0 model.objects;
   lists = lists_pass model tables plan keeps is is_proper
-      (λ k c e. whole_proper c.values (passes_at (λ c. are_proper c.values) model.characteristics k c keeps.lists.values e));
+      (λ k c e. whole_proper c.values
+      (passes_at (λ c. are_proper c.values) model.characteristics k c keeps.lists.values e));
   list_limit = lists_pass model tables plan keeps is (λ d. nat_le (length (grains_in (Some d))) 1_000)
-      (λ k c e. whole_few c.values (passes_at (λ c. nat_le (count_of c.values) 1_000) model.characteristics k c keeps.limits.values e));
+      (λ k c e. whole_few c.values
+      (passes_at (λ c. nat_le (count_of c.values) 1_000) model.characteristics k c keeps.limits.values e));
 }
 
 pub has_lists : CompiledKeeps HasLists

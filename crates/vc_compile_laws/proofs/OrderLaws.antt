@@ -15,13 +15,15 @@ use Rattle.vc_plan.specs.Orders.{are_in_order}
 use Rattle.vc_plan.specs.Valid.{is_line_before, is_operation_before}
 use Rattle.vc_plan.specs.declared.plans.Slot.{Slot}
 use Rattle.vc_compile_plan.specs.Layouts.{layout_of}
-use Rattle.vc_compile_plan.specs.Numbering.{drafts_of, item_brings, line_from, line_terms_begin, lines_begin, operation_from, operation_terms_begin, operations_begin}
+use Rattle.vc_compile_plan.specs.Numbering.{drafts_of, item_brings, line_from, line_terms_begin, lines_begin}
+use Rattle.vc_compile_plan.specs.Numbering.{operation_from, operation_terms_begin, operations_begin}
 use Rattle.vc_compile_plan.specs.Shown.{ItemDraft, line_at, operation_at, operations_in}
 use Rattle.vc_compile_plan.specs.Slots.{bill_in, bill_of, slots_of}
 use Rattle.vc_compile_plan.specs.Variables.{by_slot}
 use Rattle.vc_compile_laws.specs.Compiles.{CompiledKeeps}
 use Rattle.vc_compile_laws.specs.Orders.{HasOrders}
-use Rattle.vc_compile_valid.proofs.EachLaws.{Each, each_by_slot, each_mapped, each_more, each_of_all, each_passes, order_joined}
+use Rattle.vc_compile_valid.proofs.EachLaws.{Each, each_by_slot, each_mapped, each_more, each_of_all, each_passes}
+use Rattle.vc_compile_valid.proofs.EachLaws.{order_joined}
 use Rattle.vc_compile_valid.proofs.OrderedLaws.{numbered_ordered, order_mapped}
 
 -- by slot, and at one slot by number
@@ -32,7 +34,9 @@ order_within : (i : ℕ) (xs : List ItemDraft) → Each (λ x. x.slot ≡ i) xs
     → are_in_order (λ a b. nat_lt a.number b.number) xs ≡ true → are_in_order is_before xs ≡ true
 order_within i [] own h = refl
 order_within i (x ∷ xs) own h =
-    let parts = and_parts (list_all (λ b. nat_lt x.number b.number) xs) (are_in_order (λ a b. nat_lt a.number b.number) xs) h in
+    let parts
+    = and_parts (list_all (λ b. nat_lt x.number b.number) xs) (are_in_order (λ a b. nat_lt a.number b.number) xs)
+    h in
     and_from (list_all (is_before x) xs) (are_in_order is_before xs)
     (behind xs own.1 parts.0) (order_within i xs own.1 parts.1)
   where
@@ -67,12 +71,14 @@ bill_ordered : (model : Model) → Keeps (seen_model model) → (o : ℕ)
     → are_in_order (λ a b. nat_lt a.item b.item) (bill_of model o) ≡ true
 bill_ordered model keeps o = by (slice_get model.objects o) refl
   where
-    by : (x : Option Object) → slice_get model.objects o ≡ x → are_in_order (λ a b. nat_lt a.item b.item) (bill_in x) ≡ true
+    by : (x : Option Object) → slice_get model.objects o ≡ x
+        → are_in_order (λ a b. nat_lt a.item b.item) (bill_in x) ≡ true
     by None e = refl
     by (Some object) e =
         sym (order_mapped (λ a b. nat_lt a.item b.item) seen_item object.bill)
         ∙ passes_at (λ x. are_in_order (λ a b. nat_lt a.item b.item) (map seen_item x.bill)) model.objects o object
-        (sym (list_all-map (λ x. are_in_order (λ a b. nat_lt a.item b.item) x.bill) seen_object model.objects) ∙ keeps.lists.items) e
+        (sym (list_all-map (λ x. are_in_order (λ a b. nat_lt a.item b.item) x.bill) seen_object model.objects)
+        ∙ keeps.lists.items) e
 
 routing_ordered : (model : Model) → Keeps (seen_model model) → (o : ℕ)
     → are_in_order (λ a b. nat_lt a.number b.number) (operations_in (slice_get model.objects o)) ≡ true
@@ -83,7 +89,8 @@ routing_ordered model keeps o = by (slice_get model.objects o) refl
     by None e = refl
     by (Some object) e =
         sym (order_mapped (λ a b. nat_lt a.number b.number) seen_operation object.operations)
-        ∙ passes_at (λ x. are_in_order (λ a b. nat_lt a.number b.number) (map seen_operation x.operations)) model.objects o object
+        ∙ passes_at (λ x. are_in_order (λ a b. nat_lt a.number b.number) (map seen_operation x.operations))
+        model.objects o object
         (sym (list_all-map (λ x. are_in_order (λ a b. nat_lt a.number b.number) x.operations) seen_object model.objects)
         ∙ keeps.lists.operations) e
 
@@ -102,11 +109,15 @@ has_orders text model tables plan spells read compiles =
           (λ i slot. order_mapped (λ a b. nat_lt a.number b.number) (line_at layout i slot) (bill_of model slot.object)
           ∙ bill_ordered model keeps slot.object) 0 (slots_of model));
       operations_in_order = ap (are_in_order is_operation_before) compiles.is_its.operations
-          ∙ numbered_ordered item_brings operation_from is_operation_before is_before (λ c t m n a b e. e) (operations_begin drafts)
+          ∙ numbered_ordered item_brings operation_from is_operation_before is_before (λ c t m n a b e. e)
+          (operations_begin drafts)
           (operation_terms_begin drafts) drafts.operations
-          (slots_ordered (λ i slot. map (operation_at layout i slot) (operations_in (slice_get model.objects slot.object)))
-          (λ i slot. each_mapped (λ x. x.slot ≡ i) (operation_at layout i slot) (operations_in (slice_get model.objects slot.object))
+          (slots_ordered (λ i slot. map (operation_at layout i slot)
+          (operations_in (slice_get model.objects slot.object)))
+          (λ i slot. each_mapped (λ x. x.slot ≡ i) (operation_at layout i slot)
+          (operations_in (slice_get model.objects slot.object))
           (each_of_all (λ x. i ≡ i) (λ x. refl) (operations_in (slice_get model.objects slot.object))))
           (λ i slot. order_mapped (λ a b. nat_lt a.number b.number) (operation_at layout i slot)
-          (operations_in (slice_get model.objects slot.object)) ∙ routing_ordered model keeps slot.object) 0 (slots_of model));
+          (operations_in (slice_get model.objects slot.object)) ∙ routing_ordered model keeps slot.object) 0
+          (slots_of model));
     }

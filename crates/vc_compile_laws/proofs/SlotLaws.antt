@@ -1,5 +1,6 @@
 -- The slots of a plan name slots and objects that it has, and are of at most four levels.
-use Rattle.std.proofs.Common.{◌≡◌, ℕ, ◌+◌, ◌<◌, ◌≤◌, Bool, true, nat_lt, List, length, map, Option, Some, None, refl, sym, ap, ◌∙◌, arith}
+use Rattle.std.proofs.Common.{◌≡◌, ℕ, ◌+◌, ◌<◌, ◌≤◌, Bool, true, nat_lt, List, length, map, Option, Some, None, refl}
+use Rattle.std.proofs.Common.{sym, ap, ◌∙◌, arith}
 use Rattle.std.specs.Prelude.{slice_get}
 use Rattle.std.specs.List.{list_all}
 use Rattle.std.proofs.lemmas.Bool.{and_from, lt-ltb, ltb-true}
@@ -49,12 +50,17 @@ component_there model keeps o k line c at is = of_object (slice_get model.object
     all : list_all (λ object. list_all (λ item. is_component_there (length model.objects) item.component) object.bill)
         model.objects ≡ true
     all =
-        weaker (λ object. list_all (λ item. is_component_there (length model.objects) item.component) (map seen_item object.bill))
-        (λ object. list_all (λ item. is_component_there (length model.objects) item.component) object.bill) model.objects
-        (λ object h. sym (list_all-map (λ item. is_component_there (length model.objects) item.component) seen_item object.bill) ∙ h)
-        (sym (list_all-map (λ object. list_all (λ item. is_component_there (length model.objects) item.component) object.bill)
+        weaker (λ object. list_all (λ item. is_component_there (length model.objects) item.component)
+        (map seen_item object.bill))
+        (λ object. list_all (λ item. is_component_there (length model.objects) item.component) object.bill)
+        model.objects
+        (λ object h. sym (list_all-map (λ item. is_component_there (length model.objects) item.component) seen_item
+        object.bill) ∙ h)
+        (sym (list_all-map (λ object. list_all (λ item. is_component_there (length model.objects) item.component)
+        object.bill)
         seen_object model.objects)
-        ∙ ap (λ n. list_all (λ object. list_all (λ item. is_component_there n item.component) object.bill) (map seen_object model.objects))
+        ∙ ap (λ n. list_all (λ object. list_all (λ item. is_component_there n item.component) object.bill)
+        (map seen_object model.objects))
         (sym (length-map model.objects seen_object)) ∙ keeps.indices.components)
 
     of_component : (x : Component) → object_in x ≡ Some c → is_component_there (length model.objects) x ≡ true
@@ -95,7 +101,13 @@ all_stand model keeps =
     let f = fits.levels in
     record { parent = fits.parent; object = fits.object; depth = omega (arith, is, f) })
     (fit_goes model keeps slots) 4 None 0 0 0 slots model.root (omega arith)
-    (record { parent = λ p e. absurd (cc); object = omega (arith, root, count); levels = omega arith; end = omega arith })
+    (record {
+      parent = λ p e. absurd (cc);
+      object = omega (arith, root, count);
+      levels = omega arith;
+      end =
+          omega arith;
+    })
 
 parent_there : (slots : ℕ) (xs : List Slot) (o : Option ℕ) → length xs ≡ slots → ((p : ℕ) → o ≡ Some p → p < slots)
     → is_of_if xs o ≡ true
@@ -107,7 +119,8 @@ pub slot_count : (model : Model) (tables : List VariantTable) (plan : Plan) → 
 slot_count model tables plan is =
     ap length is.slots ∙ length-map (standings_of model) (slot_of model (standings_of model))
 
-slots : (model : Model) (tables : List VariantTable) (plan : Plan) → Keeps (seen_model model) → IsPlanOf model tables plan
+slots : (model : Model) (tables : List VariantTable) (plan : Plan) → Keeps (seen_model model)
+    → IsPlanOf model tables plan
     → HasSlots plan
 slots model tables plan keeps is = record {
   slots_there = pass (slot_there plan) (λ s h.

@@ -128,7 +128,8 @@ table_is_there model tables plan keeps is table o kept inside =
     (list_all (row_there plan (table_from table o)) (rows_in o))
     (ap (λ n. list_all (λ column. nat_lt column.characteristic n) (map column_from table.columns))
     (ap length is.characteristics ∙ length-map model.characteristics characteristic_from)
-    ∙ list_all-map (λ column. nat_lt column.characteristic (length model.characteristics)) column_from table.columns ∙ inside)
+    ∙ list_all-map (λ column. nat_lt column.characteristic (length model.characteristics)) column_from table.columns
+    ∙ inside)
     (rows_pass model table (row_there plan (table_from table o)) row o kept)
   where
     row : (cells : List Value) → are_cells (seen_model model) table.columns cells ≡ true
@@ -146,7 +147,8 @@ tables_of_plan : (model : Model) (tables : List VariantTable) (plan : Plan) → 
 tables_of_plan model tables plan keeps is rows = record {
   tables_there = pass (table_there plan) (λ k table e. table_is_there model tables plan keeps is table
       (slice_get tables (0 + k)) (rows k table e)
-      (passes_at (λ t. list_all (λ c. nat_lt c.characteristic (length model.characteristics)) t.columns) model.tables k table
+      (passes_at (λ t. list_all (λ c. nat_lt c.characteristic (length model.characteristics)) t.columns) model.tables k
+      table
       keeps.indices.columns e));
   table_columns = pass (λ t. are_apart (λ a b. a.characteristic == b.characteristic) t.columns)
       (λ k table e. apart_mapped (λ a b. a.characteristic == b.characteristic) column_from table.columns

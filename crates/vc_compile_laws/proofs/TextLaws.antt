@@ -27,11 +27,13 @@ use Rattle.vc_tree_laws.specs.Literals.{is_literal, KeepsLiterals}
 use Rattle.vc_tree_laws.proofs.ModelTreeLaws as trees
 use Rattle.vc_compile_plan.specs.PlanOf.{IsPlanOf}
 use Rattle.vc_compile_plan.specs.Tables.{characteristic_from}
-use Rattle.vc_compile_plan.specs.Texts.{each_once, is_text_of, named_texts, texts_in as texts_in_tree, texts_of, unlisted_texts}
+use Rattle.vc_compile_plan.specs.Texts.{each_once, is_text_of, named_texts, texts_in as texts_in_tree, texts_of}
+use Rattle.vc_compile_plan.specs.Texts.{unlisted_texts}
 use Rattle.vc_table.specs.declared.table.VariantTable.{VariantTable}
 use Rattle.vc_compile_laws.specs.Compiles.{CompiledKeeps}
 use Rattle.vc_compile_laws.specs.Words.{HasTexts}
-use Rattle.vc_compile_valid.proofs.ListLaws.{all_flat, all_joined, all_left, apart_joined, apart_left, from_each, left_pass, none_from}
+use Rattle.vc_compile_valid.proofs.ListLaws.{all_flat, all_joined, all_left, apart_joined, apart_left, from_each}
+use Rattle.vc_compile_valid.proofs.ListLaws.{left_pass, none_from}
 
 -- of a list each once
 all_once : (p : List ℕ → Bool) (xs : List (List ℕ)) → list_all p xs ≡ true → list_all p (each_once xs) ≡ true
@@ -39,13 +41,15 @@ all_once p [] h = refl
 all_once p (x ∷ xs) h =
     let parts = and_parts (p x) (list_all p xs) h in
     let test : List ℕ → Bool = λ other. not (bytes_eq x other) in
-    and_from (p x) (list_all p (filter test (each_once xs))) parts.0 (all_left p test (each_once xs) (all_once p xs parts.1))
+    and_from (p x) (list_all p (filter test (each_once xs))) parts.0
+    (all_left p test (each_once xs) (all_once p xs parts.1))
 
 once_apart : (xs : List (List ℕ)) → are_apart same_bytes (each_once xs) ≡ true
 once_apart [] = refl
 once_apart (x ∷ xs) =
     let test : List ℕ → Bool = λ other. not (bytes_eq x other) in
-    and_from (not (list_any (same_bytes x) (filter test (each_once xs)))) (are_apart same_bytes (filter test (each_once xs)))
+    and_from (not (list_any (same_bytes x) (filter test (each_once xs))))
+    (are_apart same_bytes (filter test (each_once xs)))
     (none_from (same_bytes x) (filter test (each_once xs)) (left_pass test (each_once xs)))
     (apart_left same_bytes test (each_once xs) (once_apart xs))
 
@@ -60,12 +64,14 @@ literals : (model : Model) → KeepsLiterals (seen_model model) → list_all is_
 literals model keeps =
     unlisted_pass model is_literal
     (all_flat is_literal (λ named. texts_in_tree (dependency_of named.tree)) model.dependencies
-    (sym (list_all-map (λ d. list_all is_literal (texts_in_tree d.tree)) seen_dependency model.dependencies) ∙ keeps.literals))
+    (sym (list_all-map (λ d. list_all is_literal (texts_in_tree d.tree)) seen_dependency model.dependencies)
+    ∙ keeps.literals))
 
 pub all_texts : (model : Model) (p : List ℕ → Bool) → ((t : List ℕ) → is_literal t ≡ true → p t ≡ true)
     → KeepsLiterals (seen_model model) → list_all p model.texts ≡ true → list_all p (texts_of model) ≡ true
 all_texts model p of keeps h =
-    all_joined p model.texts (unlisted_texts model) h (weaker is_literal p (unlisted_texts model) of (literals model keeps))
+    all_joined p model.texts (unlisted_texts model) h
+    (weaker is_literal p (unlisted_texts model) of (literals model keeps))
 
 texts_apart : (model : Model) → are_apart same_bytes model.texts ≡ true → are_apart same_bytes (texts_of model) ≡ true
 texts_apart model h =
@@ -85,7 +91,8 @@ graphic_in : (model : Model) → Keeps (seen_model model) → (v : Values)
     → list_all (λ t. is_graphic (slice_get (texts_of model) t)) (texts_in (Some (domain_of v))) ≡ true
 graphic_in model keeps (values.Texts size multiple listed) h =
     list_all-map (λ t. is_graphic (slice_get (texts_of model) t)) (λ value. value.text) listed
-    ∙ weaker (λ value. nat_lt value.text (length model.texts)) (λ value. is_graphic (slice_get (texts_of model) value.text)) listed
+    ∙ weaker (λ value. nat_lt value.text (length model.texts))
+    (λ value. is_graphic (slice_get (texts_of model) value.text)) listed
     (λ value inside.
     let found = there model.texts value.text inside in
     ap is_graphic (front model.texts (unlisted_texts model) value.text found.0 found.1)
@@ -93,7 +100,8 @@ graphic_in model keeps (values.Texts size multiple listed) h =
     h
 graphic_in model keeps (values.Numbers decimals unit listed) h = refl
 
-texts : (model : Model) (tables : List VariantTable) (plan : Plan) → Keeps (seen_model model) → KeepsLiterals (seen_model model)
+texts : (model : Model) (tables : List VariantTable) (plan : Plan) → Keeps (seen_model model)
+    → KeepsLiterals (seen_model model)
     → IsPlanOf model tables plan → HasTexts plan
 texts model tables plan keeps trees is = record {
   texts = ap (list_all is_text) is.texts
@@ -102,11 +110,15 @@ texts model tables plan keeps trees is = record {
       (all_texts model is_utf8 (λ t h. (and_parts (is_text t) (is_utf8 t) h).1) trees
       (from_each is_utf8 model.texts (λ k x f. is_utf8-from_IsUtf8 x (keeps.texts.utf8 k x f))))
       (sym (ap (λ xs. slice_get xs t) is.texts) ∙ e));
-  listed_texts = ap (λ ts. list_all (λ c. list_all (λ t. is_graphic (slice_get ts t)) (texts_in (Some c.list))) plan.characteristics) is.texts
-      ∙ ap (list_all (λ c. list_all (λ t. is_graphic (slice_get (texts_of model) t)) (texts_in (Some c.list)))) is.characteristics
-      ∙ list_all-map (λ c. list_all (λ t. is_graphic (slice_get (texts_of model) t)) (texts_in (Some c.list))) characteristic_from model.characteristics
+  listed_texts = ap (λ ts. list_all (λ c. list_all (λ t. is_graphic (slice_get ts t)) (texts_in (Some c.list)))
+      plan.characteristics) is.texts
+      ∙ ap (list_all (λ c. list_all (λ t. is_graphic (slice_get (texts_of model) t)) (texts_in (Some c.list))))
+      is.characteristics
+      ∙ list_all-map (λ c. list_all (λ t. is_graphic (slice_get (texts_of model) t)) (texts_in (Some c.list)))
+      characteristic_from model.characteristics
       ∙ weaker (λ c. are_texts_there (length model.texts) c.values)
-      (λ c. list_all (λ t. is_graphic (slice_get (texts_of model) t)) (texts_in (Some (domain_of c.values)))) model.characteristics
+      (λ c. list_all (λ t. is_graphic (slice_get (texts_of model) t)) (texts_in (Some (domain_of c.values))))
+      model.characteristics
       (λ c h. graphic_in model keeps c.values h) keeps.indices.texts;
   texts_once = ap (are_apart same_bytes) is.texts ∙ texts_apart model keeps.names.texts_once;
 }

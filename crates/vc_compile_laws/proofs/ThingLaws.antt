@@ -1,5 +1,6 @@
 -- What a model's things keep is kept by the plan's, of which each is made from one of the model's.
-use Rattle.std.proofs.Common.{◌≡◌, ℕ, zero, suc, ◌+◌, Bool, true, List, [], ◌∷◌, length, map, Option, Some, None, refl, ap, ◌∙◌, arith}
+use Rattle.std.proofs.Common.{◌≡◌, ℕ, zero, suc, ◌+◌, Bool, true, List, [], ◌∷◌, length, map, Option, Some, None, refl}
+use Rattle.std.proofs.Common.{ap, ◌∙◌, arith}
 use Rattle.std.specs.Prelude.{slice_get}
 use Rattle.std.specs.List.{list_all}
 use Rattle.std.proofs.lemmas.Bool.{and_from}
@@ -42,7 +43,8 @@ pub object_materials : (model : Model) (o : ℕ) (xs : List configurable.Object)
 object_materials model o [] = refl
 object_materials model o (x ∷ xs) = ap (λ ms. x.material ∷ ms) (object_materials model (suc o) xs)
 
-pub object_count : (model : Model) (o : ℕ) (xs : List configurable.Object) → length (objects_from model o xs) ≡ length xs
+pub object_count : (model : Model) (o : ℕ) (xs : List configurable.Object)
+    → length (objects_from model o xs) ≡ length xs
 object_count model o [] = refl
 object_count model o (x ∷ xs) = ap suc (object_count model (suc o) xs)
 
@@ -52,7 +54,8 @@ pub table_names : (tables : List VariantTable) (t : ℕ) (xs : List declared.Tab
 table_names tables t [] = refl
 table_names tables t (x ∷ xs) = ap (λ ns. x.name ∷ ns) (table_names tables (suc t) xs)
 
-pub table_count : (tables : List VariantTable) (t : ℕ) (xs : List declared.Table) → length (tables_from tables t xs) ≡ length xs
+pub table_count : (tables : List VariantTable) (t : ℕ) (xs : List declared.Table)
+    → length (tables_from tables t xs) ≡ length xs
 table_count tables t [] = refl
 table_count tables t (x ∷ xs) = ap suc (table_count tables (suc t) xs)
 
@@ -64,7 +67,8 @@ tables_pass tables p t [] h = refl
 tables_pass tables p t (x ∷ xs) h =
     and_from (p (table_from x (slice_get tables t))) (list_all p (tables_from tables (suc t) xs))
     (ap (λ n. p (table_from x (slice_get tables n))) (no_more t) ∙ h zero x refl)
-    (tables_pass tables p (suc t) xs (λ k y e. ap (λ n. p (table_from y (slice_get tables n))) (one_more t k) ∙ h (suc k) y e))
+    (tables_pass tables p (suc t) xs
+    (λ k y e. ap (λ n. p (table_from y (slice_get tables n))) (one_more t k) ∙ h (suc k) y e))
   where
     no_more : (n : ℕ) → n ≡ n + 0
     no_more n = omega arith

@@ -1,5 +1,6 @@
 -- What plans keep by how they are made, of models that texts spell: what they rest on is what such a model keeps.
-use Rattle.std.proofs.Common.{◌≡◌, ℕ, true, false, not, ◌&&◌, ◌||◌, nat_lt, List, [], ◌∷◌, length, map, refl, sym, ap, ◌∙◌}
+use Rattle.std.proofs.Common.{◌≡◌, ℕ, true, false, not, ◌&&◌, ◌||◌, nat_lt, List, [], ◌∷◌, length, map, refl, sym, ap}
+use Rattle.std.proofs.Common.{◌∙◌}
 use Rattle.std.specs.Prelude.{nat_le}
 use Rattle.std.specs.List.{list_all, list_any}
 use Rattle.std.proofs.lemmas.Bool.{and_parts}
@@ -21,7 +22,8 @@ use Rattle.vc_model_laws.proofs.SpelledLaws.{spelled_keeps_all}
 use Rattle.vc_compile_plan.specs.Slots.{is_too_deep}
 use Rattle.vc_compile_valid.specs.Domains as domains
 use Rattle.vc_compile_valid.specs.Domains.{HasDomains}
-use Rattle.vc_compile_valid.specs.Models.{KeepsParts, KeepsUses, KeepsValues, all_values, count_of, have_few_uses, is_plain}
+use Rattle.vc_compile_valid.specs.Models.{KeepsParts, KeepsUses, KeepsValues, all_values, count_of, have_few_uses}
+use Rattle.vc_compile_valid.specs.Models.{is_plain}
 use Rattle.vc_compile_valid.specs.Places.{HasFewProcedures, HasPlaces}
 use Rattle.vc_compile_valid.specs.Rules.{HasRules}
 use Rattle.vc_compile_valid.specs.Slots.{HasLineSlots, HasOneBill, HasPreorder}
@@ -57,21 +59,27 @@ any_turned : (material : List ℕ) (objects : List Object)
     ≡ list_any (λ object. same_bytes object.material material) objects
 any_turned material [] = refl
 any_turned material (object ∷ objects) =
-    ap (λ b. b || list_any (λ object. same_bytes material object.material) (map seen_object objects)) (same_turns material object.material)
+    ap (λ b. b || list_any (λ object. same_bytes material object.material) (map seen_object objects))
+    (same_turns material object.material)
     ∙ ap (λ b. same_bytes object.material material || b) (any_turned material objects)
 
-plain_same : (objects : List Object) (x : Component) → is_plain_apart (map seen_object objects) x ≡ true → is_plain objects x ≡ true
+plain_same : (objects : List Object) (x : Component) → is_plain_apart (map seen_object objects) x ≡ true
+    → is_plain objects x ≡ true
 plain_same objects (components.Object o) h = refl
 plain_same objects (components.Plain material) h = sym (ap not (any_turned material objects)) ∙ h
 
-keeps_parts : (model : Model) → Keeps (seen_model model) → is_too_deep model ≡ false → KeepsParts model
+pub keeps_parts : (model : Model) → Keeps (seen_model model) → is_too_deep model ≡ false → KeepsParts model
 keeps_parts model keeps levels = record {
-  plain = weaker (λ object. list_all (λ item. is_plain_apart (map seen_object model.objects) item.component) (map seen_item object.bill))
+  plain = weaker (λ object. list_all (λ item. is_plain_apart (map seen_object model.objects) item.component)
+      (map seen_item object.bill))
       (λ object. list_all (λ item. is_plain model.objects item.component) object.bill) model.objects
-      (λ object h. weaker (λ item. is_plain_apart (map seen_object model.objects) item.component) (λ item. is_plain model.objects item.component)
+      (λ object h. weaker (λ item. is_plain_apart (map seen_object model.objects) item.component)
+      (λ item. is_plain model.objects item.component)
       object.bill (λ item k. plain_same model.objects item.component k)
-      (sym (list_all-map (λ item. is_plain_apart (map seen_object model.objects) item.component) seen_item object.bill) ∙ h))
-      (sym (list_all-map (λ object. list_all (λ item. is_plain_apart (map seen_object model.objects) item.component) object.bill)
+      (sym (list_all-map (λ item. is_plain_apart (map seen_object model.objects) item.component) seen_item object.bill)
+      ∙ h))
+      (sym (list_all-map (λ object. list_all (λ item. is_plain_apart (map seen_object model.objects) item.component)
+      object.bill)
       seen_object model.objects) ∙ keeps.components.plain);
   levels = levels;
 }
@@ -91,7 +99,8 @@ few_same (values.Numbers decimals unit listed) h = h
 keeps_values : (model : Model) → Keeps (seen_model model) → KeepsValues model
 keeps_values model keeps = record {
   domains = λ k c e. keeps.headers.domains k c e ∙ values_same c.values;
-  some_values = weaker (λ c. nat_lt 0 (limits.count_of c.values)) (λ c. nat_lt 0 (count_of c.values)) model.characteristics
+  some_values = weaker (λ c. nat_lt 0 (limits.count_of c.values)) (λ c. nat_lt 0 (count_of c.values))
+      model.characteristics
       (λ c h. count_same c.values h) keeps.lists.some_values;
 }
 
@@ -103,7 +112,8 @@ keeps_uses model keeps = record {
   profiles = weaker (λ object. nat_le (length object.nets) 100 && nat_le (length object.procedures) 100)
       (λ object. nat_le (length object.procedures) 100) model.objects
       (λ object h. (and_parts (nat_le (length object.nets) 100) (nat_le (length object.procedures) 100) h).1)
-      (sym (list_all-map (λ object. nat_le (length object.nets) 100 && nat_le (length object.procedures) 100) seen_object model.objects)
+      (sym (list_all-map (λ object. nat_le (length object.nets) 100 && nat_le (length object.procedures) 100)
+      seen_object model.objects)
       ∙ keeps.limits.profiles);
 }
 
@@ -126,7 +136,8 @@ has_one_bill text model tables plan spells read compiles = one_bill.has_one_bill
 pub has_places : CompiledKeeps HasPlaces
 has_places text model tables plan spells read compiles =
     let lists = has_lists text model tables plan spells read compiles in
-    places.has_places model tables plan compiles.is_its (keeps_values model (spelled_keeps_all text (seen_model model) spells))
+    places.has_places model tables plan compiles.is_its
+    (keeps_values model (spelled_keeps_all text (seen_model model) spells))
     (record { classes = lists.classes; lists = lists.lists })
 
 pub has_few_procedures : CompiledKeeps HasFewProcedures
@@ -139,7 +150,7 @@ has_few_procedures text model tables plan spells read compiles =
       slot_limit = (is_within text model tables plan spells read compiles).slot_limit;
     })
 
-plan_lists : CompiledKeeps domains.HasLists
+pub plan_lists : CompiledKeeps domains.HasLists
 plan_lists text model tables plan spells read compiles =
     let lists = has_lists text model tables plan spells read compiles in
     record {
@@ -150,21 +161,26 @@ plan_lists text model tables plan spells read compiles =
 
 pub has_domains : CompiledKeeps HasDomains
 has_domains text model tables plan spells read compiles =
-    domain_laws.has_domains model tables plan compiles.is_its (keeps_values model (spelled_keeps_all text (seen_model model) spells))
+    domain_laws.has_domains model tables plan compiles.is_its
+    (keeps_values model (spelled_keeps_all text (seen_model model) spells))
     (plan_lists text model tables plan spells read compiles)
 
 pub has_scopes : CompiledKeeps HasScopes
-has_scopes text model tables plan spells read compiles = scopes.has_scopes model tables plan compiles.is_its compiles.typed
+has_scopes text model tables plan spells read compiles =
+    scopes.has_scopes model tables plan compiles.is_its compiles.typed
 
 pub has_amounts : CompiledKeeps HasAmounts
 has_amounts text model tables plan spells read compiles =
-    sorts.has_amounts model tables plan compiles.is_its (plan_lists text model tables plan spells read compiles) compiles.typed
+    sorts.has_amounts model tables plan compiles.is_its (plan_lists text model tables plan spells read compiles)
+    compiles.typed
 
 pub has_nets : CompiledKeeps HasNets
-has_nets text model tables plan spells read compiles = monotone.has_nets model tables plan compiles.is_its compiles.typed
+has_nets text model tables plan spells read compiles =
+    monotone.has_nets model tables plan compiles.is_its compiles.typed
 
 pub has_no_sums : CompiledKeeps HasNoSums
-has_no_sums text model tables plan spells read compiles = sums.has_no_sums model tables plan compiles.is_its compiles.typed
+has_no_sums text model tables plan spells read compiles =
+    sums.has_no_sums model tables plan compiles.is_its compiles.typed
 
 pub has_own_slots : CompiledKeeps HasOwnSlots
 has_own_slots text model tables plan spells read compiles =

@@ -1,5 +1,6 @@
 -- The variables and sets of a plan, slot by slot, are those of its objects' classes.
-use Rattle.std.proofs.Common.{◌≡◌, ℕ, zero, suc, ◌+◌, ◌<◌, Bool, true, false, not, ◌&&◌, ◌||◌, nat_lt, List, [], ◌∷◌, length, map}
+use Rattle.std.proofs.Common.{◌≡◌, ℕ, zero, suc, ◌+◌, ◌<◌, Bool, true, false, not, ◌&&◌, ◌||◌, nat_lt, List, [], ◌∷◌}
+use Rattle.std.proofs.Common.{length, map}
 use Rattle.std.proofs.Common.{Option, Some, None, refl, sym, ap, ◌∙◌, arith}
 use Rattle.std.specs.Prelude.{◌==◌, nat_le, slice_get}
 use Rattle.std.specs.List.{filter, list_all, list_any}
@@ -37,10 +38,12 @@ use Rattle.vc_compile_plan.specs.Layouts.{layout_of}
 use Rattle.vc_compile_plan.specs.PlanOf.{IsPlanOf}
 use Rattle.vc_compile_plan.specs.Slots.{slots_of}
 use Rattle.vc_compile_plan.specs.Tables.{characteristic_from, column_from}
-use Rattle.vc_compile_plan.specs.Variables.{members_of, restrictable_in, set_at, sets_at, sets_of, var_at, vars_at, vars_of}
+use Rattle.vc_compile_plan.specs.Variables.{members_of, restrictable_in, set_at, sets_at, sets_of, var_at, vars_at}
+use Rattle.vc_compile_plan.specs.Variables.{vars_of}
 use Rattle.vc_compile_laws.specs.Compiles.{CompiledKeeps}
 use Rattle.vc_compile_laws.specs.Variables.{HasVariables}
-use Rattle.vc_compile_valid.proofs.EachLaws.{Each, each_by_slot, each_left, each_mapped, each_more, each_of_all, each_passes, each_tested, order_by_slot}
+use Rattle.vc_compile_valid.proofs.EachLaws.{Each, each_by_slot, each_left, each_mapped, each_more, each_of_all}
+use Rattle.vc_compile_valid.proofs.EachLaws.{each_passes, each_tested, order_by_slot}
 use Rattle.vc_compile_valid.proofs.ListLaws.{none_from}
 use Rattle.vc_compile_laws.proofs.ListedLaws.{list_same}
 use Rattle.vc_compile_laws.proofs.ThingLaws.{members_pass, tables_pass}
@@ -65,7 +68,8 @@ members_there model keeps o =
     each_tested (λ c. nat_lt c (length model.characteristics)) (members_of model o)
     (members_pass model (are_below (length model.characteristics)) refl keeps.indices.members o)
 
-pub all_vars : (model : Model) → Keeps (seen_model model) → Each (IsVar model (length (slots_of model))) (vars_of model (slots_of model))
+pub all_vars : (model : Model) → Keeps (seen_model model)
+    → Each (IsVar model (length (slots_of model))) (vars_of model (slots_of model))
 all_vars model keeps =
     each_by_slot (IsVar model (length (slots_of model))) (vars_at model) 0 (slots_of model)
     (λ k slot e.
@@ -85,7 +89,8 @@ all_vars model keeps =
     (each_left (λ c. nat_lt c (length model.characteristics) ≡ true) (λ c. not (is_multiple model c))
     (members_of model slot.object) (members_there model keeps slot.object))))
 
-pub all_sets : (model : Model) → Keeps (seen_model model) → Each (IsSet model (length (slots_of model))) (sets_of model (slots_of model))
+pub all_sets : (model : Model) → Keeps (seen_model model)
+    → Each (IsSet model (length (slots_of model))) (sets_of model (slots_of model))
 all_sets model keeps =
     each_by_slot (IsSet model (length (slots_of model))) (sets_at model) 0 (slots_of model)
     (λ k slot e.
@@ -138,7 +143,8 @@ texts_kept numbers (values.Texts size multiple listed) h = numbers_same (map (λ
 texts_kept numbers (values.Numbers decimals unit listed) h = absurd (cc)
 
 -- two variables of one characteristic are alike
-one_domain : (model : Model) (slots : ℕ) (x y : Var) → IsVar model slots x → IsVar model slots y → are_of_one_domain x y ≡ true
+one_domain : (model : Model) (slots : ℕ) (x y : Var) → IsVar model slots x → IsVar model slots y
+    → are_of_one_domain x y ≡ true
 one_domain model slots x y a b = by (x.characteristic == y.characteristic) refl
   where
     alike : (p q : Bool) → p ≡ q → ((p && q) || not (p || q)) ≡ true
@@ -148,7 +154,8 @@ one_domain model slots x y a b = by (x.characteristic == y.characteristic) refl
     alike false true e = absurd (cc)
 
     by : (t : Bool) → (x.characteristic == y.characteristic) ≡ t
-        → (not t || ((x.domain == y.domain) && ((x.restrictable && y.restrictable) || not (x.restrictable || y.restrictable)))) ≡ true
+        → (not t || ((x.domain == y.domain)
+        && ((x.restrictable && y.restrictable) || not (x.restrictable || y.restrictable)))) ≡ true
     by false e = refl
     by true e =
         let same = eqb-true x.characteristic y.characteristic e in
@@ -172,10 +179,12 @@ set_texts_are : (model : Model) (tables : List VariantTable) (plan : Plan) → K
 set_texts_are model tables plan keeps is slots x set =
     let marks = all_marks (layout_of model) tables in
     let found =
-    there model.characteristics x.characteristic (lt-ltb x.characteristic (length model.characteristics) set.characteristic) in
+    there model.characteristics x.characteristic
+    (lt-ltb x.characteristic (length model.characteristics) set.characteristic) in
     let list : list_of plan (Some x.characteristic) ≡ Some (whole_domain found.0.values) =
     list_same model tables plan keeps is x.characteristic ∙ ap list_at found.1 in
-    let cut : slice_get plan.domains x.domain ≡ Some (cut_domain (cuts_at marks (0 + x.characteristic)) (domain_of found.0.values)) =
+    let cut : slice_get plan.domains x.domain
+    ≡ Some (cut_domain (cuts_at marks (0 + x.characteristic)) (domain_of found.0.values)) =
     ap (λ ds. slice_get ds x.domain) is.domains ∙ ap (slice_get (domains_from marks 0 model.characteristics)) set.domain
     ∙ domain_at marks 0 model.characteristics x.characteristic found.0 found.1 in
     ap (λ o. has_listed_texts o (slice_get plan.domains x.domain)) list
@@ -183,7 +192,8 @@ set_texts_are model tables plan keeps is slots x set =
     ∙ texts_kept (cuts_at marks (0 + x.characteristic)) found.0.values (sym (ap multiple_in found.1) ∙ set.multiple)
 
 -- a characteristic of one value has no sets
-pub no_sets : (model : Model) (slots c : ℕ) (sets : List TextSet) → Each (IsSet model slots) sets → is_multiple model c ≡ false
+pub no_sets : (model : Model) (slots c : ℕ) (sets : List TextSet) → Each (IsSet model slots) sets
+    → is_multiple model c ≡ false
     → not (list_any (λ x. x.characteristic == c) sets) ≡ true
 no_sets model slots c sets all single =
     none_from (λ x. x.characteristic == c) sets
@@ -214,14 +224,17 @@ variables : (model : Model) (tables : List VariantTable) (plan : Plan) → Keeps
     → IsPlanOf model tables plan → HasVariables plan
 variables model tables plan keeps is = record {
   vars_there = ap (list_all (var_there plan)) is.vars
-      ∙ each_passes (IsVar model slots) (var_there plan) (λ x h. all_there x.slot x.characteristic x.domain h.slot h.characteristic h.domain)
+      ∙ each_passes (IsVar model slots) (var_there plan)
+      (λ x h. all_there x.slot x.characteristic x.domain h.slot h.characteristic h.domain)
       (vars_of model (slots_of model)) (all_vars model keeps);
   sets_there = ap (list_all (set_there plan)) is.sets
-      ∙ each_passes (IsSet model slots) (set_there plan) (λ x h. all_there x.slot x.characteristic x.domain h.slot h.characteristic h.domain)
+      ∙ each_passes (IsSet model slots) (set_there plan)
+      (λ x h. all_there x.slot x.characteristic x.domain h.slot h.characteristic h.domain)
       (sets_of model (slots_of model)) (all_sets model keeps);
   vars_by_slot = ap (are_in_order (λ a b. nat_le a.slot b.slot)) is.vars
       ∙ order_by_slot (λ x. x.slot) (vars_at model)
-      (λ i slot. each_mapped (λ x. x.slot ≡ i) (var_at model i) (filter (λ c. not (is_multiple model c)) (members_of model slot.object))
+      (λ i slot. each_mapped (λ x. x.slot ≡ i) (var_at model i)
+      (filter (λ c. not (is_multiple model c)) (members_of model slot.object))
       (each_of_all (λ c. i ≡ i) (λ c. refl) (filter (λ c. not (is_multiple model c)) (members_of model slot.object))))
       0 (slots_of model);
   sets_by_slot = ap (are_in_order (λ a b. nat_le a.slot b.slot)) is.sets
@@ -242,14 +255,20 @@ variables model tables plan keeps is = record {
   set_texts = ap (list_all (has_its_texts plan)) is.sets
       ∙ each_passes (IsSet model slots) (has_its_texts plan) (set_texts_are model tables plan keeps is slots)
       (sets_of model (slots_of model)) (all_sets model keeps);
-  single_columns = ap (λ xs. list_all (λ t. list_all (λ c. not (list_any (λ x. x.characteristic == c.characteristic) xs)) t.columns) plan.tables) is.sets
-      ∙ ap (list_all (λ t. list_all (λ c. not (list_any (λ x. x.characteristic == c.characteristic) sets)) t.columns)) is.tables
-      ∙ tables_pass tables (λ t. list_all (λ c. not (list_any (λ x. x.characteristic == c.characteristic) sets)) t.columns) 0 model.tables
-      (λ k table e. list_all-map (λ c. not (list_any (λ x. x.characteristic == c.characteristic) sets)) column_from table.columns
+  single_columns = ap (λ xs. list_all
+      (λ t. list_all (λ c. not (list_any (λ x. x.characteristic == c.characteristic) xs)) t.columns) plan.tables)
+      is.sets
+      ∙ ap (list_all (λ t. list_all (λ c. not (list_any (λ x. x.characteristic == c.characteristic) sets)) t.columns))
+      is.tables
+      ∙ tables_pass tables
+      (λ t. list_all (λ c. not (list_any (λ x. x.characteristic == c.characteristic) sets)) t.columns) 0 model.tables
+      (λ k table e. list_all-map (λ c. not (list_any (λ x. x.characteristic == c.characteristic) sets)) column_from
+      table.columns
       ∙ weaker (λ c. is_single (slice_get model.characteristics c.characteristic))
       (λ c. not (list_any (λ x. x.characteristic == c.characteristic) sets)) table.columns
       (λ c h. no_sets model slots c.characteristic sets (all_sets model keeps) (single_is model c.characteristic h))
-      (passes_at (λ t. list_all (λ c. is_single (slice_get model.characteristics c.characteristic)) t.columns) model.tables k table
+      (passes_at (λ t. list_all (λ c. is_single (slice_get model.characteristics c.characteristic)) t.columns)
+      model.tables k table
       keeps.kinds.columns e));
 }
   where

@@ -24,7 +24,8 @@ use Rattle.vc_compile_laws.specs.Compiles.{CompiledKeeps}
 use Rattle.vc_compile_laws.specs.Sizes.{HasCounts}
 use Rattle.vc_compile_laws.specs.Words.{HasWords}
 use Rattle.vc_compile_valid.proofs.ListLaws.{apart_mapped}
-use Rattle.vc_compile_laws.proofs.ThingLaws.{objects_pass, object_materials, object_count, table_names, table_count, tables_pass}
+use Rattle.vc_compile_laws.proofs.ThingLaws.{objects_pass, object_materials, object_count, table_names, table_count}
+use Rattle.vc_compile_laws.proofs.ThingLaws.{tables_pass}
 
 -- an order of names or materials is that of what has them
 by_names : {X Y : Type 0} (f : X → List ℕ) (g : Y → List ℕ) (xs : List X) (ys : List Y) → map f xs ≡ map g ys
@@ -37,22 +38,26 @@ by_tests : {X Y : Type 0} (p : List ℕ → Bool) (f : X → List ℕ) (g : Y �
     → map f xs ≡ map g ys → list_all (λ y. p (g y)) ys ≡ true → list_all (λ x. p (f x)) xs ≡ true
 by_tests p f g xs ys same h = sym (list_all-map p f xs) ∙ ap (list_all p) same ∙ list_all-map p g ys ∙ h
 
-words : (model : Model) (tables : List VariantTable) (plan : Plan) → Keeps (seen_model model) → IsPlanOf model tables plan
+words : (model : Model) (tables : List VariantTable) (plan : Plan) → Keeps (seen_model model)
+    → IsPlanOf model tables plan
     → HasWords plan
 words model tables plan keeps is = record {
   name = ap is_upper_name is.name ∙ keeps.names.name;
   version = ap (λ n. (nat_lt 0 n && nat_lt n 1_000_000)) is.version ∙ keeps.names.version;
   names = ap (list_all (λ c. is_upper_name c.name)) is.characteristics
       ∙ list_all-map (λ c. is_upper_name c.name) made.characteristic_from model.characteristics
-      ∙ weaker is_characteristic_spelled (λ c. is_upper_name c.name) model.characteristics (λ c h. (spelled c h).0) keeps.names.characteristics;
+      ∙ weaker is_characteristic_spelled (λ c. is_upper_name c.name) model.characteristics (λ c h. (spelled c h).0)
+      keeps.names.characteristics;
   units = ap (list_all (λ c. is_unit c.unit)) is.characteristics
       ∙ list_all-map (λ c. is_unit c.unit) made.characteristic_from model.characteristics
-      ∙ weaker is_characteristic_spelled (λ c. is_unit (made.unit_of c.values)) model.characteristics (λ c h. (spelled c h).1) keeps.names.characteristics;
+      ∙ weaker is_characteristic_spelled (λ c. is_unit (made.unit_of c.values)) model.characteristics
+      (λ c h. (spelled c h).1) keeps.names.characteristics;
   dependency_names = ap (list_all is_upper_name) is.dependencies
       ∙ list_all-map is_upper_name (λ d. d.name) model.dependencies
       ∙ sym (list_all-map (λ d. is_upper_name d.name) seen_dependency model.dependencies) ∙ keeps.names.dependencies;
   table_names = ap (list_all (λ t. is_upper_name t.name)) is.tables
-      ∙ by_tests is_upper_name (λ t. t.name) (λ t. t.name) (made.tables_of model tables) model.tables (table_names tables 0 model.tables)
+      ∙ by_tests is_upper_name (λ t. t.name) (λ t. t.name) (made.tables_of model tables) model.tables
+      (table_names tables 0 model.tables)
       keeps.names.tables;
   materials = ap (list_all (λ o. is_material o.material)) is.objects
       ∙ by_tests is_material (λ o. o.material) (λ o. o.material) (made.objects_of model) model.objects
@@ -63,14 +68,17 @@ words model tables plan keeps is = record {
       ∙ keeps.names.characteristics_once;
   dependencies_once = ap (are_apart same_bytes) is.dependencies
       ∙ apart_mapped same_bytes (λ d. d.name) model.dependencies
-      ∙ sym (apart_mapped (λ a b. same_bytes a.name b.name) seen_dependency model.dependencies) ∙ keeps.names.dependencies_once;
+      ∙ sym (apart_mapped (λ a b. same_bytes a.name b.name) seen_dependency model.dependencies)
+      ∙ keeps.names.dependencies_once;
   tables_once = ap (are_apart (λ a b. same_bytes a.name b.name)) is.tables
-      ∙ by_names (λ t. t.name) (λ t. t.name) (made.tables_of model tables) model.tables (table_names tables 0 model.tables)
+      ∙ by_names (λ t. t.name) (λ t. t.name) (made.tables_of model tables) model.tables
+      (table_names tables 0 model.tables)
       keeps.names.tables_once;
   materials_once = ap (are_apart (λ a b. same_bytes a.material b.material)) is.objects
       ∙ by_names (λ o. o.material) (λ o. o.material) (made.objects_of model) model.objects
       (object_materials model 0 model.objects)
-      (sym (apart_mapped (λ a b. same_bytes a.material b.material) seen_object model.objects) ∙ keeps.names.materials_once);
+      (sym (apart_mapped (λ a b. same_bytes a.material b.material) seen_object model.objects)
+      ∙ keeps.names.materials_once);
 }
   where
     spelled : (c : Characteristic) → is_characteristic_spelled c ≡ true
@@ -82,14 +90,17 @@ words model tables plan keeps is = record {
         unit : (v : _) → is_unit (unit_of v) ≡ true → is_unit (made.unit_of v) ≡ true
         unit v h = h
 
-counts : (model : Model) (tables : List VariantTable) (plan : Plan) → Keeps (seen_model model) → IsPlanOf model tables plan
+counts : (model : Model) (tables : List VariantTable) (plan : Plan) → Keeps (seen_model model)
+    → IsPlanOf model tables plan
     → HasCounts plan
 counts model tables plan keeps is = record {
-  characteristic_limit = few 2_000 (ap length is.characteristics ∙ length-map model.characteristics made.characteristic_from)
+  characteristic_limit =
+      few 2_000 (ap length is.characteristics ∙ length-map model.characteristics made.characteristic_from)
       keeps.limits.characteristics;
   class_limit = ap (list_all (λ o. nat_le (length o.characteristics) 500)) is.objects
       ∙ objects_pass model (λ cs. nat_le (length cs) 500) refl keeps.limits.members 0 model.objects;
-  object_limit = few 500 (ap length is.objects ∙ object_count model 0 model.objects ∙ sym (length-map model.objects seen_object))
+  object_limit = few 500
+      (ap length is.objects ∙ object_count model 0 model.objects ∙ sym (length-map model.objects seen_object))
       keeps.limits.objects;
   dependency_limit = few 2_000 (ap length is.dependencies ∙ length-map model.dependencies (λ d. d.name)
       ∙ sym (length-map model.dependencies seen_dependency)) keeps.limits.dependencies;

@@ -17,8 +17,10 @@ use Rattle.vc_compile_plan.specs.Slots.{has_too_many_slots, is_too_deep}
 -- each table that was read has been read with the model's header
 abbrev pub AreRead : Model → List VariantTable → Type 0
 AreRead model tables =
-    (t : ℕ) (table : Table) (read : VariantTable) → slice_get model.tables t ≡ Some table → slice_get tables t ≡ Some read
-    → (records : List Fields) × (rows_of (header_of model.texts model.characteristics table).columns records ≡ Ok read.rows)
+    (t : ℕ) (table : Table) (read : VariantTable) → slice_get model.tables t ≡ Some table
+    → slice_get tables t ≡ Some read
+    → (records : List Fields)
+    × (rows_of (header_of model.texts model.characteristics table).columns records ≡ Ok read.rows)
 
 -- the plan is the model's, and nothing of it is refused
 pub record Compiles (model : Model) (tables : List VariantTable) (plan : Plan) : Type 0 where

@@ -16,4 +16,5 @@ pub record HasVariables (plan : Plan) : Type 0 where
   pub one_domain : list_all (λ x. list_all (are_of_one_domain x) plan.vars) plan.vars ≡ true
   pub one_text_list : list_all (λ x. list_all (sets_of_one_domain x) plan.sets) plan.sets ≡ true
   pub set_texts : list_all (has_its_texts plan) plan.sets ≡ true
-  pub single_columns : list_all (λ table. list_all (λ c. not (has_sets plan c.characteristic)) table.columns) plan.tables ≡ true
+  pub single_columns : list_all (λ table. list_all (λ c. not (has_sets plan c.characteristic)) table.columns)
+      plan.tables ≡ true

@@ -1,6 +1,7 @@
 //! Laws of the plans of models that texts spell, with their tables read and no fault told, each the contract of a
 //! function that does nothing.
 
+ghost use Rattle.vc_compile_cutting.specs.Cuts.{IsCut};
 ghost use Rattle.vc_compile_laws.specs.Bills.{HasBills};
 ghost use Rattle.vc_compile_laws.specs.Classes.{HasClasses};
 ghost use Rattle.vc_compile_laws.specs.Compiles.{CompiledKeeps};
@@ -17,10 +18,15 @@ ghost use Rattle.vc_compile_meant.specs.Calls.{HasColumns};
 ghost use Rattle.vc_compile_meant.specs.Scopes.{HasNets, HasOwnSlots, HasScopes};
 ghost use Rattle.vc_compile_meant.specs.Sorts.{HasAmounts};
 ghost use Rattle.vc_compile_meant.specs.Sums.{HasNoSums};
+ghost use Rattle.vc_compile_ranges.specs.Ranges.{HasRanges};
+ghost use Rattle.vc_compile_sizes.specs.LookUps.{HasLookUps};
+ghost use Rattle.vc_compile_sizes.specs.Sizes.{HasSizes};
+ghost use Rattle.vc_compile_sorts.specs.Sorts.{HasSums, HasTypes};
 ghost use Rattle.vc_compile_valid.specs.Domains.{HasDomains};
 ghost use Rattle.vc_compile_valid.specs.Places.{HasFewProcedures, HasPlaces};
 ghost use Rattle.vc_compile_valid.specs.Rules.{HasRules};
 ghost use Rattle.vc_compile_valid.specs.Slots.{HasLineSlots, HasOneBill, HasPreorder};
+ghost use Rattle.vc_plan.specs.Valid.{IsValid};
 
 /// In each such plan names, materials and units are spelled, and of each kind a name stands once.
 pub fn compiled_plans_have_words()
@@ -159,4 +165,39 @@ pub fn compiled_plans_have_own_slots()
 /// A table call of a rule names columns, each once.
 pub fn compiled_plans_have_columns()
     ensures { CompiledKeeps HasColumns }
+{}
+
+/// Its conditions, terms, rules and procedures name things that it has.
+pub fn compiled_plans_have_ranges()
+    ensures { CompiledKeeps HasRanges }
+{}
+
+/// Texts meet texts and numbers numbers: in conditions, rules and statements.
+pub fn compiled_plans_have_types()
+    ensures { CompiledKeeps HasTypes }
+{}
+
+/// Each sum over parts is of numbers that some part has.
+pub fn compiled_plans_have_sums()
+    ensures { CompiledKeeps HasSums }
+{}
+
+/// Each step of what it computes stays within the limit.
+pub fn compiled_plans_have_sizes()
+    ensures { CompiledKeeps HasSizes }
+{}
+
+/// A look-up gives a term to each key of its table, and fills columns that are no keys, each once.
+pub fn compiled_plans_have_look_ups()
+    ensures { CompiledKeeps HasLookUps }
+{}
+
+/// Its variables are cut at each number that a condition, a restriction or a table puts beside them.
+pub fn compiled_plans_are_cut()
+    ensures { CompiledKeeps IsCut }
+{}
+
+/// It keeps all that a plan keeps.
+pub fn compiled_plans_are_valid()
+    ensures { CompiledKeeps IsValid }
 {}

@@ -1,5 +1,6 @@
 -- What a dependency has that is typed without a fault: each operand means a characteristic.
-use Rattle.std.proofs.Common.{◌≡◌, ℕ, zero, suc, Bool, true, false, cond, not, ◌&&◌, ◌||◌, List, [], ◌∷◌, ◌++◌, flat_map, Option, Some, None, refl, sym, ap, ◌∙◌, subst}
+use Rattle.std.proofs.Common.{◌≡◌, ℕ, zero, suc, Bool, true, false, cond, not, ◌&&◌, ◌||◌, List, [], ◌∷◌, ◌++◌}
+use Rattle.std.proofs.Common.{flat_map, Option, Some, None, refl, sym, ap, ◌∙◌, subst}
 use Rattle.std.specs.Prelude.{filter_map, option_map, slice_get}
 use Rattle.std.specs.List.{cons_option, filter, list_any}
 use Rattle.std.proofs.lemmas.Bool.{or_parts}
@@ -7,7 +8,10 @@ use Rattle.vc_model_parts.specs.declared.parts.Model.{Model}
 use Rattle.vc_model_parts.specs.declared.parts.NamedDependency.{NamedDependency}
 use Rattle.vc_syntax_terms.specs.Trees.{Dependency, dependency_of}
 use Rattle.vc_types.specs.Faults.{all_kinds, fault_of, faults_of, first_of, stands}
-use Rattle.vc_types.specs.NameFaults.{double_name, is_of_no_part, is_self_in_constraint, is_undeclared, is_unknown_call, is_unknown_object, objects_in, is_self_in_line, is_unknown, is_variable_outside, lacks_parent, parent_missing, self_named, self_of_line, some_operand, strays, too_many_objects, unknown_name}
+use Rattle.vc_types.specs.NameFaults.{double_name, is_of_no_part, is_self_in_constraint, is_undeclared, is_unknown_call}
+use Rattle.vc_types.specs.NameFaults.{is_unknown_object, objects_in, is_self_in_line, is_unknown, is_variable_outside}
+use Rattle.vc_types.specs.NameFaults.{lacks_parent, parent_missing, self_named, self_of_line, some_operand, strays}
+use Rattle.vc_types.specs.NameFaults.{too_many_objects, unknown_name}
 use Rattle.vc_types.specs.Occurrences.{Use, calls_in, parted_names, summed_names, uses_in}
 use Rattle.vc_types.specs.PlaceFaults.{no_key, not_a_term, not_monotone, part_of_place, sum_place}
 use Rattle.vc_types.specs.RangeFaults.{range_too_wide}
@@ -27,7 +31,8 @@ pub each_split : {X : Type 0} (P : X → Type 0) (xs ys : List X) → Each P (xs
 each_split P [] ys h = (tt, h)
 each_split P (x ∷ xs) ys h = let rest = each_split P xs ys h.1 in ((h.0, rest.0), rest.1)
 
-pub each_unflat : {X Y : Type 0} (P : Y → Type 0) (f : X → List Y) (xs : List X) → Each P (flat_map f xs) → Each (λ x. Each P (f x)) xs
+pub each_unflat : {X Y : Type 0} (P : Y → Type 0) (f : X → List Y) (xs : List X) → Each P (flat_map f xs)
+    → Each (λ x. Each P (f x)) xs
 each_unflat P f [] h = tt
 each_unflat P f (x ∷ xs) h = let both = each_split P (f x) (flat_map f xs) h in (both.0, each_unflat P f xs both.1)
 
@@ -39,7 +44,8 @@ none_left : {X : Type 0} (p : X → Bool) (xs : List X) → filter p xs ≡ [] �
 none_left p [] h = tt
 none_left p (x ∷ xs) h = by (p x) refl h (λ e. none_left p xs e)
   where
-    by : (b : Bool) → p x ≡ b → cond b (x ∷ filter p xs) (filter p xs) ≡ [] → (filter p xs ≡ [] → Each (λ x. p x ≡ false) xs)
+    by : (b : Bool) → p x ≡ b → cond b (x ∷ filter p xs) (filter p xs) ≡ []
+        → (filter p xs ≡ [] → Each (λ x. p x ≡ false) xs)
         → Each (λ x. p x ≡ false) (x ∷ xs)
     by true e k later = absurd (cc)
     by false e k later = (e, later k)
@@ -68,7 +74,8 @@ pub record IsSound (setting : Setting) (tree : Dependency) : Type 0 where
 pub is_sound : (model : Model) (place : Place) (tree : Dependency) → fault_of model place tree ≡ None
     → IsSound (setting_of model place tree) tree
 is_sound model place tree h =
-    let each = none_left (stands (setting_of model place tree) tree) all_kinds (none_first (faults_of model place tree) h) in
+    let each
+    = none_left (stands (setting_of model place tree) tree) all_kinds (none_first (faults_of model place tree) h) in
     record {
       unknown = each.0;
       double = each.1.0;
@@ -116,7 +123,8 @@ used setting [] a b d e f g h = tt
 used setting (u ∷ us) a b d e f g h =
     let m = meaning setting u.operand in
     let a2 = or_parts (is_unknown m) (list_any (λ u. is_unknown (meaning setting u.operand)) us) a in
-    let b2 = or_parts (is_self_in_constraint m) (list_any (λ u. is_self_in_constraint (meaning setting u.operand)) us) b in
+    let b2
+    = or_parts (is_self_in_constraint m) (list_any (λ u. is_self_in_constraint (meaning setting u.operand)) us) b in
     let d2 = or_parts (lacks_parent m) (list_any (λ u. lacks_parent (meaning setting u.operand)) us) d in
     let e2 = or_parts (is_self_in_line m) (list_any (λ u. is_self_in_line (meaning setting u.operand)) us) e in
     let f2 = or_parts (is_variable_outside m) (list_any (λ u. is_variable_outside (meaning setting u.operand)) us) f in
@@ -126,7 +134,8 @@ used setting (u ∷ us) a b d e f g h =
       record {
         c = one.0;
         means = one.1;
-        single = λ value. sym (ap (is_set setting.model) one.1) ∙ sym (ap (λ b. not b && is_set setting.model m) value) ∙ h2.0;
+        single = λ value. sym (ap (is_set setting.model) one.1) ∙ sym (ap (λ b. not b && is_set setting.model m) value)
+            ∙ h2.0;
       },
       used setting us a2.1 b2.1 d2.1 e2.1 f2.1 g2.1 h2.1,
     )
@@ -144,14 +153,19 @@ all_used setting tree sound =
 
 -- each object and each call is known
 pub names_known : (setting : Setting) (tree : Dependency) → IsSound setting tree
-    → (list_any (is_unknown_object setting) (objects_in tree) ≡ false) × (list_any (is_unknown_call setting) (calls_in tree) ≡ false)
+    → (list_any (is_unknown_object setting) (objects_in tree) ≡ false)
+    × (list_any (is_unknown_call setting) (calls_in tree) ≡ false)
 names_known setting tree sound =
     let all = or_parts
-    (some_operand is_unknown setting tree || (list_any (is_unknown_object setting) (objects_in tree) || list_any (is_unknown_call setting) (calls_in tree)))
-    (list_any (is_undeclared setting) (parted_names tree) || list_any (is_of_no_part setting) (summed_names tree)) sound.unknown in
+    (some_operand is_unknown setting tree
+    || (list_any (is_unknown_object setting) (objects_in tree) || list_any (is_unknown_call setting) (calls_in tree)))
+    (list_any (is_undeclared setting) (parted_names tree) || list_any (is_of_no_part setting) (summed_names tree))
+    sound.unknown in
     let first = or_parts (some_operand is_unknown setting tree)
-    (list_any (is_unknown_object setting) (objects_in tree) || list_any (is_unknown_call setting) (calls_in tree)) all.0 in
-    or_parts (list_any (is_unknown_object setting) (objects_in tree)) (list_any (is_unknown_call setting) (calls_in tree)) first.1
+    (list_any (is_unknown_object setting) (objects_in tree) || list_any (is_unknown_call setting) (calls_in tree))
+    all.0 in
+    or_parts (list_any (is_unknown_object setting) (objects_in tree))
+    (list_any (is_unknown_call setting) (calls_in tree)) first.1
 
 -- no fault is told, so each place has none
 none_told : (faults : List TypeFault) → refusals.first_of faults ≡ None → faults ≡ []
@@ -166,12 +180,14 @@ none_mapped model [] h = tt
 none_mapped model (t ∷ ts) h = by (fault_of model t.place t.tree) refl h (λ e. none_mapped model ts e)
   where
     by : (o : Option TypeFaultKind) → fault_of model t.place t.tree ≡ o
-        → cons_option (option_map (λ kind. record { line = t.line; kind = kind }) o) (filter_map (fault_at model) ts) ≡ []
+        → cons_option (option_map (λ kind. record { line = t.line; kind = kind }) o) (filter_map (fault_at model) ts)
+        ≡ []
         → (filter_map (fault_at model) ts ≡ [] → Each (HasNone model) ts) → Each (HasNone model) (t ∷ ts)
     by None e k later = (e, later k)
     by (Some kind) e k later = absurd (cc)
 
-pub all_without : (layout : Layout) → refusals.first_of (type_faults layout) ≡ None → Each (HasNone layout.model) (typed_of layout)
+pub all_without : (layout : Layout) → refusals.first_of (type_faults layout) ≡ None
+    → Each (HasNone layout.model) (typed_of layout)
 all_without layout h = none_mapped layout.model (typed_of layout) (none_told (type_faults layout) h)
 
 -- what is typed of a dependency, if it is there
@@ -180,10 +196,12 @@ named_typed model place None = []
 named_typed model place (Some named) =
     record { line = named.line; place = place (dependency_of named.tree); tree = dependency_of named.tree } ∷ []
 
-same_typed : (model : Model) (place : Dependency → Place) (d : ℕ) → typed_if model place d ≡ named_typed model place (slice_get model.dependencies d)
+same_typed : (model : Model) (place : Dependency → Place) (d : ℕ)
+    → typed_if model place d ≡ named_typed model place (slice_get model.dependencies d)
 same_typed model place d = by (slice_get model.dependencies d) refl
   where
-    by : (o : Option NamedDependency) → slice_get model.dependencies d ≡ o → typed_if model place d ≡ named_typed model place (slice_get model.dependencies d)
+    by : (o : Option NamedDependency) → slice_get model.dependencies d ≡ o
+        → typed_if model place d ≡ named_typed model place (slice_get model.dependencies d)
     by None e = rw e refl
     by (Some x) e = rw e refl
 
@@ -191,7 +209,8 @@ same_typed model place d = by (slice_get model.dependencies d) refl
 abbrev pub IsTypedAt : Model → (Dependency → Place) → ℕ → Type 0
 IsTypedAt model place d = (tree : Dependency) → tree_of model d ≡ Some tree → fault_of model (place tree) tree ≡ None
 
-pub uses_typed : (model : Model) (place : Dependency → Place) (uses : List ℕ) → Each (HasNone model) (typed_at model place uses)
+pub uses_typed : (model : Model) (place : Dependency → Place) (uses : List ℕ)
+    → Each (HasNone model) (typed_at model place uses)
     → Each (IsTypedAt model place) uses
 uses_typed model place [] h = tt
 uses_typed model place (d ∷ uses) h =
@@ -199,17 +218,23 @@ uses_typed model place (d ∷ uses) h =
     (λ tree e. by (slice_get model.dependencies d) refl both.0 tree e, uses_typed model place uses both.1)
   where
     one : (x : NamedDependency) (tree : Dependency) → Some (dependency_of x.tree) ≡ Some tree
-        → fault_of model (place (dependency_of x.tree)) (dependency_of x.tree) ≡ None → fault_of model (place tree) tree ≡ None
+        → fault_of model (place (dependency_of x.tree)) (dependency_of x.tree) ≡ None
+        → fault_of model (place tree) tree ≡ None
     one x tree e h = let same : dependency_of x.tree ≡ tree = cc in sym (ap (λ t. fault_of model (place t) t) same) ∙ h
 
-    typed_there : (x : NamedDependency) → slice_get model.dependencies d ≡ Some x → Each (HasNone model) (typed_if model place d)
+    typed_there : (x : NamedDependency) → slice_get model.dependencies d ≡ Some x
+        → Each (HasNone model) (typed_if model place d)
         → fault_of model (place (dependency_of x.tree)) (dependency_of x.tree) ≡ None
-    typed_there x e h = (subst (λ o. Each (HasNone model) (named_typed model place o)) e (subst (Each (HasNone model)) (same_typed model place d) h)).0
+    typed_there x e h = (subst (λ o. Each (HasNone model) (named_typed model place o)) e
+        (subst (Each (HasNone model)) (same_typed model place d) h)).0
 
-    by : (o : Option NamedDependency) → slice_get model.dependencies d ≡ o → Each (HasNone model) (typed_if model place d)
-        → (tree : Dependency) → option_map (λ named. dependency_of named.tree) (slice_get model.dependencies d) ≡ Some tree
+    by : (o : Option NamedDependency) → slice_get model.dependencies d ≡ o
+        → Each (HasNone model) (typed_if model place d)
+        → (tree : Dependency)
+        → option_map (λ named. dependency_of named.tree) (slice_get model.dependencies d) ≡ Some tree
         → fault_of model (place tree) tree ≡ None
-    by None e h tree f = absurd (let gone : None ≡ Some tree = sym (ap (option_map (λ named. dependency_of named.tree)) e) ∙ f in cc)
+    by None e h tree f =
+        absurd (let gone : None ≡ Some tree = sym (ap (option_map (λ named. dependency_of named.tree)) e) ∙ f in cc)
     by (Some x) e h tree f =
         one x tree (sym (ap (option_map (λ named. dependency_of named.tree)) e) ∙ f) (typed_there x e h)
 

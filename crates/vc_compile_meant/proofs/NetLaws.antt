@@ -1,5 +1,6 @@
 -- What an operand of a constraint means at a tuple of slots: a characteristic of the class of one of them.
-use Rattle.std.proofs.Common.{◌≡◌, ℕ, zero, suc, ◌+◌, Bool, true, false, cond, not, ◌||◌, List, [], ◌∷◌, ◌++◌, map, Option, Some, None, refl, sym, ap, ◌∙◌, arith, subst}
+use Rattle.std.proofs.Common.{◌≡◌, ℕ, zero, suc, ◌+◌, Bool, true, false, cond, not, ◌||◌, List, [], ◌∷◌, ◌++◌, map}
+use Rattle.std.proofs.Common.{Option, Some, None, refl, sym, ap, ◌∙◌, arith, subst}
 use Rattle.std.specs.Prelude.{◌==◌, find, option_map, slice_get}
 use Rattle.std.specs.List.{list_any, position_or_len}
 use Rattle.std.specs.Option.{option_or}
@@ -17,7 +18,8 @@ use Rattle.vc_syntax_terms.specs.declared.tree.Operand.TheVariants as operands
 use Rattle.vc_syntax_terms.specs.declared.tree.Owner.TheVariants as owners
 use Rattle.vc_syntax_terms.specs.Trees as syntax
 use Rattle.vc_types.specs.Looking.{class_named, class_of, member_of, object_named}
-use Rattle.vc_types.specs.Meanings.{Variable, alias_of, class_meant, member_meaning, referent_of, value_meaning, variable_named, variables_of}
+use Rattle.vc_types.specs.Meanings.{Variable, alias_of, class_meant, member_meaning, referent_of, value_meaning}
+use Rattle.vc_types.specs.Meanings.{variable_named, variables_of}
 use Rattle.vc_types.specs.Settings.{meaning}
 use Rattle.vc_types.specs.declared.meaning.Meaning.TheVariants as meanings
 use Rattle.vc_types.specs.declared.meaning.Referent.{Referent}
@@ -45,7 +47,8 @@ none_same : (a : Option ℕ) → are_same a None ≡ true → ⊥
 none_same None h = cc
 none_same (Some a) h = cc
 
-kind_class : (model : Model) (kind : ObjectKind) (i : ℕ) → is_of_kind (layout_of model) kind (object_at (layout_of model) i) ≡ true
+kind_class : (model : Model) (kind : ObjectKind) (i : ℕ)
+    → is_of_kind (layout_of model) kind (object_at (layout_of model) i) ≡ true
     → IsOfClass model (class_meant model kind) i
 kind_class model kind i h = by (slice_get (slots_of model) i) refl kind h
   where
@@ -54,7 +57,8 @@ kind_class model kind i h = by (slice_get (slots_of model) i) refl kind h
         → IsOfClass model (class_meant model kind) i
     by None e (objects.Class leaf) h =
         absurd (none_same (class_named model leaf.name)
-        (sym (ap (λ o. are_same (class_named model leaf.name) (class_of model (option_map (λ slot. slot.object) o))) e) ∙ h))
+        (sym (ap (λ o. are_same (class_named model leaf.name) (class_of model (option_map (λ slot. slot.object) o))) e)
+        ∙ h))
     by None e (objects.Material leaf) h =
         absurd (none_same (object_named model leaf.text)
         (sym (ap (λ o. are_same (object_named model leaf.text) (option_map (λ slot. slot.object) o)) e) ∙ h))
@@ -62,7 +66,8 @@ kind_class model kind i h = by (slice_get (slots_of model) i) refl kind h
       slot = slot;
       there = e;
       is = sym (same_is (class_named model leaf.name) (class_of model (Some slot.object))
-          (sym (ap (λ o. are_same (class_named model leaf.name) (class_of model (option_map (λ slot. slot.object) o))) e) ∙ h));
+          (sym (ap (λ o. are_same (class_named model leaf.name) (class_of model (option_map (λ slot. slot.object) o)))
+          e) ∙ h));
     }
     by (Some slot) e (objects.Material leaf) h = record {
       slot = slot;
@@ -90,7 +95,8 @@ alias_there model class name (a ∷ aliases) v e =
         → cond b (Some (alias_of model class a)) (find (is_named name) (map (alias_of model class) aliases)) ≡ Some v
         → (find (is_named name) (map (alias_of model class) aliases) ≡ Some v
         → IsAlias model class v × (list_any (λ alias. bytes_eq alias.variable.name name) aliases ≡ true))
-        → IsAlias model class v × ((bytes_eq a.variable.name name || list_any (λ alias. bytes_eq alias.variable.name name) aliases) ≡ true)
+        → IsAlias model class v
+        × ((bytes_eq a.variable.name name || list_any (λ alias. bytes_eq alias.variable.name name) aliases) ≡ true)
     by true is f later =
         let same : alias_of model class a ≡ v = cc in (
           record { name = a.characteristic.name; referent = ap (λ x. x.referent) (sym same) },
@@ -99,7 +105,8 @@ alias_there model class name (a ∷ aliases) v e =
     by false is f later =
         let found = later f in (
           found.0,
-          or_right (bytes_eq a.variable.name name) (list_any (λ alias. bytes_eq alias.variable.name name) aliases) found.1,
+          or_right (bytes_eq a.variable.name name) (list_any (λ alias. bytes_eq alias.variable.name name) aliases)
+              found.1,
         )
 
 no_alias : (model : Model) (class : Option ℕ) (name : List ℕ) (aliases : List Alias)
@@ -109,7 +116,8 @@ no_alias model class name [] e = refl
 no_alias model class name (a ∷ aliases) e =
     by (bytes_eq a.variable.name name) e (λ f. no_alias model class name aliases f)
   where
-    by : (b : Bool) → cond b (Some (alias_of model class a)) (find (is_named name) (map (alias_of model class) aliases)) ≡ None
+    by : (b : Bool) → cond b (Some (alias_of model class a)) (find (is_named name) (map (alias_of model class) aliases))
+        ≡ None
         → (find (is_named name) (map (alias_of model class) aliases) ≡ None
         → list_any (λ alias. bytes_eq alias.variable.name name) aliases ≡ false)
         → (b || list_any (λ alias. bytes_eq alias.variable.name name) aliases) ≡ false
@@ -126,12 +134,15 @@ value_is_no_object : (c class : Option ℕ) → referents.Value c ≡ referents.
 value_is_no_object c class e = cc
 
 object_found : (model : Model) (name : List ℕ) (class : Option ℕ) (declared : List Object) (tuple : List ℕ)
-    → are_of_kinds (layout_of model) declared tuple ≡ true → (v : Variable) → variable_named (variables_of model declared) name ≡ Some v
+    → are_of_kinds (layout_of model) declared tuple ≡ true → (v : Variable)
+    → variable_named (variables_of model declared) name ≡ Some v
     → v.referent ≡ referents.Object class → IsInTuple model class tuple (position_or_len (is_called name) declared)
 object_found model name class [] tuple kinds v e is = absurd (cc)
 object_found model name class (o ∷ declared) [] kinds v e is = absurd (cc)
 object_found model name class (o ∷ declared) (i ∷ tuple) kinds v e is =
-    let parts = and_parts (is_of_kind (layout_of model) o.kind (object_at (layout_of model) i)) (are_of_kinds (layout_of model) declared tuple) kinds in
+    let parts
+    = and_parts (is_of_kind (layout_of model) o.kind (object_at (layout_of model) i))
+    (are_of_kinds (layout_of model) declared tuple) kinds in
     by (bytes_eq o.variable.name name) refl e parts.0 (λ f. object_found model name class declared tuple parts.1 v f is)
   where
     own : Option ℕ
@@ -140,13 +151,21 @@ object_found model name class (o ∷ declared) (i ∷ tuple) kinds v e is =
     head : Variable
     head = record { name = o.variable.name; referent = referents.Object (class_meant model o.kind) }
 
-    of_rest : (x : Option Variable) → find (is_named name) (map (alias_of model (class_meant model o.kind)) o.aliases) ≡ x
+    of_rest : (x : Option Variable)
+        → find (is_named name) (map (alias_of model (class_meant model o.kind)) o.aliases) ≡ x
         → option_or x (find (is_named name) (variables_of model declared)) ≡ Some v
-        → (variable_named (variables_of model declared) name ≡ Some v → IsInTuple model class tuple (position_or_len (is_called name) declared))
+        → (variable_named (variables_of model declared) name ≡ Some v
+        → IsInTuple model class tuple (position_or_len (is_called name) declared))
         → IsInTuple model class (i ∷ tuple) (1 + position_or_len (is_called name) declared)
     of_rest None f g later =
         let found = later g in
-        record { i = found.i; at = subst (λ n. slice_get (i ∷ tuple) n ≡ Some found.i) (one_more (position_or_len (is_called name) declared)) found.at; of_class = found.of_class }
+        record {
+          i = found.i;
+          at =
+              subst (λ n. slice_get (i ∷ tuple) n ≡ Some found.i) (one_more (position_or_len (is_called name) declared))
+              found.at;
+          of_class = found.of_class;
+        }
       where
         one_more : (n : ℕ) → suc n ≡ 1 + n
         one_more n = omega arith
@@ -157,18 +176,23 @@ object_found model name class (o ∷ declared) (i ∷ tuple) kinds v e is =
         (sym alias.referent ∙ ap (λ x. x.referent) same ∙ is))
 
     by : (b : Bool) → bytes_eq o.variable.name name ≡ b
-        → cond b (Some head) (find (is_named name) (map (alias_of model (class_meant model o.kind)) o.aliases ++ variables_of model declared)) ≡ Some v
+        → cond b (Some head)
+        (find (is_named name)
+        (map (alias_of model (class_meant model o.kind)) o.aliases ++ variables_of model declared)) ≡ Some v
         → is_of_kind (layout_of model) o.kind (object_at (layout_of model) i) ≡ true
-        → (variable_named (variables_of model declared) name ≡ Some v → IsInTuple model class tuple (position_or_len (is_called name) declared))
+        → (variable_named (variables_of model declared) name ≡ Some v
+        → IsInTuple model class tuple (position_or_len (is_called name) declared))
         → IsInTuple model class (i ∷ tuple) (cond (not b) (1 + position_or_len (is_called name) declared) 0)
     by true same f kind later =
         let one : head ≡ v = cc in
-        let classes : referents.Object (class_meant model o.kind) ≡ referents.Object class = ap (λ x. x.referent) one ∙ is in
+        let classes : referents.Object (class_meant model o.kind) ≡ referents.Object class
+        = ap (λ x. x.referent) one ∙ is in
         let of : class_meant model o.kind ≡ class = cc in
         record { i = i; at = refl; of_class = subst (λ c. IsOfClass model c i) of (kind_class model o.kind i kind) }
     by false other f kind later =
         of_rest (find (is_named name) (map (alias_of model (class_meant model o.kind)) o.aliases)) refl
-        (sym (find-append (is_named name) (map (alias_of model (class_meant model o.kind)) o.aliases) (variables_of model declared)) ∙ f) later
+        (sym (find-append (is_named name) (map (alias_of model (class_meant model o.kind)) o.aliases)
+        (variables_of model declared)) ∙ f) later
 
 -- and by a variable of a value
 record IsValueOf (model : Model) (c : Option ℕ) (tuple : List ℕ) (place : ℕ) : Type 0 where
@@ -178,12 +202,15 @@ record IsValueOf (model : Model) (c : Option ℕ) (tuple : List ℕ) (place : �
   within : IsInTuple model class tuple place
 
 value_found : (model : Model) (name : List ℕ) (c : Option ℕ) (declared : List Object) (tuple : List ℕ)
-    → are_of_kinds (layout_of model) declared tuple ≡ true → (v : Variable) → variable_named (variables_of model declared) name ≡ Some v
+    → are_of_kinds (layout_of model) declared tuple ≡ true → (v : Variable)
+    → variable_named (variables_of model declared) name ≡ Some v
     → v.referent ≡ referents.Value c → IsValueOf model c tuple (position_or_len (has_alias name) declared)
 value_found model name c [] tuple kinds v e is = absurd (cc)
 value_found model name c (o ∷ declared) [] kinds v e is = absurd (cc)
 value_found model name c (o ∷ declared) (i ∷ tuple) kinds v e is =
-    let parts = and_parts (is_of_kind (layout_of model) o.kind (object_at (layout_of model) i)) (are_of_kinds (layout_of model) declared tuple) kinds in
+    let parts
+    = and_parts (is_of_kind (layout_of model) o.kind (object_at (layout_of model) i))
+    (are_of_kinds (layout_of model) declared tuple) kinds in
     by (bytes_eq o.variable.name name) refl e parts.0 (λ f. value_found model name c declared tuple parts.1 v f is)
   where
     head : Variable
@@ -192,11 +219,14 @@ value_found model name c (o ∷ declared) (i ∷ tuple) kinds v e is =
     at_place : ℕ → Type 0
     at_place n = IsValueOf model c (i ∷ tuple) n
 
-    of_rest : (x : Option Variable) → find (is_named name) (map (alias_of model (class_meant model o.kind)) o.aliases) ≡ x
+    of_rest : (x : Option Variable)
+        → find (is_named name) (map (alias_of model (class_meant model o.kind)) o.aliases) ≡ x
         → option_or x (find (is_named name) (variables_of model declared)) ≡ Some v
         → is_of_kind (layout_of model) o.kind (object_at (layout_of model) i) ≡ true
-        → (variable_named (variables_of model declared) name ≡ Some v → IsValueOf model c tuple (position_or_len (has_alias name) declared))
-        → IsValueOf model c (i ∷ tuple) (cond (not (has_alias name o)) (1 + position_or_len (has_alias name) declared) 0)
+        → (variable_named (variables_of model declared) name ≡ Some v
+        → IsValueOf model c tuple (position_or_len (has_alias name) declared))
+        → IsValueOf model c (i ∷ tuple)
+        (cond (not (has_alias name o)) (1 + position_or_len (has_alias name) declared) 0)
     of_rest None f g kind later =
         let found = later g in
         let inside = found.within in
@@ -208,7 +238,8 @@ value_found model name c (o ∷ declared) (i ∷ tuple) kinds v e is =
           is = found.is;
           within = record {
             i = inside.i;
-            at = subst (λ n. slice_get (i ∷ tuple) n ≡ Some inside.i) (one_more (position_or_len (has_alias name) declared)) inside.at;
+            at = subst (λ n. slice_get (i ∷ tuple) n ≡ Some inside.i)
+                (one_more (position_or_len (has_alias name) declared)) inside.at;
             of_class = inside.of_class;
           };
         })
@@ -221,7 +252,8 @@ value_found model name c (o ∷ declared) (i ∷ tuple) kinds v e is =
         let own = alias.0 in
         let values : referents.Value (member_of model own.name (class_meant model o.kind)) ≡ referents.Value c =
         sym own.referent ∙ ap (λ x. x.referent) same ∙ is in
-        subst (λ b. IsValueOf model c (i ∷ tuple) (cond (not b) (1 + position_or_len (has_alias name) declared) 0)) (sym alias.1)
+        subst (λ b. IsValueOf model c (i ∷ tuple) (cond (not b) (1 + position_or_len (has_alias name) declared) 0))
+        (sym alias.1)
         (record {
           class = class_meant model o.kind;
           name = own.name;
@@ -230,20 +262,26 @@ value_found model name c (o ∷ declared) (i ∷ tuple) kinds v e is =
         })
 
     by : (b : Bool) → bytes_eq o.variable.name name ≡ b
-        → cond b (Some head) (find (is_named name) (map (alias_of model (class_meant model o.kind)) o.aliases ++ variables_of model declared)) ≡ Some v
+        → cond b (Some head)
+        (find (is_named name)
+        (map (alias_of model (class_meant model o.kind)) o.aliases ++ variables_of model declared)) ≡ Some v
         → is_of_kind (layout_of model) o.kind (object_at (layout_of model) i) ≡ true
-        → (variable_named (variables_of model declared) name ≡ Some v → IsValueOf model c tuple (position_or_len (has_alias name) declared))
-        → IsValueOf model c (i ∷ tuple) (cond (not (has_alias name o)) (1 + position_or_len (has_alias name) declared) 0)
+        → (variable_named (variables_of model declared) name ≡ Some v
+        → IsValueOf model c tuple (position_or_len (has_alias name) declared))
+        → IsValueOf model c (i ∷ tuple)
+        (cond (not (has_alias name o)) (1 + position_or_len (has_alias name) declared) 0)
     by true same f kind later =
         let one : head ≡ v = cc in
         absurd (value_is_no_object c (class_meant model o.kind) (sym is ∙ ap (λ x. x.referent) (sym one)))
     by false other f kind later =
         of_rest (find (is_named name) (map (alias_of model (class_meant model o.kind)) o.aliases)) refl
-        (sym (find-append (is_named name) (map (alias_of model (class_meant model o.kind)) o.aliases) (variables_of model declared)) ∙ f)
+        (sym (find-append (is_named name) (map (alias_of model (class_meant model o.kind)) o.aliases)
+        (variables_of model declared)) ∙ f)
         kind later
 
 -- an operand of a constraint is of a slot of the tuple
-pub record IsMeantIn (model : Model) (constraint : syntax.Constraint) (tuple : List ℕ) (operand : Operand) (c : ℕ) : Type 0 where
+pub record IsMeantIn (model : Model) (constraint : syntax.Constraint) (tuple : List ℕ) (operand : Operand) (c : ℕ) :
+    Type 0 where
   pub meant : IsMeant model (constraint_site (layout_of model) constraint tuple) operand c
   pub place : list_any (λ j. j == slot_meant (constraint_site (layout_of model) constraint tuple) operand) tuple ≡ true
 
@@ -252,9 +290,12 @@ among [] k i e = absurd (cc)
 among (j ∷ tuple) zero i e = let same : j ≡ i = cc in or_left (j == i) (list_any (λ j. j == i) tuple) (eq-eqb j i same)
 among (j ∷ tuple) (suc k) i e = or_right (j == i) (list_any (λ j. j == i) tuple) (among tuple k i e)
 
-in_tuple : (model : Model) (constraint : syntax.Constraint) (tuple : List ℕ) (operand : Operand) (c : ℕ) (class : Option ℕ) (name : List ℕ)
-    (place : ℕ) → slot_meant (constraint_site (layout_of model) constraint tuple) operand ≡ number_or_zero (slice_get tuple place)
-    → IsInTuple model class tuple place → member_of model name class ≡ Some c → IsMeantIn model constraint tuple operand c
+in_tuple : (model : Model) (constraint : syntax.Constraint) (tuple : List ℕ) (operand : Operand) (c : ℕ)
+    (class : Option ℕ) (name : List ℕ)
+    (place : ℕ) → slot_meant (constraint_site (layout_of model) constraint tuple) operand
+    ≡ number_or_zero (slice_get tuple place)
+    → IsInTuple model class tuple place → member_of model name class ≡ Some c
+    → IsMeantIn model constraint tuple operand c
 in_tuple model constraint tuple operand c class name place is within member =
     let same = is ∙ ap number_or_zero within.at in
     let of = within.of_class in
@@ -278,7 +319,8 @@ meant_in model constraint tuple kinds (operands.Owned owners.Root leaf) c e = ab
 meant_in model constraint tuple kinds (operands.Member variable leaf) c e =
     by (variable_named (variables_of model constraint.objects) variable.name) refl e
   where
-    of_referent : (v : Variable) → variable_named (variables_of model constraint.objects) variable.name ≡ Some v → (r : Referent)
+    of_referent : (v : Variable) → variable_named (variables_of model constraint.objects) variable.name ≡ Some v
+        → (r : Referent)
         → v.referent ≡ r → member_meaning model leaf.name (Some r) ≡ meanings.Characteristic c
         → IsMeantIn model constraint tuple (operands.Member variable leaf) c
     of_referent v f (referents.Object class) is g =
@@ -289,14 +331,17 @@ meant_in model constraint tuple kinds (operands.Member variable leaf) c e =
     of_referent v f (referents.Value d) is g = absurd (cc)
 
     by : (o : Option Variable) → variable_named (variables_of model constraint.objects) variable.name ≡ o
-        → member_meaning model leaf.name (referent_of (variable_named (variables_of model constraint.objects) variable.name)) ≡ meanings.Characteristic c
+        → member_meaning model leaf.name
+        (referent_of (variable_named (variables_of model constraint.objects) variable.name)) ≡ meanings.Characteristic c
         → IsMeantIn model constraint tuple (operands.Member variable leaf) c
     by None f g = absurd (let none = sym (ap (λ o. member_meaning model leaf.name (referent_of o)) f) ∙ g in cc)
-    by (Some v) f g = of_referent v f v.referent refl (sym (ap (λ o. member_meaning model leaf.name (referent_of o)) f) ∙ g)
+    by (Some v) f g = of_referent v f v.referent refl
+        (sym (ap (λ o. member_meaning model leaf.name (referent_of o)) f) ∙ g)
 meant_in model constraint tuple kinds (operands.Variable leaf) c e =
     by (variable_named (variables_of model constraint.objects) leaf.name) refl e
   where
-    of_referent : (v : Variable) → variable_named (variables_of model constraint.objects) leaf.name ≡ Some v → (r : Referent)
+    of_referent : (v : Variable) → variable_named (variables_of model constraint.objects) leaf.name ≡ Some v
+        → (r : Referent)
         → v.referent ≡ r → value_meaning (Some r) ≡ meanings.Characteristic c
         → IsMeantIn model constraint tuple (operands.Variable leaf) c
     of_referent v f (referents.Object class) is g = absurd (cc)
@@ -306,7 +351,8 @@ meant_in model constraint tuple kinds (operands.Variable leaf) c e =
         (position_or_len (has_alias leaf.name) constraint.objects) refl found.within (found.is ∙ known_is d c g)
 
     by : (o : Option Variable) → variable_named (variables_of model constraint.objects) leaf.name ≡ o
-        → value_meaning (referent_of (variable_named (variables_of model constraint.objects) leaf.name)) ≡ meanings.Characteristic c
+        → value_meaning (referent_of (variable_named (variables_of model constraint.objects) leaf.name))
+        ≡ meanings.Characteristic c
         → IsMeantIn model constraint tuple (operands.Variable leaf) c
     by None f g = absurd (let none = sym (ap (λ o. value_meaning (referent_of o)) f) ∙ g in cc)
     by (Some v) f g = of_referent v f v.referent refl (sym (ap (λ o. value_meaning (referent_of o)) f) ∙ g)

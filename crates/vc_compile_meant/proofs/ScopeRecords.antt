@@ -26,6 +26,7 @@ has_scopes model tables plan is typed =
       own_writes = procedures.own_writes;
     }
 
-pub has_own_slots : (model : Model) (tables : List VariantTable) (plan : Plan) → IsPlanOf model tables plan → KeepsObjects model
+pub has_own_slots : (model : Model) (tables : List VariantTable) (plan : Plan) → IsPlanOf model tables plan
+    → KeepsObjects model
     → IsTyped model → HasOwnSlots plan
 has_own_slots model tables plan is keeps typed = record { own_slots = own_slots model tables plan is keeps typed }

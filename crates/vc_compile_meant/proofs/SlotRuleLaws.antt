@@ -1,5 +1,6 @@
 -- What holds of the rules of each configurable line without a fault holds of the rules of all slots.
-use Rattle.std.proofs.Common.{◌≡◌, ℕ, zero, suc, ◌+◌, true, List, [], ◌∷◌, Option, Some, None, refl, sym, ap, ◌∙◌, arith, subst}
+use Rattle.std.proofs.Common.{◌≡◌, ℕ, zero, suc, ◌+◌, true, List, [], ◌∷◌, Option, Some, None, refl, sym, ap, ◌∙◌}
+use Rattle.std.proofs.Common.{arith, subst}
 use Rattle.std.specs.Prelude.{option_map, slice_get}
 use Rattle.vc_model_parts.specs.declared.parts.Model.{Model}
 use Rattle.vc_plan.specs.declared.plans.Slot.{Slot}
@@ -8,7 +9,8 @@ use Rattle.vc_types.specs.Faults.{fault_of}
 use Rattle.vc_types.specs.declared.place.At.TheVariants as at
 use Rattle.vc_compile_plan.specs.Layouts.{Layout, layout_of, object_at}
 use Rattle.vc_compile_plan.specs.Places.{Asked, selection_in, selections_among, site_at}
-use Rattle.vc_compile_plan.specs.Rules.{Draft, drafts_of_line, drafts_of_slot, line, line_draft, line_drafts, line_drafts_from}
+use Rattle.vc_compile_plan.specs.Rules.{Draft, drafts_of_line, drafts_of_slot, line, line_draft, line_drafts}
+use Rattle.vc_compile_plan.specs.Rules.{line_drafts_from}
 use Rattle.vc_compile_plan.specs.Rules.{own_draft, slot_drafts_from}
 use Rattle.vc_compile_plan.specs.Sites.{Site}
 use Rattle.vc_compile_plan.specs.Slots.{bill_if, bill_in, slot_of, standings_of}
@@ -60,17 +62,20 @@ of_part P model sound lines i p s part =
     ∙ ap (λ o. drafts_of_line layout p i (Some owner) (slice_get (bill_if model o) s.item)) object
     ∙ ap (λ o. drafts_of_line layout p i (Some owner) o) part.listed))
     (of_line P model lines p owner i (selections_among model part.line.uses)
-    (asked_typed selection_in syntax.Selection selection_is refl model (λ tree. line_place model owner true) part.line.uses
+    (asked_typed selection_in syntax.Selection selection_is refl model (λ tree. line_place model owner true)
+    part.line.uses
     (subst (λ b. Each (IsTypedAt model (λ tree. line_place model owner b)) part.line.uses)
     (configurable_is part.line.component s.object part.object) one.uses)))
 
-slots_from : (P : Draft → Type 0) (model : Model) → IsTyped model → OfLines P model → (i : ℕ) (standings : List Standing)
+slots_from : (P : Draft → Type 0) (model : Model) → IsTyped model → OfLines P model
+    → (i : ℕ) (standings : List Standing)
     → ((k : ℕ) (s : Standing) → slice_get standings k ≡ Some s → slice_get (standings_of model) (i + k) ≡ Some s)
     → Each P (slot_drafts_from (layout_of model) i standings)
 slots_from P model sound lines i [] h = tt
 slots_from P model sound lines i (s ∷ standings) h =
     each_joined P (drafts_of_slot (layout_of model) i s s.parent) (slot_drafts_from (layout_of model) (suc i) standings)
-    (of_slot s.parent (placed_at model i s (subst (λ m. slice_get (standings_of model) m ≡ Some s) (no_more i) (h zero s refl))))
+    (of_slot s.parent (placed_at model i s
+    (subst (λ m. slice_get (standings_of model) m ≡ Some s) (no_more i) (h zero s refl))))
     (slots_from P model sound lines (suc i) standings
     (λ k x e. subst (λ m. slice_get (standings_of model) m ≡ Some x) (one_more i k) (h (suc k) x e)))
   where
@@ -80,7 +85,8 @@ slots_from P model sound lines i (s ∷ standings) h =
     no_more : (n : ℕ) → n + 0 ≡ n
     no_more n = omega arith
 
-    of_slot : (o : Option ℕ) → IsPlacedBelow model (standings_of model) i s o → Each P (drafts_of_slot (layout_of model) i s o)
+    of_slot : (o : Option ℕ) → IsPlacedBelow model (standings_of model) i s o
+        → Each P (drafts_of_slot (layout_of model) i s o)
     of_slot None placed = tt
     of_slot (Some p) placed = of_part P model sound lines i p s placed
 

@@ -1,5 +1,7 @@
 -- The rules of constraints stand at the slots of their tuples, and read and infer variables of these alone.
-use Rattle.std.proofs.Common.{◌≡◌, ℕ, zero, suc, ◌+◌, Bool, true, false, cond, not, ◌&&◌, ◌||◌, nat_lt, List, [], ◌∷◌, ◌++◌, length, map, flat_map, Option, Some, None, refl, sym, ap, ◌∙◌, arith, subst, if◌then◌else◌, inl, inr}
+use Rattle.std.proofs.Common.{◌≡◌, ℕ, zero, suc, ◌+◌, Bool, true, false, cond, not, ◌&&◌, ◌||◌, nat_lt, List, [], ◌∷◌}
+use Rattle.std.proofs.Common.{◌++◌, length, map, flat_map, Option, Some, None, refl, sym, ap, ◌∙◌, arith, subst}
+use Rattle.std.proofs.Common.{if◌then◌else◌, inl, inr}
 use Rattle.std.specs.Prelude.{◌==◌, is_some, nat_le, option_map, slice_get}
 use Rattle.std.specs.List.{filter, list_all, list_any}
 use Rattle.std.proofs.lemmas.Bool.{and_from, and_parts, eq-eqb, eqb-true, le-leb, ltb-false, or_cases, or_parts}
@@ -12,7 +14,8 @@ use Rattle.vc_model_parts.specs.declared.parts.Object as configurable
 use Rattle.vc_plan.specs.Domains.{numbers_below}
 use Rattle.vc_plan.specs.Orders.{are_apart}
 use Rattle.vc_plan.specs.Reads.{vars_of_condition, vars_of_term}
-use Rattle.vc_plan.specs.RuleShapes.{is_among, is_at, is_of_constraint, kind_vars, operand_vars, rule_vars, stays_at_its_slots}
+use Rattle.vc_plan.specs.RuleShapes.{is_among, is_at, is_of_constraint, kind_vars, operand_vars, rule_vars}
+use Rattle.vc_plan.specs.RuleShapes.{stays_at_its_slots}
 use Rattle.vc_plan.specs.Seen.{slot_in}
 use Rattle.vc_plan.specs.declared.plans.Plan.{Plan}
 use Rattle.vc_plan.specs.declared.plans.Slot.{Slot}
@@ -23,36 +26,50 @@ use Rattle.vc_syntax_terms.specs.declared.tree.Relator.TheVariants as relators
 use Rattle.vc_syntax_terms.specs.Trees as syntax
 use Rattle.vc_table.specs.declared.table.VariantTable.{VariantTable}
 use Rattle.vc_types.specs.Faults.{fault_of}
-use Rattle.vc_types.specs.Occurrences.{Use, as_set, as_value, call_of_demand, condition_of_restriction, conditions_in, if_there, is_equality, is_literal, relation_of_demand, relations_of, specified_in, uses_in, uses_of_left, uses_of_relation, uses_of_term, values_in}
+use Rattle.vc_types.specs.Occurrences.{Use, as_set, as_value, call_of_demand, condition_of_restriction, conditions_in}
+use Rattle.vc_types.specs.Occurrences.{if_there, is_equality, is_literal, relation_of_demand, relations_of}
+use Rattle.vc_types.specs.Occurrences.{specified_in, uses_in, uses_of_left, uses_of_relation, uses_of_term, values_in}
 use Rattle.vc_types.specs.PlaceFaults.{denies_specified, is_computed, is_operand, uses_set}
 use Rattle.vc_types.specs.Settings.{is_multiple, is_set}
 use Rattle.vc_compile_plan.specs.Conditions.{condition_at}
 use Rattle.vc_compile_plan.specs.Layouts.{Layout, layout_of, tree_of}
-use Rattle.vc_compile_plan.specs.Numbering.{conditions_of, demand_terms, drafts_of, kind_from, number_for, rule_brings, rule_from, terms_of}
+use Rattle.vc_compile_plan.specs.Numbering.{conditions_of, demand_terms, drafts_of, kind_from, number_for, rule_brings}
+use Rattle.vc_compile_plan.specs.Numbering.{rule_from, terms_of}
 use Rattle.vc_compile_plan.specs.PlanOf.{IsPlanOf}
 use Rattle.vc_compile_plan.specs.Refusals as refusals
 use Rattle.vc_compile_plan.specs.Refusals.{is_in_net, type_faults, typed_constraints}
-use Rattle.vc_compile_plan.specs.Rules.{Demand, Draft, among, binding_at, by_table, compare, constraint_drafts, constraint_site, constraints_drafts, demand_at, distinct, equate, given_operand, in_net, last, last_drafts, line, never, of_left_operand, of_right_operand, of_terms, relation_demand, restriction_draft, restriction_drafts, rule_drafts, slot_drafts_from}
+use Rattle.vc_compile_plan.specs.Rules.{Demand, Draft, among, binding_at, by_table, compare, constraint_drafts}
+use Rattle.vc_compile_plan.specs.Rules.{constraint_site, constraints_drafts, demand_at, distinct, equate, given_operand}
+use Rattle.vc_compile_plan.specs.Rules.{in_net, last, last_drafts, line, never, of_left_operand, of_right_operand}
+use Rattle.vc_compile_plan.specs.Rules.{of_terms, relation_demand, restriction_draft, restriction_drafts, rule_drafts}
+use Rattle.vc_compile_plan.specs.Rules.{slot_drafts_from}
 use Rattle.vc_compile_plan.specs.Sites.{Site, characteristic_in, is_set_meant, var_meant}
 use Rattle.vc_compile_plan.specs.Slots.{slots_of}
 use Rattle.vc_compile_plan.specs.Terms.{literal_of, lone_of, term_at}
 use Rattle.vc_compile_plan.specs.Trees as trees
 use Rattle.vc_compile_plan.specs.Trees.{condition_of}
-use Rattle.vc_compile_plan.specs.Tuples.{are_different, are_of_kinds, are_parts_met, asked_of, both, matches, tuples_from, tuples_of, without_parts}
-use Rattle.vc_compile_plan.specs.Uses.{active_constraints, constraints_in, is_active, is_one_of, net_constraints, object_of_slot}
+use Rattle.vc_compile_plan.specs.Tuples.{are_different, are_of_kinds, are_parts_met, asked_of, both, matches}
+use Rattle.vc_compile_plan.specs.Tuples.{tuples_from, tuples_of, without_parts}
+use Rattle.vc_compile_plan.specs.Uses.{active_constraints, constraints_in, is_active, is_one_of, net_constraints}
+use Rattle.vc_compile_plan.specs.Uses.{object_of_slot}
 use Rattle.vc_compile_valid.proofs.DraftLaws.{constraint_same, demand_constrains, each_last, each_slot_draft, kind_of}
-use Rattle.vc_compile_valid.proofs.EachLaws.{Each, each_both, each_flat, each_joined, each_left, each_mapped, each_more, each_of_all, each_passes}
-use Rattle.vc_compile_valid.proofs.ListLaws.{any_there, apart_left, left_pass, made_from, none_from, passes_there, some_there}
+use Rattle.vc_compile_valid.proofs.EachLaws.{Each, each_both, each_flat, each_joined, each_left, each_mapped, each_more}
+use Rattle.vc_compile_valid.proofs.EachLaws.{each_of_all, each_passes}
+use Rattle.vc_compile_valid.proofs.ListLaws.{any_there, apart_left, left_pass, made_from, none_from, passes_there}
+use Rattle.vc_compile_valid.proofs.ListLaws.{some_there}
 use Rattle.vc_compile_valid.proofs.NumberingLaws.{StandFrom, numbered_each, rule_conditions, rule_terms}
 use Rattle.vc_compile_valid.proofs.PlacedLaws.{stand_first, stand_rest}
 use Rattle.vc_compile_meant.specs.Trees.{KeepsObjects, has_objects}
 use Rattle.vc_compile_meant.proofs.ComponentLaws.{condition_if, condition_stands}
-use Rattle.vc_compile_meant.proofs.FaultLaws.{IsTypedAt, IsUsed, all_used, each_false, each_here, each_split, each_unflat, is_sound, uses_typed}
+use Rattle.vc_compile_meant.proofs.FaultLaws.{IsTypedAt, IsUsed, all_used, each_false, each_here, each_split}
+use Rattle.vc_compile_meant.proofs.FaultLaws.{each_unflat, is_sound, uses_typed}
 use Rattle.vc_compile_meant.proofs.MeaningLaws.{var_is}
 use Rattle.vc_compile_meant.proofs.NetLaws.{meant_in}
 use Rattle.vc_compile_meant.proofs.ScopeLaws.{AnySum, SetIn, VarIn, condition_reads, term_reads}
 use Rattle.vc_compile_meant.proofs.SoundLaws.{constraints_sound}
-use Rattle.vc_compile_meant.proofs.TreeLaws.{ConditionHas, IsGoodUse, TermHas, condition_has, lone_good, left_uses, used_term_has, uses_by_condition, uses_by_demand, uses_by_name, uses_by_term}
+use Rattle.vc_compile_meant.proofs.TreeLaws.{ConditionHas, IsGoodUse, TermHas, condition_has, lone_good, left_uses}
+use Rattle.vc_compile_meant.proofs.TreeLaws.{used_term_has, uses_by_condition, uses_by_demand, uses_by_name}
+use Rattle.vc_compile_meant.proofs.TreeLaws.{uses_by_term}
 
 -- an active constraint is one of some net
 in_nets : (model : Model) (d : ℕ) (nets : List ℕ)
@@ -75,15 +92,19 @@ in_nets model d (n ∷ nets) h =
 
 active_in_net : (model : Model) (d : ℕ) → is_active (layout_of model) d ≡ true → is_in_net model d ≡ true
 active_in_net model d h =
-    let found = some_there (λ slot. is_one_of (net_constraints model (object_of_slot (layout_of model) slot)) d) (slots_of model) h in
+    let found
+    = some_there (λ slot. is_one_of (net_constraints model (object_of_slot (layout_of model) slot)) d)
+    (slots_of model) h in
     by (object_of_slot (layout_of model) found.1) found.1 refl found.3
   where
     by : (o : Option configurable.Object) (slot : Slot) → object_of_slot (layout_of model) slot ≡ o
         → is_one_of (net_constraints model (object_of_slot (layout_of model) slot)) d ≡ true → is_in_net model d ≡ true
     by None slot e k = absurd (let none = sym (ap (λ x. is_one_of (net_constraints model x) d) e) ∙ k in cc)
-    by (Some object) slot e k = in_nets model d object.nets (sym (ap (λ x. is_one_of (net_constraints model x) d) e) ∙ k)
+    by (Some object) slot e k =
+        in_nets model d object.nets (sym (ap (λ x. is_one_of (net_constraints model x) d) e) ∙ k)
 
-each_unleft : {X : Type 0} (P : X → Type 0) (p : X → Bool) (xs : List X) → Each P (filter p xs) → Each (λ x. p x ≡ true → P x) xs
+pub each_unleft : {X : Type 0} (P : X → Type 0) (p : X → Bool) (xs : List X) → Each P (filter p xs)
+    → Each (λ x. p x ≡ true → P x) xs
 each_unleft P p [] h = tt
 each_unleft P p (x ∷ xs) h = by (p x) refl h (λ k. each_unleft P p xs k)
   where
@@ -110,10 +131,12 @@ tuple_lengths numbers (suc n) =
     each_flat (λ t. length t ≡ suc n) (λ i. map (λ tuple. i ∷ tuple) (tuples_from numbers n)) numbers
     (each_of_all (λ i. Each (λ t. length t ≡ suc n) (map (λ tuple. i ∷ tuple) (tuples_from numbers n)))
     (λ i. each_mapped (λ t. length t ≡ suc n) (λ tuple. i ∷ tuple) (tuples_from numbers n)
-    (each_more (λ t. length t ≡ n) (λ t. suc (length t) ≡ suc n) (λ t e. ap suc e) (tuples_from numbers n) (tuple_lengths numbers n))) numbers)
+    (each_more (λ t. length t ≡ n) (λ t. suc (length t) ≡ suc n) (λ t e. ap suc e) (tuples_from numbers n)
+    (tuple_lengths numbers n))) numbers)
 
 -- what a rule of a constraint is made of
-pub record IsOfNet (model : Model) (d : ℕ) (constraint : syntax.Constraint) (tuple : List ℕ) (restriction : syntax.Restriction) : Type 0 where
+pub record IsOfNet (model : Model) (d : ℕ) (constraint : syntax.Constraint) (tuple : List ℕ)
+    (restriction : syntax.Restriction) : Type 0 where
   pub tree : tree_of model d ≡ Some (syntax.Constrains constraint)
   pub sound : fault_of model in_net (syntax.Constrains constraint) ≡ None
   pub matching : matches (layout_of model) constraint tuple ≡ true
@@ -124,11 +147,13 @@ pub record IsOfNet (model : Model) (d : ℕ) (constraint : syntax.Constraint) (t
 abbrev pub OfNets : (Draft → Type 0) → Model → Type 0
 OfNets P model =
     (d : ℕ) (constraint : syntax.Constraint) (tuple : List ℕ) (number : ℕ) (restriction : syntax.Restriction)
-    → IsOfNet model d constraint tuple restriction → P (restriction_draft (layout_of model) d constraint tuple number restriction)
+    → IsOfNet model d constraint tuple restriction
+    → P (restriction_draft (layout_of model) d constraint tuple number restriction)
 
 restrictions_are : (P : Draft → Type 0) (model : Model) (d : ℕ) (constraint : syntax.Constraint) (tuple : List ℕ)
     → ((number k : ℕ) (restriction : syntax.Restriction) → slice_get constraint.restrictions k ≡ Some restriction
-    → P (restriction_draft (layout_of model) d constraint tuple number restriction)) → (number n : ℕ) (rs : List syntax.Restriction)
+    → P (restriction_draft (layout_of model) d constraint tuple number restriction))
+    → (number n : ℕ) (rs : List syntax.Restriction)
     → ((k : ℕ) (r : syntax.Restriction) → slice_get rs k ≡ Some r → slice_get constraint.restrictions (n + k) ≡ Some r)
     → Each P (restriction_drafts (layout_of model) d constraint tuple number rs)
 restrictions_are P model d constraint tuple of number n [] h = tt
@@ -141,7 +166,8 @@ restrictions_are P model d constraint tuple of number n (r ∷ rs) h = (
     one_more : (i k : ℕ) → i + suc k ≡ suc i + k
     one_more i k = omega arith
 
-of_tree : (P : Draft → Type 0) (model : Model) → OfNets P model → (d : ℕ) (o : Option syntax.Dependency) → tree_of model d ≡ o
+of_tree : (P : Draft → Type 0) (model : Model) → OfNets P model → (d : ℕ) (o : Option syntax.Dependency)
+    → tree_of model d ≡ o
     → IsTypedAt model (λ tree. in_net) d → Each P (constraint_drafts (layout_of model) d o)
 of_tree P model of d None e typed = tt
 of_tree P model of d (Some (syntax.Precondition condition)) e typed = tt
@@ -151,7 +177,8 @@ of_tree P model of d (Some (syntax.Counts term)) e typed = tt
 of_tree P model of d (Some (syntax.Constrains constraint)) e typed =
     let layout = layout_of model in
     let all = tuples_from (numbers_below (length (slots_of model))) (length constraint.objects) in
-    each_flat P (λ tuple. restriction_drafts layout d constraint tuple 1 constraint.restrictions) (tuples_of layout constraint)
+    each_flat P (λ tuple. restriction_drafts layout d constraint tuple 1 constraint.restrictions)
+    (tuples_of layout constraint)
     (each_more (λ t. (matches layout constraint t ≡ true) × (length t ≡ length constraint.objects))
     (λ tuple. Each P (restriction_drafts layout d constraint tuple 1 constraint.restrictions))
     (λ tuple h. restrictions_are P model d constraint tuple
@@ -170,18 +197,22 @@ of_tree P model of d (Some (syntax.Constrains constraint)) e typed =
     no_front : (k : ℕ) → k ≡ 0 + k
     no_front k = omega arith
 
-pub each_of_nets : (P : Draft → Type 0) (model : Model) → refusals.first_of (type_faults (layout_of model)) ≡ None → OfNets P model
+pub each_of_nets : (P : Draft → Type 0) (model : Model) → refusals.first_of (type_faults (layout_of model)) ≡ None
+    → OfNets P model
     → Each P (constraints_drafts (layout_of model))
 each_of_nets P model sound of =
     each_flat P (λ d. constraint_drafts (layout_of model) d (tree_of model d)) (active_constraints (layout_of model))
-    (each_more (IsTypedAt model (λ tree. in_net)) (λ d. Each P (constraint_drafts (layout_of model) d (tree_of model d)))
-    (λ d h. of_tree P model of d (tree_of model d) refl h) (active_constraints (layout_of model)) (active_typed model sound))
+    (each_more (IsTypedAt model (λ tree. in_net))
+    (λ d. Each P (constraint_drafts (layout_of model) d (tree_of model d)))
+    (λ d h. of_tree P model of d (tree_of model d) refl h) (active_constraints (layout_of model))
+    (active_typed model sound))
 
 -- no set stands in a constraint
 abbrev pub NoSet : ℕ → Type 0
 NoSet s = ⊥
 
-net_good : (model : Model) (tables : List VariantTable) (plan : Plan) → IsPlanOf model tables plan → (constraint : syntax.Constraint)
+net_good : (model : Model) (tables : List VariantTable) (plan : Plan) → IsPlanOf model tables plan
+    → (constraint : syntax.Constraint)
     (tuple : List ℕ) → are_of_kinds (layout_of model) constraint.objects tuple ≡ true → (u : Use)
     → IsUsed (constraint_site (layout_of model) constraint tuple).setting u
     → uses_set (constraint_site (layout_of model) constraint tuple).setting u ≡ false
@@ -189,7 +220,8 @@ net_good : (model : Model) (tables : List VariantTable) (plan : Plan) → IsPlan
 net_good model tables plan is constraint tuple kinds u used none =
     let site = constraint_site (layout_of model) constraint tuple in
     let meant = meant_in model constraint tuple kinds u.operand used.c used.means in
-    let same : is_set_meant site u.operand ≡ is_multiple model used.c = ap (λ m. is_multiple model (characteristic_in m)) used.means in
+    let same : is_set_meant site u.operand ≡ is_multiple model used.c
+    = ap (λ m. is_multiple model (characteristic_in m)) used.means in
     let single : is_multiple model used.c ≡ false = sym (ap (is_set model) used.means) ∙ none in
     record {
       good = record {
@@ -202,7 +234,8 @@ net_good model tables plan is constraint tuple kinds u used none =
       single = λ value. same ∙ single;
     }
 
-all_good : (model : Model) (tables : List VariantTable) (plan : Plan) → IsPlanOf model tables plan → (constraint : syntax.Constraint)
+all_good : (model : Model) (tables : List VariantTable) (plan : Plan) → IsPlanOf model tables plan
+    → (constraint : syntax.Constraint)
     (tuple : List ℕ) → are_of_kinds (layout_of model) constraint.objects tuple ≡ true
     → fault_of model in_net (syntax.Constrains constraint) ≡ None
     → Each (IsGoodUse (VarIn plan tuple) NoSet (layout_of model) (constraint_site (layout_of model) constraint tuple))
@@ -211,7 +244,9 @@ all_good model tables plan is constraint tuple kinds typed =
     let setting = (constraint_site (layout_of model) constraint tuple).setting in
     let tree = syntax.Constrains constraint in
     let sound = is_sound model in_net tree typed in
-    let sets = or_parts (list_any denies_specified (conditions_in tree)) (list_any (uses_set setting) (uses_in tree)) sound.monotone in
+    let sets
+    = or_parts (list_any denies_specified (conditions_in tree)) (list_any (uses_set setting) (uses_in tree))
+    sound.monotone in
     each_more (λ u. IsUsed setting u × (uses_set setting u ≡ false))
     (IsGoodUse (VarIn plan tuple) NoSet (layout_of model) (constraint_site (layout_of model) constraint tuple))
     (λ u h. net_good model tables plan is constraint tuple kinds u h.0 h.1) (uses_in tree)
@@ -228,19 +263,23 @@ abbrev pub IfGood : (ℕ → Type 0) → Layout → Site → Option syntax.Condi
 IfGood V layout site None = Unit {0}
 IfGood V layout site (Some c) = AreGood V layout site c
 
-pub both_good : (V : ℕ → Type 0) (layout : Layout) (site : Site) (a b : Option syntax.Condition) → IfGood V layout site a
+pub both_good : (V : ℕ → Type 0) (layout : Layout) (site : Site) (a b : Option syntax.Condition)
+    → IfGood V layout site a
     → IfGood V layout site b → IfGood V layout site (both a b)
 both_good V layout site None b h k = k
 both_good V layout site (Some a) None h k = h
 both_good V layout site (Some a) (Some b) h k = (
-  each_joined (λ r. Each (IsGoodUse V NoSet layout site) (uses_of_relation r)) (relations_of a) (relations_of b) h.0 k.0,
+  each_joined (λ r. Each (IsGoodUse V NoSet layout site) (uses_of_relation r)) (relations_of a) (relations_of b) h.0
+      k.0,
   each_joined (λ o. IsGoodUse V NoSet layout site (as_set o)) (specified_in a) (specified_in b) h.1 k.1,
 )
 
 without_good : (V : ℕ → Type 0) (layout : Layout) (site : Site) (c : syntax.Condition) → AreGood V layout site c
     → IfGood V layout site (without_parts c)
 without_good V layout site (syntax.And left right) h =
-    let rs = each_split (λ r. Each (IsGoodUse V NoSet layout site) (uses_of_relation r)) (relations_of left) (relations_of right) h.0 in
+    let rs
+    = each_split (λ r. Each (IsGoodUse V NoSet layout site) (uses_of_relation r)) (relations_of left)
+    (relations_of right) h.0 in
     let os = each_split (λ o. IsGoodUse V NoSet layout site (as_set o)) (specified_in left) (specified_in right) h.1 in
     both_good V layout site (without_parts left) (without_parts right) (without_good V layout site left (rs.0, os.0))
     (without_good V layout site right (rs.1, os.1))
@@ -286,7 +325,8 @@ terms_has V layout site relators.Greater left right h k = (h, k)
 terms_has V layout site relators.GreaterEqual left right h k = (h, k)
 
 -- a lone operand's term is its variable
-lone_has : (V : ℕ → Type 0) (layout : Layout) (site : Site) (term : syntax.Term) (operand : Operand) → lone_of term ≡ Some operand
+lone_has : (V : ℕ → Type 0) (layout : Layout) (site : Site) (term : syntax.Term) (operand : Operand)
+    → lone_of term ≡ Some operand
     → TermHas V AnySum (term_at layout site term) → V (var_meant layout site operand)
 lone_has V layout site (syntax.Number leaf) operand e h = absurd (cc)
 lone_has V layout site (syntax.Text leaf) operand e h = absurd (cc)
@@ -319,7 +359,8 @@ left_term : (V : ℕ → Type 0) (layout : Layout) (site : Site) (b : Bool) (ter
 left_term V layout site b term h = by (lone_of term) refl
   where
     value : (operand : Operand) → (c : Bool) → is_set_meant site operand ≡ c
-        → Each (IsGoodUse V NoSet layout site) (uses_of_left b (syntax.Operand operand)) → V (var_meant layout site operand)
+        → Each (IsGoodUse V NoSet layout site) (uses_of_left b (syntax.Operand operand))
+        → V (var_meant layout site operand)
     value operand true e k = absurd ((lone_good V NoSet layout site b operand k).set e)
     value operand false e k = (lone_good V NoSet layout site b operand k).value e
 
@@ -339,15 +380,20 @@ left_term V layout site b term h = by (lone_of term) refl
     by (Some operand) e = of_lone term operand e h
 
 relation_demand_has : (V : ℕ → Type 0) (layout : Layout) (site : Site) (relation : syntax.Relation)
-    → Each (IsGoodUse V NoSet layout site) (uses_of_relation relation) → DemandHas V (relation_demand layout site relation)
+    → Each (IsGoodUse V NoSet layout site) (uses_of_relation relation)
+    → DemandHas V (relation_demand layout site relation)
 relation_demand_has V layout site (syntax.Compared left relator right) h =
-    let sides = each_split (IsGoodUse V NoSet layout site) (uses_of_left (is_equality relator && is_literal right) left) (uses_of_term right) h in
-    left_has V layout site relator left right (left_term V layout site (is_equality relator && is_literal right) left sides.0)
+    let sides
+    = each_split (IsGoodUse V NoSet layout site) (uses_of_left (is_equality relator && is_literal right) left)
+    (uses_of_term right) h in
+    left_has V layout site relator left right
+    (left_term V layout site (is_equality relator && is_literal right) left sides.0)
     (used_term_has V AnySum NoSet layout site tt right sides.1) (lone_of left) refl (literal_of layout.texts right)
 relation_demand_has V layout site (syntax.Within operand listed) h =
     let first = h.0 in by (is_set_meant site operand) refl first
   where
-    by : (b : Bool) → is_set_meant site operand ≡ b → IsGoodUse V NoSet layout site (as_set operand) → V (var_meant layout site operand)
+    by : (b : Bool) → is_set_meant site operand ≡ b → IsGoodUse V NoSet layout site (as_set operand)
+        → V (var_meant layout site operand)
     by true e good = absurd (good.good.set e)
     by false e good = good.good.value e
 
@@ -373,15 +419,21 @@ given_has V layout site syntax.CountOfParts h k = absurd (cc)
 
 columns_have : (V : ℕ → Type 0) (layout : Layout) (site : Site) (table : List ℕ) (bindings : List syntax.Binding)
     → Each (λ t. Each (IsGoodUse V NoSet layout site) (uses_of_term t)) (map (λ binding. binding.value) bindings)
-    → Each (λ b. is_computed b ≡ false) bindings → Each (λ b. Each V (operand_vars b.operand)) (map (binding_at layout site table) bindings)
+    → Each (λ b. is_computed b ≡ false) bindings
+    → Each (λ b. Each V (operand_vars b.operand)) (map (binding_at layout site table) bindings)
 columns_have V layout site table [] h k = tt
-columns_have V layout site table (b ∷ bindings) h k =
-    (given_has V layout site b.value k.0 (used_term_has V AnySum NoSet layout site tt b.value h.0), columns_have V layout site table bindings h.1 k.1)
+columns_have V layout site table (b ∷ bindings) h k = (
+  given_has V layout site b.value k.0 (used_term_has V AnySum NoSet layout site tt b.value h.0),
+  columns_have V
+      layout site table bindings h.1 k.1,
+)
 
 demand_has : (V : ℕ → Type 0) (layout : Layout) (site : Site) (demand : syntax.Demand)
     → Each (λ r. Each (IsGoodUse V NoSet layout site) (uses_of_relation r)) (relation_of_demand demand)
-    → Each (λ call. Each (λ t. Each (IsGoodUse V NoSet layout site) (uses_of_term t)) (values_in call)) (call_of_demand demand)
-    → Each (λ call. list_any is_computed call.bindings ≡ false) (call_of_demand demand) → DemandHas V (demand_at layout site demand)
+    → Each (λ call. Each (λ t. Each (IsGoodUse V NoSet layout site) (uses_of_term t)) (values_in call))
+    (call_of_demand demand)
+    → Each (λ call. list_any is_computed call.bindings ≡ false) (call_of_demand demand)
+    → DemandHas V (demand_at layout site demand)
 demand_has V layout site (syntax.Relates relation) h k l = relation_demand_has V layout site relation h.0
 demand_has V layout site (syntax.Holds call) h k l =
     columns_have V layout site call.table.name call.bindings k.0 (each_false is_computed call.bindings l.0)
@@ -407,7 +459,8 @@ distinct_once (n ∷ ns) =
 -- a tuple has no slot twice
 turned_any : (i : ℕ) (tuple : List ℕ) → list_any (λ j. i == j) tuple ≡ list_any (λ j. j == i) tuple
 turned_any i [] = refl
-turned_any i (j ∷ tuple) = ap (λ b. b || list_any (λ j. i == j) tuple) (turned i j) ∙ ap (λ b. (j == i) || b) (turned_any i tuple)
+turned_any i (j ∷ tuple) = ap (λ b. b || list_any (λ j. i == j) tuple) (turned i j)
+    ∙ ap (λ b. (j == i) || b) (turned_any i tuple)
   where
     turned : (a b : ℕ) → (a == b) ≡ (b == a)
     turned a b = by (a == b) refl (b == a) refl
@@ -422,7 +475,8 @@ tuple_apart : (tuple : List ℕ) → are_different tuple ≡ true → are_apart 
 tuple_apart [] h = refl
 tuple_apart (i ∷ tuple) h =
     let parts = and_parts (not (list_any (λ j. j == i) tuple)) (are_different tuple) h in
-    and_from (not (list_any (λ j. i == j) tuple)) (are_apart (λ i j. i == j) tuple) (ap not (turned_any i tuple) ∙ parts.0)
+    and_from (not (list_any (λ j. i == j) tuple)) (are_apart (λ i j. i == j) tuple)
+    (ap not (turned_any i tuple) ∙ parts.0)
     (tuple_apart tuple parts.1)
 
 -- what a draft of a constraint has
@@ -444,7 +498,8 @@ objects_there : (model : Model) → KeepsObjects model → (d : ℕ) (constraint
     → tree_of model d ≡ Some (syntax.Constrains constraint) → nat_lt 0 (length constraint.objects) ≡ true
 objects_there model keeps d constraint e = by (slice_get model.dependencies d) refl
   where
-    one : (tree : syntax.Dependency) → tree ≡ syntax.Constrains constraint → has_objects tree ≡ true → nat_lt 0 (length constraint.objects) ≡ true
+    one : (tree : syntax.Dependency) → tree ≡ syntax.Constrains constraint → has_objects tree ≡ true
+        → nat_lt 0 (length constraint.objects) ≡ true
     one tree same h = sym (ap has_objects same) ∙ h
 
     by : (o : Option NamedDependency) → slice_get model.dependencies d ≡ o → nat_lt 0 (length constraint.objects) ≡ true
@@ -465,53 +520,71 @@ net_stays model tables plan is keeps d constraint tuple number restriction of =
     let site = constraint_site (layout_of model) constraint tuple in
     let tree = syntax.Constrains constraint in
     let V : ℕ → Type 0 = VarIn plan tuple in
-    let Good : Use → Type 0 = IsGoodUse (VarIn plan tuple) NoSet (layout_of model) (constraint_site (layout_of model) constraint tuple) in
+    let Good : Use → Type 0
+    = IsGoodUse (VarIn plan tuple) NoSet (layout_of model) (constraint_site (layout_of model) constraint tuple) in
     let parts = and_parts (are_of_kinds layout constraint.objects tuple && are_different tuple)
     (are_parts_met layout constraint.objects constraint.condition tuple) of.matching in
     let kinds = and_parts (are_of_kinds layout constraint.objects tuple) (are_different tuple) parts.0 in
     let good = all_good model tables plan is constraint tuple kinds.0 of.sound in
     let sound = is_sound model in_net tree of.sound in
     let rs = constraint.restrictions in
-    let conditions = each_split (AreGood V layout site) (if_there (λ c. c ∷ []) constraint.condition) (flat_map condition_of_restriction rs)
+    let conditions
+    = each_split (AreGood V layout site) (if_there (λ c. c ∷ []) constraint.condition)
+    (flat_map condition_of_restriction rs)
     (uses_by_condition Good tree good) in
     let own = each_here (λ r. Each (AreGood V layout site) (condition_of_restriction r)) rs of.place restriction
     (each_unflat (AreGood V layout site) condition_of_restriction rs conditions.1) of.there in
-    let relations = each_here (λ r. Each (λ x. Each Good (uses_of_relation x)) (relation_of_demand r.demand)) rs of.place restriction
-    (each_unflat (λ x. Each Good (uses_of_relation x)) (λ r. relation_of_demand r.demand) rs (uses_by_demand Good tree good)) of.there in
+    let relations
+    = each_here (λ r. Each (λ x. Each Good (uses_of_relation x)) (relation_of_demand r.demand)) rs of.place
+    restriction
+    (each_unflat (λ x. Each Good (uses_of_relation x)) (λ r. relation_of_demand r.demand) rs
+    (uses_by_demand Good tree good)) of.there in
     let calls = flat_map (λ r. call_of_demand r.demand) rs in
-    let values = each_here (λ r. Each (λ call. Each (λ t. Each Good (uses_of_term t)) (values_in call)) (call_of_demand r.demand)) rs of.place
+    let values
+    = each_here (λ r. Each (λ call. Each (λ t. Each Good (uses_of_term t)) (values_in call))
+    (call_of_demand r.demand)) rs of.place
     restriction
     (each_unflat (λ call. Each (λ t. Each Good (uses_of_term t)) (values_in call)) (λ r. call_of_demand r.demand) rs
     (each_unflat (λ t. Each Good (uses_of_term t)) values_in calls (uses_by_term Good tree good))) of.there in
-    let computed = each_here (λ r. Each (λ call. list_any is_computed call.bindings ≡ false) (call_of_demand r.demand)) rs of.place restriction
+    let computed
+    = each_here (λ r. Each (λ call. list_any is_computed call.bindings ≡ false) (call_of_demand r.demand)) rs
+    of.place restriction
     (each_unflat (λ call. list_any is_computed call.bindings ≡ false) (λ r. call_of_demand r.demand) rs
     (each_false (λ call. list_any is_computed call.bindings) calls sound.terms)) of.there in
     let names = uses_by_name Good tree good in
     let size = of.size in
     record {
       some = ap (nat_lt 0) of.size ∙ objects_there model keeps d constraint of.tree;
-      few = le-leb (length tuple) 4 (let most = ltb-false 4 (length constraint.objects) sound.objects in omega (arith, most, size));
+      few = le-leb (length tuple) 4
+          (let most = ltb-false 4 (length constraint.objects) sound.objects in omega (arith, most, size));
       apart = tuple_apart tuple kinds.1;
       condition = if_has V layout site (both (asked_of constraint.condition) restriction.condition)
           (both_good V layout site (asked_of constraint.condition) restriction.condition
-          (asked_good V layout site constraint.condition conditions.0) (own_good V layout site restriction.condition own));
+          (asked_good V layout site constraint.condition conditions.0)
+          (own_good V layout site restriction.condition own));
       demand = demand_has V layout site restriction.demand relations values computed;
-      inferred = each_passes V (is_at plan tuple) (λ v h. h) (distinct (map (var_meant layout site) constraint.inferences))
+      inferred = each_passes V (is_at plan tuple) (λ v h. h)
+          (distinct (map (var_meant layout site) constraint.inferences))
           (distinct_has V (map (var_meant layout site) constraint.inferences)
           (each_mapped V (var_meant layout site) constraint.inferences
-          (each_more (λ o. Good (as_value o)) (λ o. V (var_meant layout site o)) (λ o h. h.good.value (h.single refl)) constraint.inferences names)));
+          (each_more (λ o. Good (as_value o)) (λ o. V (var_meant layout site o)) (λ o h. h.good.value (h.single refl))
+          constraint.inferences names)));
       dependency = refl;
       once = distinct_once (map (var_meant layout site) constraint.inferences);
     }
 
 all_stay : (model : Model) (tables : List VariantTable) (plan : Plan) → IsPlanOf model tables plan → KeepsObjects model
-    → refusals.first_of (type_faults (layout_of model)) ≡ None → Each (IsAtOwnSlots plan) (rule_drafts (layout_of model))
+    → refusals.first_of (type_faults (layout_of model)) ≡ None
+    → Each (IsAtOwnSlots plan) (rule_drafts (layout_of model))
 all_stay model tables plan is keeps sound =
     let layout = layout_of model in
-    each_joined (IsAtOwnSlots plan) (constraints_drafts layout) (last_drafts layout ++ slot_drafts_from layout 0 layout.standings)
+    each_joined (IsAtOwnSlots plan) (constraints_drafts layout)
+    (last_drafts layout ++ slot_drafts_from layout 0 layout.standings)
     (each_of_nets (IsAtOwnSlots plan) model sound (λ d constraint tuple number restriction of. record {
       of_net = λ h. net_stays model tables plan is keeps d constraint tuple number restriction of;
-      own = λ h. absurd (let both : true ≡ false = sym (demand_constrains layout (constraint_site layout constraint tuple) restriction.demand) ∙ h in cc);
+      own = λ h. absurd (let both : true
+          ≡ false = sym (demand_constrains layout (constraint_site layout constraint tuple) restriction.demand)
+          ∙ h in cc);
     }))
     (each_joined (IsAtOwnSlots plan) (last_drafts layout) (slot_drafts_from layout 0 layout.standings)
     (each_last (IsAtOwnSlots plan) layout (λ v. record { of_net = λ h. absurd (cc); own = λ h. (refl, refl) }))
@@ -534,48 +607,62 @@ no_sets plan slots (trees.And c d) h = (no_sets plan slots c h.0, no_sets plan s
 no_sets plan slots (trees.Or c d) h = (no_sets plan slots c h.0, no_sets plan slots d h.1)
 
 -- a plan's rule by its draft
-condition_vars : (model : Model) (tables : List VariantTable) (plan : Plan) → IsPlanOf model tables plan → (slots : List ℕ) (n : ℕ)
+condition_vars : (model : Model) (tables : List VariantTable) (plan : Plan) → IsPlanOf model tables plan
+    → (slots : List ℕ) (n : ℕ)
     (c : trees.Condition) → slice_get (conditions_of (drafts_of (layout_of model))) n ≡ Some c
     → ConditionHas (VarIn plan slots) AnySum NoSet c
     → list_all (is_at plan slots) (vars_of_condition (slice_get plan.conditions n)) ≡ true
 condition_vars model tables plan is slots n c e h =
-    let found = made_from condition_of plan.conditions (conditions_of (drafts_of (layout_of model))) is.conditions n c e in
+    let found
+    = made_from condition_of plan.conditions (conditions_of (drafts_of (layout_of model))) is.conditions n c e in
     ap (λ o. list_all (is_at plan slots) (vars_of_condition o)) found.1
     ∙ condition_reads plan slots AnySum found.0
     (no_sets plan slots (condition_of found.0) (subst (ConditionHas (VarIn plan slots) AnySum NoSet) (sym found.2) h))
 
-term_vars : (model : Model) (tables : List VariantTable) (plan : Plan) → IsPlanOf model tables plan → (slots : List ℕ) (n : ℕ)
-    (t : trees.Term) → slice_get (terms_of (drafts_of (layout_of model))) n ≡ Some t → TermHas (VarIn plan slots) AnySum t
+term_vars : (model : Model) (tables : List VariantTable) (plan : Plan) → IsPlanOf model tables plan
+    → (slots : List ℕ) (n : ℕ)
+    (t : trees.Term) → slice_get (terms_of (drafts_of (layout_of model))) n ≡ Some t
+    → TermHas (VarIn plan slots) AnySum t
     → list_all (is_at plan slots) (vars_of_term (slice_get plan.terms n)) ≡ true
 term_vars model tables plan is slots n t e h =
     let found = made_from trees.term_of plan.terms (terms_of (drafts_of (layout_of model))) is.terms n t e in
     ap (λ o. list_all (is_at plan slots) (vars_of_term o)) found.1
     ∙ term_reads plan slots AnySum found.0 (subst (TermHas (VarIn plan slots) AnySum) (sym found.2) h)
 
-both_terms : (model : Model) (tables : List VariantTable) (plan : Plan) → IsPlanOf model tables plan → (slots : List ℕ) (t : ℕ)
+both_terms : (model : Model) (tables : List VariantTable) (plan : Plan) → IsPlanOf model tables plan
+    → (slots : List ℕ) (t : ℕ)
     (left right : trees.Term) → StandFrom (terms_of (drafts_of (layout_of model))) t (left ∷ right ∷ [])
     → TermHas (VarIn plan slots) AnySum left → TermHas (VarIn plan slots) AnySum right
-    → list_all (is_at plan slots) (vars_of_term (slice_get plan.terms t) ++ vars_of_term (slice_get plan.terms (suc t))) ≡ true
+    → list_all (is_at plan slots) (vars_of_term (slice_get plan.terms t) ++ vars_of_term (slice_get plan.terms (suc t)))
+    ≡ true
 both_terms model tables plan is slots t left right ts h k =
     let all = terms_of (drafts_of (layout_of model)) in
-    list_all-append (is_at plan slots) (vars_of_term (slice_get plan.terms t)) (vars_of_term (slice_get plan.terms (suc t)))
+    list_all-append (is_at plan slots) (vars_of_term (slice_get plan.terms t))
+    (vars_of_term (slice_get plan.terms (suc t)))
     ∙ and_from (list_all (is_at plan slots) (vars_of_term (slice_get plan.terms t)))
     (list_all (is_at plan slots) (vars_of_term (slice_get plan.terms (suc t))))
     (term_vars model tables plan is slots t left (stand_first all t left (right ∷ []) ts) h)
-    (term_vars model tables plan is slots (suc t) right (stand_first all (suc t) right [] (stand_rest all t left (right ∷ []) ts)) k)
+    (term_vars model tables plan is slots (suc t) right
+    (stand_first all (suc t) right [] (stand_rest all t left (right ∷ []) ts)) k)
 
-columns_vars : (plan : Plan) (slots : List ℕ) (columns : List Binding) → Each (λ b. Each (VarIn plan slots) (operand_vars b.operand)) columns
+columns_vars : (plan : Plan) (slots : List ℕ) (columns : List Binding)
+    → Each (λ b. Each (VarIn plan slots) (operand_vars b.operand)) columns
     → list_all (is_at plan slots) (flat_map (λ b. operand_vars b.operand) columns) ≡ true
 columns_vars plan slots columns h =
     each_passes (VarIn plan slots) (is_at plan slots) (λ v k. k) (flat_map (λ b. operand_vars b.operand) columns)
     (each_flat (VarIn plan slots) (λ b. operand_vars b.operand) columns h)
 
-demand_vars : (model : Model) (tables : List VariantTable) (plan : Plan) → IsPlanOf model tables plan → (slots : List ℕ) (t : ℕ)
-    (demand : Demand) → StandFrom (terms_of (drafts_of (layout_of model))) t (demand_terms demand) → DemandHas (VarIn plan slots) demand
-    → is_of_constraint (kind_of demand) ≡ true → list_all (is_at plan slots) (kind_vars plan (kind_from t demand)) ≡ true
+demand_vars : (model : Model) (tables : List VariantTable) (plan : Plan) → IsPlanOf model tables plan
+    → (slots : List ℕ) (t : ℕ)
+    (demand : Demand) → StandFrom (terms_of (drafts_of (layout_of model))) t (demand_terms demand)
+    → DemandHas (VarIn plan slots) demand
+    → is_of_constraint (kind_of demand) ≡ true
+    → list_all (is_at plan slots) (kind_vars plan (kind_from t demand)) ≡ true
 demand_vars model tables plan is slots t (among v restriction) ts h of = and_from (is_at plan slots v) true h refl
-demand_vars model tables plan is slots t (compare relation left right) ts h of = both_terms model tables plan is slots t left right ts h.0 h.1
-demand_vars model tables plan is slots t (equate left right) ts h of = both_terms model tables plan is slots t left right ts h.0 h.1
+demand_vars model tables plan is slots t (compare relation left right) ts h of =
+    both_terms model tables plan is slots t left right ts h.0 h.1
+demand_vars model tables plan is slots t (equate left right) ts h of =
+    both_terms model tables plan is slots t left right ts h.0 h.1
 demand_vars model tables plan is slots t (by_table table columns) ts h of = columns_vars plan slots columns h
 demand_vars model tables plan is slots t never ts h of = refl
 demand_vars model tables plan is slots t (last v) ts h of = absurd (cc)
@@ -583,7 +670,8 @@ demand_vars model tables plan is slots t (line i) ts h of = absurd (cc)
 
 stays : (model : Model) (tables : List VariantTable) (plan : Plan) → IsPlanOf model tables plan → (c t : ℕ) (d : Draft)
     → IsAtOwnSlots plan d → StandFrom (conditions_of (drafts_of (layout_of model))) c (rule_brings.conditions d)
-    → StandFrom (terms_of (drafts_of (layout_of model))) t (rule_brings.terms d) → stays_at_its_slots plan (rule_from c t d) ≡ true
+    → StandFrom (terms_of (drafts_of (layout_of model))) t (rule_brings.terms d)
+    → stays_at_its_slots plan (rule_from c t d) ≡ true
 stays model tables plan is c t d at cs ts =
     ap (λ b. if b then test else ((length d.slots == 0) && (length d.inferred == 0))) (constraint_same t d.demand)
     ∙ by (is_of_constraint (kind_of d.demand)) refl
@@ -591,12 +679,15 @@ stays model tables plan is c t d at cs ts =
     test : Bool
     test =
         (((nat_lt 0 (length d.slots) && nat_le (length d.slots) 4) && are_apart (λ i j. i == j) d.slots)
-        && (list_all (is_at plan d.slots) (rule_vars plan (rule_from c t d)) && list_all (is_at plan d.slots) d.inferred))
+        && (list_all (is_at plan d.slots) (rule_vars plan (rule_from c t d))
+        && list_all (is_at plan d.slots) d.inferred))
         && (is_some d.dependency && are_apart (λ v w. v == w) d.inferred)
 
     by : (b : Bool) → is_of_constraint (kind_of d.demand) ≡ b
         → (if b then test else ((length d.slots == 0) && (length d.inferred == 0))) ≡ true
-    by false e = let none = at.own e in and_from (length d.slots == 0) (length d.inferred == 0) (ap (λ l. length l == 0) none.0) (ap (λ l. length l == 0) none.1)
+    by false e = let none = at.own e in
+        and_from (length d.slots == 0) (length d.inferred == 0) (ap (λ l. length l == 0) none.0)
+        (ap (λ l. length l == 0) none.1)
     by true e =
         let s = at.of_net e in
         let number = number_for c d.condition in
@@ -617,11 +708,14 @@ stays model tables plan is c t d at cs ts =
         (demand_vars model tables plan is d.slots t d.demand ts s.demand e)) s.inferred))
         (and_from (is_some d.dependency) (are_apart (λ v w. v == w) d.inferred) s.dependency s.once)
 
-pub own_slots : (model : Model) (tables : List VariantTable) (plan : Plan) → IsPlanOf model tables plan → KeepsObjects model
+pub own_slots : (model : Model) (tables : List VariantTable) (plan : Plan) → IsPlanOf model tables plan
+    → KeepsObjects model
     → refusals.first_of (type_faults (layout_of model)) ≡ None → list_all (stays_at_its_slots plan) plan.rules ≡ true
 own_slots model tables plan is keeps sound =
     let drafts = drafts_of (layout_of model) in
     each_passes (λ x. stays_at_its_slots plan x ≡ true) (stays_at_its_slots plan) (λ x h. h) plan.rules
     (subst (Each (λ x. stays_at_its_slots plan x ≡ true)) (sym is.rules)
-    (numbered_each rule_brings rule_from (IsAtOwnSlots plan) (λ x. stays_at_its_slots plan x ≡ true) (conditions_of drafts) (terms_of drafts)
-    (stays model tables plan is) 1 0 drafts.rules (all_stay model tables plan is keeps sound) (rule_conditions drafts) (rule_terms drafts)))
+    (numbered_each rule_brings rule_from (IsAtOwnSlots plan) (λ x. stays_at_its_slots plan x ≡ true)
+    (conditions_of drafts) (terms_of drafts)
+    (stays model tables plan is) 1 0 drafts.rules (all_stay model tables plan is keeps sound) (rule_conditions drafts)
+    (rule_terms drafts)))

@@ -6,6 +6,3 @@ pub mod trees;
 
 pub use numbering::Numbering;
 pub use trees::Trees;
-
-#[cfg(test)]
-mod tests;

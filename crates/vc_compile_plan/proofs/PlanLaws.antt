@@ -1,7 +1,9 @@
 -- Laws of the plan of a model.
 use Rattle.std.proofs.Common.{◌≡◌, List, [], ◌∷◌, map, refl, ap}
 use Rattle.vc_compile_plan.specs.Laws.{DefinedPlansAreOnes}
-use Rattle.vc_compile_plan.specs.Trees.{Spot, Term, Literal, Read, PartSum, PartCount, Applied, Joined, Condition, Always, Compared, IsIn, Specified, Holds, Filled, Not, And, Or, term_of, condition_of, kept_term, kept_condition}
+use Rattle.vc_compile_plan.specs.Trees.{Spot, Term, Literal, Read, PartSum, PartCount, Applied, Joined, Condition}
+use Rattle.vc_compile_plan.specs.Trees.{Always, Compared, IsIn, Specified, Holds, Filled, Not, And, Or, term_of}
+use Rattle.vc_compile_plan.specs.Trees.{condition_of, kept_term, kept_condition}
 
 -- a tree that is kept in memory is the same
 kept_term_is : (p : Spot) (term : Term) → term_of (kept_term p term) ≡ term
@@ -27,9 +29,11 @@ kept_terms_are : (p : Spot) (terms : List Term) → map term_of (map (kept_term 
 kept_terms_are p [] = refl
 kept_terms_are p (term ∷ terms) = rw (kept_term_is p term, kept_terms_are p terms) refl
 
-kept_conditions_are : (p : Spot) (conditions : List Condition) → map condition_of (map (kept_condition p) conditions) ≡ conditions
+kept_conditions_are : (p : Spot) (conditions : List Condition)
+    → map condition_of (map (kept_condition p) conditions) ≡ conditions
 kept_conditions_are p [] = refl
-kept_conditions_are p (condition ∷ conditions) = rw (kept_condition_is p condition, kept_conditions_are p conditions) refl
+kept_conditions_are p (condition ∷ conditions) =
+    rw (kept_condition_is p condition, kept_conditions_are p conditions) refl
 
 pub defined_plans_are_ones : DefinedPlansAreOnes
 defined_plans_are_ones p model tables = record {

@@ -9,7 +9,8 @@ use Rattle.vc_syntax_terms.specs.declared.tree.Operand.{Operand as OperandLeaf}
 use Rattle.vc_syntax_terms.specs.declared.tree.Relator.{Relator}
 use Rattle.vc_syntax_terms.specs.declared.tree.Relator.TheVariants as relators
 use Rattle.vc_syntax_terms.specs.declared.tree.SignedNumber.{SignedNumber}
-use Rattle.vc_syntax_terms.specs.Trees.{Term, Relation, Compared, Within, Condition, Or, And, Not, Related, Specified, PartOf}
+use Rattle.vc_syntax_terms.specs.Trees.{Term, Relation, Compared, Within, Condition, Or, And, Not, Related, Specified}
+use Rattle.vc_syntax_terms.specs.Trees.{PartOf}
 use Rattle.vc_plan.specs.declared.conditions.Piece.{Piece}
 use Rattle.vc_plan.specs.declared.conditions.Piece.TheVariants as pieces
 use Rattle.vc_plan.specs.declared.conditions.Relation.{Relation as PlanRelation}
@@ -66,7 +67,8 @@ abbrev pub compared_at : Layout → Site → Option OperandLeaf → Term → Rel
 compared_at layout site None left relator right =
     plan.Compared (relation_of relator) (term_at layout site left) (term_at layout site right)
 compared_at layout site (Some operand) left relator right =
-    let of_set = set_against relator (plan.Holds (set_meant layout site operand) (text_in (literal_of layout.texts right))) in
+    let of_set
+    = set_against relator (plan.Holds (set_meant layout site operand) (text_in (literal_of layout.texts right))) in
     let of_value = plan.Compared (relation_of relator) (term_at layout site left) (term_at layout site right) in
     if is_set_meant site operand then of_set else of_value
 

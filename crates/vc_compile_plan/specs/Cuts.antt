@@ -1,5 +1,6 @@
 -- The numbers at which characteristics are cut, and the domains that this leaves.
-use Rattle.std.specs.Prelude.{ℕ, suc, Bool, true, false, ◌==◌, if◌then◌else◌, List, [], ◌∷◌, ◌++◌, map, flat_map, slice_get, Option, None, Some}
+use Rattle.std.specs.Prelude.{ℕ, suc, Bool, true, false, ◌==◌, if◌then◌else◌, List, [], ◌∷◌, ◌++◌, map, flat_map}
+use Rattle.std.specs.Prelude.{slice_get, Option, None, Some}
 use Rattle.std.specs.List.{filter}
 use Rattle.vc_value.specs.Grains.{cut_at}
 use Rattle.vc_value.specs.declared.decimal.Dec.{Dec}
@@ -47,7 +48,8 @@ abbrev pub characteristic_of : Model → List Variable → OperandLeaf → Optio
 characteristic_of model variables (operands.Plain leaf) = characteristic_named model leaf.name
 characteristic_of model variables (operands.Owned owner leaf) = characteristic_named model leaf.name
 characteristic_of model variables (operands.Member variable leaf) = characteristic_named model leaf.name
-characteristic_of model variables (operands.Variable leaf) = of_referent (referent_of (variable_named variables leaf.name))
+characteristic_of model variables (operands.Variable leaf) =
+    of_referent (referent_of (variable_named variables leaf.name))
 
 -- the numbers, as cuts of what the operand names; of nothing where a side is no lone operand
 abbrev pub marks_at : Option ℕ → List Dec → List Mark
@@ -75,8 +77,10 @@ item_numbers (items.Interval low high) = number_of low ∷ number_of high ∷ []
 -- what a relation puts beside a characteristic: a literal as a whole side, or all that IN names, ends of intervals too
 abbrev pub relation_marks : Model → List Variable → Relation → List Mark
 relation_marks model variables (Compared left relator right) =
-    marks_of model variables (lone_of left) (literal_number right) ++ marks_of model variables (lone_of right) (literal_number left)
-relation_marks model variables (Within operand listed) = marks_of model variables (Some operand) (flat_map item_numbers listed)
+    marks_of model variables (lone_of left) (literal_number right)
+    ++ marks_of model variables (lone_of right) (literal_number left)
+relation_marks model variables (Within operand listed) =
+    marks_of model variables (Some operand) (flat_map item_numbers listed)
 
 -- an `=` that is a restriction cuts at its literal rounded to the characteristic's decimals too
 abbrev pub decimals_of : Option Characteristic → ℕ
@@ -85,7 +89,10 @@ decimals_of (Some c) = decimals_in (Some (domain_of c.values))
 
 abbrev pub rounded_mark : Model → Mark → Mark
 rounded_mark model mark = record mark {
-  number = record { millionths = rounded (decimals_of (slice_get model.characteristics mark.characteristic)) mark.number.millionths };
+  number = record {
+    millionths =
+        rounded (decimals_of (slice_get model.characteristics mark.characteristic)) mark.number.millionths;
+  };
 }
 
 abbrev pub is_equation : Relation → Bool
@@ -110,7 +117,9 @@ cell_numbers a = number_in (Some a)
 abbrev pub binding_marks : Model → List VariantTable → List Variable → TableCall → Binding → List Mark
 binding_marks model tables variables call binding =
     marks_of model variables (lone_of binding.value)
-    (flat_map cell_numbers (column_cells tables (table_number model call.table.name) (column_number model call.table.name binding.column.name)))
+    (flat_map cell_numbers
+    (column_cells tables (table_number model call.table.name)
+    (column_number model call.table.name binding.column.name)))
 
 abbrev pub call_marks : Model → List VariantTable → List Variable → TableCall → List Mark
 call_marks model tables variables call = flat_map (binding_marks model tables variables call) call.bindings
@@ -131,7 +140,8 @@ marks_if model tables None = []
 marks_if model tables (Some dependency) = dependency_marks model tables dependency
 
 abbrev pub all_marks : Layout → List VariantTable → List Mark
-all_marks layout tables = flat_map (λ d. marks_if layout.model tables (tree_of layout.model d)) (used_dependencies layout)
+all_marks layout tables =
+    flat_map (λ d. marks_if layout.model tables (tree_of layout.model d)) (used_dependencies layout)
 
 -- a domain cut at numbers, one after another: what lies outside cuts nothing, nor does what has cut before
 abbrev pub cut_all : ℕ → List Grain → List Dec → List Grain

@@ -7,4 +7,5 @@ use Rattle.vc_compile_plan.specs.Trees.{Spot}
 
 -- the plan of a model is one that the model has, wherever its trees stand
 abbrev pub DefinedPlansAreOnes : Type 0
-DefinedPlansAreOnes = (p : Spot) (model : Model) (tables : List VariantTable) → IsPlanOf model tables (plan_of p model tables)
+DefinedPlansAreOnes = (p : Spot) (model : Model) (tables : List VariantTable)
+    → IsPlanOf model tables (plan_of p model tables)

@@ -1,4 +1,5 @@
--- Conditions and terms as lists, and what has them by their numbers: those of rules, then of preconditions, requirements,
+-- Conditions and terms as lists, and what has them by their numbers: those of rules, then of preconditions,
+-- requirements,
 -- lines, operations and procedures. Condition 0 asks nothing, and stands for each that isn't there.
 use Rattle.std.specs.Prelude.{ℕ, suc, ◌+◌, List, [], ◌∷◌, ◌++◌, length, map, flat_map, Option, None, Some}
 use Rattle.vc_plan.specs.declared.plans.Guard.{Guard}
@@ -15,9 +16,11 @@ use Rattle.vc_plan.specs.declared.rules.Kind.{Kind}
 use Rattle.vc_plan.specs.declared.rules.Kind.TheVariants as kinds
 use Rattle.vc_plan.specs.declared.rules.Rule.{Rule}
 use Rattle.vc_compile_plan.specs.Layouts.{Layout}
-use Rattle.vc_compile_plan.specs.Procedures.{Action, assign, set_default, delete_default, look_up, KeyDraft, StatementDraft, ProcedureDraft, procedure_drafts}
+use Rattle.vc_compile_plan.specs.Procedures.{Action, assign, set_default, delete_default, look_up, KeyDraft}
+use Rattle.vc_compile_plan.specs.Procedures.{StatementDraft, ProcedureDraft, procedure_drafts}
 use Rattle.vc_compile_plan.specs.Rules.{Demand, among, compare, equate, by_table, never, last, line, Draft, rule_drafts}
-use Rattle.vc_compile_plan.specs.Shown.{Choice, GuardDraft, RequirementDraft, ItemDraft, guard_drafts, requirement_drafts, line_drafts, operation_drafts}
+use Rattle.vc_compile_plan.specs.Shown.{Choice, GuardDraft, RequirementDraft, ItemDraft, guard_drafts}
+use Rattle.vc_compile_plan.specs.Shown.{requirement_drafts, line_drafts, operation_drafts}
 use Rattle.vc_compile_plan.specs.Trees.{Term, Condition, Always}
 
 -- the conditions and the terms that a thing brings
@@ -29,7 +32,8 @@ pub record Brings (D : Type 0) : Type 0 where
 abbrev pub numbered : {D X : Type 0} → Brings D → (ℕ → ℕ → D → X) → ℕ → ℕ → List D → List X
 numbered brings make c t [] = []
 numbered brings make c t (draft ∷ drafts) =
-    make c t draft ∷ numbered brings make (c + length (brings.conditions draft)) (t + length (brings.terms draft)) drafts
+    make c t draft ∷ numbered brings make (c + length (brings.conditions draft)) (t + length (brings.terms draft))
+    drafts
 
 -- a condition that may be missing, and its number
 abbrev pub if_asked : Option Condition → List Condition
@@ -77,21 +81,28 @@ abbrev pub guard_brings : Brings GuardDraft
 guard_brings = record { conditions = λ draft. draft.choice.condition ∷ []; terms = λ draft. [] }
 
 abbrev pub guard_from : ℕ → ℕ → GuardDraft → Guard
-guard_from c t draft = record { at = draft.at; value = draft.value; dependency = draft.choice.dependency; condition = c }
+guard_from c t draft =
+    record { at = draft.at; value = draft.value; dependency = draft.choice.dependency; condition = c }
 
 abbrev pub requirement_brings : Brings RequirementDraft
 requirement_brings = record { conditions = λ draft. draft.choice.condition ∷ []; terms = λ draft. [] }
 
 abbrev pub requirement_from : ℕ → ℕ → RequirementDraft → Requirement
-requirement_from c t draft = record { at = draft.at; selection = record { dependency = draft.choice.dependency; condition = c } }
+requirement_from c t draft =
+    record { at = draft.at; selection = record { dependency = draft.choice.dependency; condition = c } }
 
 -- lines and operations
 abbrev pub item_brings : Brings ItemDraft
-item_brings = record { conditions = λ draft. map (λ choice. choice.condition) draft.choices; terms = λ draft. draft.term ∷ [] }
+item_brings = record {
+  conditions = λ draft. map (λ choice. choice.condition) draft.choices;
+  terms = λ draft. draft.term
+      ∷ [];
+}
 
 abbrev pub selections_from : ℕ → List Choice → List Selection
 selections_from c [] = []
-selections_from c (choice ∷ choices) = record { dependency = choice.dependency; condition = c } ∷ selections_from (suc c) choices
+selections_from c (choice ∷ choices) = record { dependency = choice.dependency; condition = c }
+    ∷ selections_from (suc c) choices
 
 abbrev pub line_from : ℕ → ℕ → ItemDraft → Line
 line_from c t draft = record {
@@ -230,7 +241,9 @@ abbrev pub lines_of : Drafts → List Line
 lines_of drafts = numbered item_brings line_from (lines_begin drafts) (line_terms_begin drafts) drafts.lines
 
 abbrev pub operations_of : Drafts → List Operation
-operations_of drafts = numbered item_brings operation_from (operations_begin drafts) (operation_terms_begin drafts) drafts.operations
+operations_of drafts =
+    numbered item_brings operation_from (operations_begin drafts) (operation_terms_begin drafts) drafts.operations
 
 abbrev pub procedures_of : Drafts → List Procedure
-procedures_of drafts = numbered procedure_brings procedure_from (procedures_begin drafts) (procedure_terms_begin drafts) drafts.procedures
+procedures_of drafts =
+    numbered procedure_brings procedure_from (procedures_begin drafts) (procedure_terms_begin drafts) drafts.procedures

@@ -53,7 +53,8 @@ statements_in dependency = None
 
 abbrev pub asked_by : (Option Dependency → Option Condition) → Model → List ℕ → List Asked
 asked_by condition_in model uses =
-    filter_map (λ d. option_map (λ condition. record { dependency = d; condition = condition }) (condition_in (tree_of model d))) uses
+    filter_map (λ d. option_map (λ condition. record { dependency = d; condition = condition })
+    (condition_in (tree_of model d))) uses
 
 abbrev pub preconditions_among : Model → List ℕ → List Asked
 preconditions_among = asked_by precondition_in

@@ -5,7 +5,8 @@ use Rattle.vc_plan.specs.declared.plans.Plan.{Plan}
 use Rattle.vc_table.specs.declared.table.VariantTable.{VariantTable}
 use Rattle.vc_compile_plan.specs.Cuts.{domains_of}
 use Rattle.vc_compile_plan.specs.Layouts.{Layout, layout_of}
-use Rattle.vc_compile_plan.specs.Numbering.{Drafts, drafts_of, conditions_of, terms_of, rules_of, guards_of, requirements_of, lines_of, operations_of, procedures_of}
+use Rattle.vc_compile_plan.specs.Numbering.{Drafts, drafts_of, conditions_of, terms_of, rules_of, guards_of}
+use Rattle.vc_compile_plan.specs.Numbering.{requirements_of, lines_of, operations_of, procedures_of}
 use Rattle.vc_compile_plan.specs.Tables.{characteristics_of, objects_of, tables_of}
 use Rattle.vc_compile_plan.specs.Trees.{Spot, kept_term, kept_condition, term_of, condition_of}
 

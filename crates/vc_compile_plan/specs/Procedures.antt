@@ -1,5 +1,6 @@
 -- The procedures of a model, with their conditions and terms as trees.
-use Rattle.std.specs.Prelude.{ℕ, if◌then◌else◌, List, [], ◌∷◌, ◌++◌, map, flat_map, slice_get, Option, None, Some, option_map, filter_map}
+use Rattle.std.specs.Prelude.{ℕ, if◌then◌else◌, List, [], ◌∷◌, ◌++◌, map, flat_map, slice_get, Option, None, Some}
+use Rattle.std.specs.Prelude.{option_map, filter_map}
 use Rattle.vc_model_parts.specs.declared.parts.Characteristic.{Characteristic}
 use Rattle.vc_model_parts.specs.declared.parts.Object.{Object}
 use Rattle.vc_syntax_terms.specs.declared.tree.NameLeaf.{NameLeaf}
@@ -50,10 +51,16 @@ pub record ProcedureDraft : Type 0 where
 abbrev pub target : Layout → Site → NameLeaf → ℕ
 target layout site name = var_meant layout site (Owned Itself name)
 
--- a call's columns: the keys with what is looked up, and the others with what gets their cells; each in the order of the call
+-- a call's columns: the keys with what is looked up, and the others with what gets their cells; each in the order of
+-- the call
 abbrev pub key_of : Layout → Site → List ℕ → syntax.Binding → List KeyDraft
 key_of layout site table binding =
-    let key : KeyDraft = record { column = column_number layout.model table binding.column.name; term = term_at layout site binding.value } in
+    let key : KeyDraft
+    = record {
+      column = column_number layout.model table binding.column.name;
+      term =
+          term_at layout site binding.value;
+    } in
     if is_key (column_in layout.model binding.column.name (table_named layout.model table)) then key ∷ [] else []
 
 abbrev pub operand_in : syntax.Term → NameLeaf → NameLeaf
@@ -71,7 +78,8 @@ filled_by layout site table binding =
 abbrev pub action_at : Layout → Site → syntax.Action → Action
 action_at layout site (syntax.Assign name term) = assign (target layout site name) (term_at layout site term)
 action_at layout site (syntax.SetDefault name term) = set_default (target layout site name) (term_at layout site term)
-action_at layout site (syntax.DelDefault name term) = delete_default (target layout site name) (term_at layout site term)
+action_at layout site (syntax.DelDefault name term) =
+    delete_default (target layout site name) (term_at layout site term)
 action_at layout site (syntax.Calls call) =
     look_up (table_number layout.model call.table.name)
     (flat_map (key_of layout site call.table.name) call.bindings)
@@ -118,11 +126,13 @@ value_procedures layout i slot c =
     flat_map (λ entry. procedures_among layout i slot (trigger_of (named_at layout i c) entry.piece) entry.uses)
     (entries_in (slice_get layout.model.characteristics c))
 
--- those of the profile, then those of characteristics in class order, then those of values in class order and list order
+-- those of the profile, then those of characteristics in class order, then those of values in class order and list
+-- order
 abbrev pub procedures_at : Layout → ℕ → Slot → List ProcedureDraft
 procedures_at layout i slot =
     procedures_among layout i slot Anyway (profile_in (slice_get layout.model.objects slot.object))
-    ++ (flat_map (λ c. procedures_among layout i slot Anyway (uses_in (slice_get layout.model.characteristics c))) (members_of layout.model slot.object)
+    ++ (flat_map (λ c. procedures_among layout i slot Anyway (uses_in (slice_get layout.model.characteristics c)))
+    (members_of layout.model slot.object)
     ++ flat_map (value_procedures layout i slot) (members_of layout.model slot.object))
 
 abbrev pub procedure_drafts : Layout → List ProcedureDraft

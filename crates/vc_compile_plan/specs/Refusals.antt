@@ -1,12 +1,14 @@
 -- Why a model has no plan: the first fault, in a stated order.
-use Rattle.std.specs.Prelude.{ℕ, Bool, ◌&&◌, ◌||◌, ◌==◌, nat_lt, if◌then◌else◌, List, [], ◌∷◌, ◌++◌, length, flat_map, slice_get, Option, None, Some, option_map, filter_map}
+use Rattle.std.specs.Prelude.{ℕ, Bool, ◌&&◌, ◌||◌, ◌==◌, nat_lt, if◌then◌else◌, List, [], ◌∷◌, ◌++◌, length, flat_map}
+use Rattle.std.specs.Prelude.{slice_get, Option, None, Some, option_map, filter_map}
 use Rattle.std.specs.List.{filter, list_any}
 use Rattle.vc_model_parts.specs.declared.parts.BillItem.{BillItem}
 use Rattle.vc_model_parts.specs.declared.parts.Model.{Model}
 use Rattle.vc_model_parts.specs.declared.parts.NamedDependency.{NamedDependency}
 use Rattle.vc_model_parts.specs.declared.parts.Object.{Object}
 use Rattle.vc_model_parts.specs.declared.parts.Operation.{Operation}
-use Rattle.vc_syntax_terms.specs.Trees.{Dependency, Precondition, Selection, Procedure, Constrains, Counts, term_of, dependency_of}
+use Rattle.vc_syntax_terms.specs.Trees.{Dependency, Precondition, Selection, Procedure, Constrains, Counts, term_of}
+use Rattle.vc_syntax_terms.specs.Trees.{dependency_of}
 use Rattle.vc_table.specs.declared.table.VariantTable.{VariantTable}
 use Rattle.vc_types.specs.Faults.{fault_of}
 use Rattle.vc_types.specs.Kinds.{number_of}
@@ -96,7 +98,8 @@ pub record TypeFault : Type 0 where
   pub kind : TypeFaultKind
 
 abbrev pub fault_at : Model → Typed → Option TypeFault
-fault_at model typed = option_map (λ kind. record { line = typed.line; kind = kind }) (fault_of model typed.place typed.tree)
+fault_at model typed =
+    option_map (λ kind. record { line = typed.line; kind = kind }) (fault_of model typed.place typed.tree)
 
 abbrev pub type_faults : Layout → List TypeFault
 type_faults layout = filter_map (fault_at layout.model) (typed_of layout)
@@ -135,7 +138,8 @@ has_too_many_atoms plan = nat_lt most_atoms (atom_count plan)
 abbrev pub has_too_many_cells : Plan → Bool
 has_too_many_cells plan = nat_lt most_cells (cell_bound plan)
 
--- levels and slots, then the typing, then rules, atoms and cells: what comes later isn't asked where something earlier is found
+-- levels and slots, then the typing, then rules, atoms and cells: what comes later isn't asked where something earlier
+-- is found
 abbrev pub size_fault : Plan → Option CompileFault
 size_fault plan =
     let cells = if has_too_many_cells plan then Some faults.TooManyCells else None in

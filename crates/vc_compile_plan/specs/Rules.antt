@@ -1,5 +1,6 @@
 -- The rules of a model, with their conditions and terms as trees, before these have numbers.
-use Rattle.std.specs.Prelude.{ℕ, suc, true, not, ◌==◌, List, [], ◌∷◌, ◌++◌, length, map, flat_map, slice_get, Option, None, Some, option_map}
+use Rattle.std.specs.Prelude.{ℕ, suc, true, not, ◌==◌, List, [], ◌∷◌, ◌++◌, length, map, flat_map, slice_get, Option}
+use Rattle.std.specs.Prelude.{None, Some, option_map}
 use Rattle.std.specs.List.{filter}
 use Rattle.vc_value.specs.declared.value.Value.{Value}
 use Rattle.vc_model_parts.specs.declared.parts.BillItem.{BillItem}
@@ -63,21 +64,27 @@ constraint_site layout constraint tuple = record {
   slots = tuple;
 }
 
--- a relation of terms: one lone operand against a literal restricts it to what is so related, turned round where it is the right side
+-- a relation of terms: one lone operand against a literal restricts it to what is so related, turned round where it is
+-- the right side
 abbrev pub of_terms : Layout → Site → Relator → syntax.Term → syntax.Term → Demand
 of_terms layout site relators.Equal left right = equate (term_at layout site left) (term_at layout site right)
-of_terms layout site relator left right = compare (relation_of relator) (term_at layout site left) (term_at layout site right)
+of_terms layout site relator left right =
+    compare (relation_of relator) (term_at layout site left) (term_at layout site right)
 
 abbrev pub against : Layout → Site → Relation → OperandLeaf → Value → Demand
 against layout site relation operand a = among (var_meant layout site operand) (Against relation a)
 
-abbrev pub of_right_operand : Layout → Site → Option OperandLeaf → Option Value → Relator → syntax.Term → syntax.Term → Demand
+abbrev pub of_right_operand : Layout → Site → Option OperandLeaf → Option Value → Relator → syntax.Term → syntax.Term
+    → Demand
 of_right_operand layout site None a relator left right = of_terms layout site relator left right
 of_right_operand layout site (Some operand) None relator left right = of_terms layout site relator left right
-of_right_operand layout site (Some operand) (Some a) relator left right = against layout site (turned (relation_of relator)) operand a
+of_right_operand layout site (Some operand) (Some a) relator left right =
+    against layout site (turned (relation_of relator)) operand a
 
-abbrev pub of_left_operand : Layout → Site → Option OperandLeaf → Option Value → Relator → syntax.Term → syntax.Term → Demand
-of_left_operand layout site (Some operand) (Some a) relator left right = against layout site (relation_of relator) operand a
+abbrev pub of_left_operand : Layout → Site → Option OperandLeaf → Option Value → Relator → syntax.Term → syntax.Term
+    → Demand
+of_left_operand layout site (Some operand) (Some a) relator left right =
+    against layout site (relation_of relator) operand a
 of_left_operand layout site (Some operand) None relator left right = of_terms layout site relator left right
 of_left_operand layout site None a relator left right =
     of_right_operand layout site (lone_of right) (literal_of layout.texts left) relator left right
@@ -133,20 +140,31 @@ restriction_drafts layout d constraint tuple number (restriction ∷ restriction
 -- for each tuple that matches, in ascending order
 abbrev pub constraint_drafts : Layout → ℕ → Option syntax.Dependency → List Draft
 constraint_drafts layout d (Some (syntax.Constrains constraint)) =
-    flat_map (λ tuple. restriction_drafts layout d constraint tuple 1 constraint.restrictions) (tuples_of layout constraint)
+    flat_map (λ tuple. restriction_drafts layout d constraint tuple 1 constraint.restrictions)
+    (tuples_of layout constraint)
 constraint_drafts layout d dependency = []
 
 abbrev pub constraints_drafts : Layout → List Draft
-constraints_drafts layout = flat_map (λ d. constraint_drafts layout d (tree_of layout.model d)) (active_constraints layout)
+constraints_drafts layout =
+    flat_map (λ d. constraint_drafts layout d (tree_of layout.model d)) (active_constraints layout)
 
 -- Last, by variable
 abbrev pub own_draft : Demand → Draft
-own_draft demand = record { dependency = None; number = 0; slots = []; condition = None; inferred = []; demand = demand }
+own_draft demand = record {
+  dependency = None;
+  number = 0;
+  slots = [];
+  condition = None;
+  inferred = [];
+  demand =
+      demand;
+}
 
 abbrev pub last_drafts : Layout → List Draft
 last_drafts layout = map (λ v. own_draft (last v)) (numbers_below (length layout.vars))
 
--- Line, by slot and selection condition of the line that the slot stands for; one that asks nothing where the line has none
+-- Line, by slot and selection condition of the line that the slot stands for; one that asks nothing where the line has
+-- none
 abbrev pub line_draft : Layout → Site → ℕ → ℕ → Asked → Draft
 line_draft layout site i number asked = record (own_draft (line i)) {
   dependency = Some asked.dependency;
@@ -173,7 +191,8 @@ drafts_of_line layout p i (Some owner) (Some item) =
 abbrev pub drafts_of_slot : Layout → ℕ → Standing → Option ℕ → List Draft
 drafts_of_slot layout i standing None = []
 drafts_of_slot layout i standing (Some p) =
-    drafts_of_line layout p i (slice_get layout.slots p) (slice_get (bill_if layout.model (object_at layout p)) standing.item)
+    drafts_of_line layout p i (slice_get layout.slots p)
+    (slice_get (bill_if layout.model (object_at layout p)) standing.item)
 
 abbrev pub slot_drafts_from : Layout → ℕ → List Standing → List Draft
 slot_drafts_from layout i [] = []

@@ -19,7 +19,8 @@ use Rattle.vc_plan.specs.declared.plans.Named.{Named}
 use Rattle.vc_plan.specs.declared.plans.Slot.{Slot}
 use Rattle.vc_compile_plan.specs.Conditions.{condition_at}
 use Rattle.vc_compile_plan.specs.Layouts.{Layout}
-use Rattle.vc_compile_plan.specs.Places.{Asked, preconditions_among, selections_among, characteristic_site, operation_site, site_at}
+use Rattle.vc_compile_plan.specs.Places.{Asked, preconditions_among, selections_among, characteristic_site}
+use Rattle.vc_compile_plan.specs.Places.{operation_site, site_at}
 use Rattle.vc_compile_plan.specs.Sites.{Site, named_at}
 use Rattle.vc_compile_plan.specs.Slots.{bill_of}
 use Rattle.vc_compile_plan.specs.Terms as compiled
@@ -32,7 +33,8 @@ pub record Choice : Type 0 where
   pub condition : plan.Condition
 
 abbrev pub choice_at : Layout → Site → Asked → Choice
-choice_at layout site asked = record { dependency = asked.dependency; condition = condition_at layout site asked.condition }
+choice_at layout site asked =
+    record { dependency = asked.dependency; condition = condition_at layout site asked.condition }
 
 -- a precondition, of a characteristic or of one of its values
 pub record GuardDraft : Type 0 where
@@ -57,7 +59,8 @@ entries_of (values.Numbers decimals unit listed) = map entry_of_numbers listed
 
 abbrev pub guards_among : Layout → Site → Named → Option Piece → List ℕ → List GuardDraft
 guards_among layout site at value uses =
-    map (λ asked. record { at = at; value = value; choice = choice_at layout site asked }) (preconditions_among layout.model uses)
+    map (λ asked. record { at = at; value = value; choice = choice_at layout site asked })
+    (preconditions_among layout.model uses)
 
 -- a characteristic's own preconditions before those of its values
 abbrev pub guards_of : Layout → Site → Named → Option Characteristic → List GuardDraft
@@ -68,7 +71,8 @@ guards_of layout site at (Some c) =
 
 abbrev pub guards_at : Layout → ℕ → Slot → List GuardDraft
 guards_at layout i slot =
-    flat_map (λ c. guards_of layout (characteristic_site layout i slot) (named_at layout i c) (slice_get layout.model.characteristics c))
+    flat_map (λ c. guards_of layout (characteristic_site layout i slot) (named_at layout i c)
+    (slice_get layout.model.characteristics c))
     (members_of layout.model slot.object)
 
 abbrev pub guard_drafts : Layout → List GuardDraft
@@ -86,7 +90,8 @@ requirements_of layout site at (Some c) =
 
 abbrev pub requirements_at : Layout → ℕ → Slot → List RequirementDraft
 requirements_at layout i slot =
-    flat_map (λ c. requirements_of layout (characteristic_site layout i slot) (named_at layout i c) (slice_get layout.model.characteristics c))
+    flat_map (λ c. requirements_of layout (characteristic_site layout i slot) (named_at layout i c)
+    (slice_get layout.model.characteristics c))
     (members_of layout.model slot.object)
 
 abbrev pub requirement_drafts : Layout → List RequirementDraft
@@ -116,7 +121,8 @@ material_of model (components.Plain material) = material
 
 abbrev pub line_choices : Layout → Site → Component → List ℕ → List Choice
 line_choices layout site (components.Object o) uses = []
-line_choices layout site (components.Plain material) uses = map (choice_at layout site) (selections_among layout.model uses)
+line_choices layout site (components.Plain material) uses =
+    map (choice_at layout site) (selections_among layout.model uses)
 
 abbrev pub line_at : Layout → ℕ → Slot → BillItem → ItemDraft
 line_at layout i slot item =
@@ -152,4 +158,5 @@ operation_at layout i slot operation =
 
 abbrev pub operation_drafts : Layout → List ItemDraft
 operation_drafts layout =
-    by_slot (λ i slot. map (operation_at layout i slot) (operations_in (slice_get layout.model.objects slot.object))) 0 layout.slots
+    by_slot (λ i slot. map (operation_at layout i slot) (operations_in (slice_get layout.model.objects slot.object))) 0
+    layout.slots

@@ -70,4 +70,5 @@ set_meant layout site operand = set_number layout.sets (slot_meant site operand)
 -- what a characteristic at a slot is
 abbrev pub named_at : Layout → ℕ → ℕ → Named
 named_at layout i c =
-    if is_multiple layout.model c then named.Set (set_number layout.sets i c) else named.Var (var_number layout.vars i c)
+    if is_multiple layout.model c
+    then named.Set (set_number layout.sets i c) else named.Var (var_number layout.vars i c)

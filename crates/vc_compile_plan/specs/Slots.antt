@@ -1,5 +1,6 @@
 -- Slots: the root object and, below each, one for each line of its bill that has an object, in preorder.
-use Rattle.std.specs.Prelude.{ℕ, zero, suc, ◌+◌, Bool, true, nat_lt, List, [], ◌∷◌, ◌++◌, length, map, take, slice_get, Option, None, Some, filter_map, sum_by}
+use Rattle.std.specs.Prelude.{ℕ, zero, suc, ◌+◌, Bool, true, nat_lt, List, [], ◌∷◌, ◌++◌, length, map, take, slice_get}
+use Rattle.std.specs.Prelude.{Option, None, Some, filter_map, sum_by}
 use Rattle.std.specs.List.{list_any}
 use Rattle.vc_model_parts.specs.declared.parts.BillItem.{BillItem}
 use Rattle.vc_model_parts.specs.declared.parts.Component.{Component}
@@ -41,7 +42,8 @@ for_lines brought item number (line ∷ lines) =
     let first = for_line (brought item number) (object_in line.component) in
     first ++ for_lines brought (suc item) (number + length first) lines
 
--- an object that stands below a slot for a line, as the slot of this number, with all that stands below it; so many levels in all
+-- an object that stands below a slot for a line, as the slot of this number, with all that stands below it; so many
+-- levels in all
 abbrev pub standings_from : Model → ℕ → Option ℕ → ℕ → ℕ → ℕ → ℕ → List Standing
 standings_from model zero parent depth item number o = []
 standings_from model (suc levels) parent depth item number o =
@@ -58,7 +60,8 @@ standings_of model = standings_from model most_levels None 0 0 0 model.root
 -- the number, among the plan's lines, of a line of a slot: the lines of all slots before it come first
 abbrev pub line_number : Model → List Standing → Option ℕ → ℕ → ℕ
 line_number model standings None item = 0
-line_number model standings (Some i) item = sum_by (λ standing. length (bill_of model standing.object)) (take i standings) + item
+line_number model standings (Some i) item =
+    sum_by (λ standing. length (bill_of model standing.object)) (take i standings) + item
 
 abbrev pub slot_of : Model → List Standing → Standing → Slot
 slot_of model standings standing = record {

@@ -26,7 +26,8 @@ unit_of (values.Texts length multiple entries) = None
 unit_of (values.Numbers decimals unit entries) = unit
 
 abbrev pub characteristic_from : listed.Characteristic → Characteristic
-characteristic_from c = record { name = c.name; unit = unit_of c.values; required = c.required; list = domain_of c.values }
+characteristic_from c =
+    record { name = c.name; unit = unit_of c.values; required = c.required; list = domain_of c.values }
 
 abbrev pub characteristics_of : Model → List Characteristic
 characteristics_of model = map characteristic_from model.characteristics
@@ -70,7 +71,8 @@ column_place (Some table) c = position_or_len (λ column. column.characteristic 
 
 abbrev pub column_number : Model → List ℕ → List ℕ → ℕ
 column_number model table column =
-    column_place (slice_get model.tables (table_number model table)) (number_or_zero (characteristic_named model column))
+    column_place (slice_get model.tables (table_number model table))
+    (number_or_zero (characteristic_named model column))
 
 -- the cells of a column
 abbrev pub cell_in : Option Value → List Value

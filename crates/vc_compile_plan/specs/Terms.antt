@@ -8,7 +8,8 @@ use Rattle.vc_syntax_terms.specs.declared.tree.Function.TheVariants as functions
 use Rattle.vc_syntax_terms.specs.declared.tree.Operand.{Operand as OperandLeaf}
 use Rattle.vc_syntax_terms.specs.declared.tree.Operator.{Operator as NamedOperator}
 use Rattle.vc_syntax_terms.specs.declared.tree.Operator.TheVariants as operators
-use Rattle.vc_syntax_terms.specs.Trees.{Term, Number, Text, Operand, Negated, Combined, Applied, SumOfParts, CountOfParts}
+use Rattle.vc_syntax_terms.specs.Trees.{Term, Number, Text, Operand, Negated, Combined, Applied, SumOfParts}
+use Rattle.vc_syntax_terms.specs.Trees.{CountOfParts}
 use Rattle.vc_types.specs.Looking.{characteristic_named}
 use Rattle.vc_plan.specs.declared.terms.Function.{Function}
 use Rattle.vc_plan.specs.declared.terms.Function.TheVariants as plan_functions
@@ -71,5 +72,6 @@ term_at layout site (Negated term) = minus (minus_literal term) (term_at layout 
 term_at layout site (Combined left operator right) =
     plan.Joined (operator_of operator) (term_at layout site left) (term_at layout site right)
 term_at layout site (Applied function term) = plan.Applied (function_of function) (term_at layout site term)
-term_at layout site (SumOfParts name) = plan.PartSum site.own (number_or_zero (characteristic_named layout.model name.name))
+term_at layout site (SumOfParts name) =
+    plan.PartSum site.own (number_or_zero (characteristic_named layout.model name.name))
 term_at layout site CountOfParts = plan.PartCount site.own

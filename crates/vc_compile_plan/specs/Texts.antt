@@ -5,11 +5,13 @@ use Rattle.std.specs.Str.{bytes_eq}
 use Rattle.vc_model_parts.specs.declared.parts.Model.{Model}
 use Rattle.vc_syntax_terms.specs.declared.tree.Item.{Item}
 use Rattle.vc_syntax_terms.specs.declared.tree.Item.TheVariants as items
-use Rattle.vc_syntax_terms.specs.Trees.{Term, Number, Text, Operand, Negated, Combined, Applied, SumOfParts, CountOfParts}
+use Rattle.vc_syntax_terms.specs.Trees.{Term, Number, Text, Operand, Negated, Combined, Applied, SumOfParts}
+use Rattle.vc_syntax_terms.specs.Trees.{CountOfParts}
 use Rattle.vc_syntax_terms.specs.Trees.{Relation, Compared, Within, Condition, Or, And, Not, Related, Specified, PartOf}
 use Rattle.vc_syntax_terms.specs.Trees.{TableCall, Action, Assign, SetDefault, DelDefault, Calls, Statement}
 use Rattle.vc_syntax_terms.specs.Trees.{Demand, Relates, Holds, Never, Restriction}
-use Rattle.vc_syntax_terms.specs.Trees.{Dependency, Precondition, Selection, Procedure, Constrains, Counts, dependency_of}
+use Rattle.vc_syntax_terms.specs.Trees.{Dependency, Precondition, Selection, Procedure, Constrains, Counts}
+use Rattle.vc_syntax_terms.specs.Trees.{dependency_of}
 use Rattle.vc_types.specs.Occurrences.{if_there}
 
 -- the texts that stand in a tree, in its order; the material of a constraint's object is none of them
@@ -58,7 +60,8 @@ texts_in_demand (Holds call) = texts_in_call call
 texts_in_demand Never = []
 
 abbrev pub texts_in_restriction : Restriction → List (List ℕ)
-texts_in_restriction restriction = texts_in_demand restriction.demand ++ if_there texts_in_condition restriction.condition
+texts_in_restriction restriction = texts_in_demand restriction.demand
+    ++ if_there texts_in_condition restriction.condition
 
 abbrev pub texts_in : Dependency → List (List ℕ)
 texts_in (Precondition condition) = texts_in_condition condition

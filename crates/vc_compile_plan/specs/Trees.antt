@@ -1,4 +1,5 @@
--- Terms and conditions of a plan, without the places of their nodes in memory. Trees are compared by these: two that are
+-- Terms and conditions of a plan, without the places of their nodes in memory. Trees are compared by these: two that
+-- are
 -- equal may stand at different places.
 use Rattle.std.specs.Prelude.{ℕ, List, Box}
 use Rattle.std.specs.declared.alloc.Global.{Global}

@@ -1,5 +1,6 @@
 -- The tuples of slots that a constraint speaks of.
-use Rattle.std.specs.Prelude.{ℕ, zero, suc, Bool, true, false, not, ◌&&◌, ◌==◌, List, [], ◌∷◌, length, map, flat_map, slice_get, Option, None, Some}
+use Rattle.std.specs.Prelude.{ℕ, zero, suc, Bool, true, false, not, ◌&&◌, ◌==◌, List, [], ◌∷◌, length, map, flat_map}
+use Rattle.std.specs.Prelude.{slice_get, Option, None, Some}
 use Rattle.std.specs.List.{filter, list_all, list_any, position_or_len}
 use Rattle.vc_syntax_terms.specs.declared.tree.Object.{Object}
 use Rattle.vc_syntax_terms.specs.declared.tree.ObjectKind.{ObjectKind}
@@ -17,7 +18,8 @@ use Rattle.vc_compile_plan.specs.Sites.{is_called}
 -- all tuples of so many of the numbers, in ascending order, compared from the first
 abbrev pub tuples_from : List ℕ → ℕ → List (List ℕ)
 tuples_from numbers zero = [] ∷ []
-tuples_from numbers (suc n) = let shorter = tuples_from numbers n in flat_map (λ i. map (λ tuple. i ∷ tuple) shorter) numbers
+tuples_from numbers (suc n) = let shorter = tuples_from numbers n in
+    flat_map (λ i. map (λ tuple. i ∷ tuple) shorter) numbers
 
 -- whether both are there and the same
 abbrev pub are_same : Option ℕ → Option ℕ → Bool
@@ -26,7 +28,8 @@ are_same (Some a) b = is_number a b
 
 -- whether an object is one of the class, or of the material, named
 abbrev pub is_of_kind : Layout → ObjectKind → Option ℕ → Bool
-is_of_kind layout (objects.Class leaf) object = are_same (class_named layout.model leaf.name) (class_of layout.model object)
+is_of_kind layout (objects.Class leaf) object =
+    are_same (class_named layout.model leaf.name) (class_of layout.model object)
 is_of_kind layout (objects.Material leaf) object = are_same (object_named layout.model leaf.text) object
 
 -- whether each slot of a tuple has an object as its place in the constraint says
@@ -60,7 +63,8 @@ is_part_met layout declared tuple (Related relation) = true
 is_part_met layout declared tuple (Specified operand) = true
 
 abbrev pub are_parts_met : Layout → List Object → Option Condition → List ℕ → Bool
-are_parts_met layout declared condition tuple = list_all (is_part_met layout declared tuple) (if_there joined_parts condition)
+are_parts_met layout declared condition tuple =
+    list_all (is_part_met layout declared tuple) (if_there joined_parts condition)
 
 -- whether a tuple matches the constraint
 abbrev pub matches : Layout → Constraint → List ℕ → Bool

@@ -32,7 +32,8 @@ net_constraints model (Some object) = flat_map (λ net. constraints_in (slice_ge
 
 -- the constraints of the nets of all objects that have a slot, each once, in the order of the model
 abbrev pub is_active : Layout → ℕ → Bool
-is_active layout d = list_any (λ slot. is_one_of (net_constraints layout.model (object_of_slot layout slot)) d) layout.slots
+is_active layout d =
+    list_any (λ slot. is_one_of (net_constraints layout.model (object_of_slot layout slot)) d) layout.slots
 
 abbrev pub active_constraints : Layout → List ℕ
 active_constraints layout = filter (is_active layout) (numbers_below (length layout.model.dependencies))
@@ -59,7 +60,8 @@ uses_of_object model (Some object) =
 
 -- whether a dependency is used
 abbrev pub stands_somewhere : Layout → ℕ → Bool
-stands_somewhere layout d = list_any (λ slot. is_one_of (uses_of_object layout.model (object_of_slot layout slot)) d) layout.slots
+stands_somewhere layout d =
+    list_any (λ slot. is_one_of (uses_of_object layout.model (object_of_slot layout slot)) d) layout.slots
 
 abbrev pub is_used : Layout → ℕ → Bool
 is_used layout d = is_active layout d || stands_somewhere layout d

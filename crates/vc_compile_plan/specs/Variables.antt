@@ -1,5 +1,6 @@
 -- Variables and sets: those of each slot, in class order.
-use Rattle.std.specs.Prelude.{ℕ, suc, Bool, false, not, ◌&&◌, ◌==◌, List, [], ◌∷◌, ◌++◌, map, slice_get, Option, None, Some}
+use Rattle.std.specs.Prelude.{ℕ, suc, Bool, false, not, ◌&&◌, ◌==◌, List, [], ◌∷◌, ◌++◌, map, slice_get, Option, None}
+use Rattle.std.specs.Prelude.{Some}
 use Rattle.std.specs.List.{filter, position_or_len}
 use Rattle.vc_model_parts.specs.declared.parts.Characteristic.{Characteristic}
 use Rattle.vc_model_parts.specs.declared.parts.Class.{Class}
@@ -34,7 +35,13 @@ restrictable_in (Some c) = c.restrictable
 -- a characteristic at a slot; all slots have the domain of the characteristic's own number
 abbrev pub var_at : Model → ℕ → ℕ → Var
 var_at model i c =
-    record { slot = i; characteristic = c; domain = c; restrictable = restrictable_in (slice_get model.characteristics c) }
+    record {
+      slot = i;
+      characteristic = c;
+      domain = c;
+      restrictable =
+          restrictable_in (slice_get model.characteristics c);
+    }
 
 abbrev pub set_at : ℕ → ℕ → TextSet
 set_at i c = record { slot = i; characteristic = c; domain = c }

@@ -8,6 +8,3 @@ pub mod standings;
 
 pub use fault::CompileFault;
 pub use standings::Standing;
-
-#[cfg(test)]
-mod tests;

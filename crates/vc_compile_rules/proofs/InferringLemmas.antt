@@ -1,5 +1,6 @@
 -- Numbers that are met one after another are those met, each once.
-use Rattle.std.proofs.Common.{◌≡◌, ℕ, Bool, true, false, cond, not, ◌&&◌, ◌||◌, ◌==◌, List, [], ◌∷◌, ◌++◌, refl, sym, ap, ◌∙◌, arith}
+use Rattle.std.proofs.Common.{◌≡◌, ℕ, Bool, true, false, cond, not, ◌&&◌, ◌||◌, ◌==◌, List, [], ◌∷◌, ◌++◌, refl, sym}
+use Rattle.std.proofs.Common.{ap, ◌∙◌, arith}
 use Rattle.std.specs.List.{filter, list_any}
 use Rattle.std.proofs.lemmas.Bool.Decides.{nat_tests}
 use Rattle.std.proofs.lemmas.List.{append_assoc, append-nil}
@@ -49,8 +50,10 @@ distinct_filter q (x ∷ xs) = by (q x) refl (distinct_filter q xs)
     others numbers = filter (λ m. not (x == m)) numbers
 
     by : (b : Bool) → q x ≡ b → distinct (filter q xs) ≡ filter q (distinct xs)
-        → distinct (cond b (x ∷ filter q xs) (filter q xs)) ≡ cond b (x ∷ filter q (others (distinct xs))) (filter q (others (distinct xs)))
-    by true is rest = ap (λ ns. x ∷ others ns) rest ∙ ap (λ ns. x ∷ ns) (filter_swap (λ m. not (x == m)) q (distinct xs))
+        → distinct (cond b (x ∷ filter q xs) (filter q xs))
+        ≡ cond b (x ∷ filter q (others (distinct xs))) (filter q (others (distinct xs)))
+    by true is rest = ap (λ ns. x ∷ others ns) rest
+        ∙ ap (λ ns. x ∷ ns) (filter_swap (λ m. not (x == m)) q (distinct xs))
     by false is rest = rest ∙ filter_both (λ m. not (x == m)) q q (λ other. dropped q x other is) (distinct xs)
 
 -- what is new, once a number more is known
@@ -70,7 +73,8 @@ still_new known n other =
 
 new_numbers : (known more : List ℕ) → with_numbers known more ≡ known ++ distinct (filter (is_new known) more)
 new_numbers known [] = sym (append-nil known)
-new_numbers known (n ∷ more) = by (list_any (λ m. n == m) known) (new_numbers known more) (new_numbers (known ++ n ∷ []) more)
+new_numbers known (n ∷ more) =
+    by (list_any (λ m. n == m) known) (new_numbers known more) (new_numbers (known ++ n ∷ []) more)
   where
     by : (b : Bool) → with_numbers known more ≡ known ++ distinct (filter (is_new known) more)
         → with_numbers (known ++ n ∷ []) more ≡ (known ++ n ∷ []) ++ distinct (filter (is_new (known ++ n ∷ [])) more)

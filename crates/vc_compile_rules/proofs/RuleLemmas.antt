@@ -1,5 +1,6 @@
 -- Rules that come one list of drafts behind another, and the room that they take.
-use Rattle.std.proofs.Common.{◌≡◌, ℕ, suc, ◌+◌, ◌-◌, ◌<◌, ◌≤◌, List, [], ◌∷◌, ◌++◌, length, drop, get_or, map, refl, sym, ap, subst, ◌∙◌, arith, flat_map, length-append, Option, None, Some, option_map}
+use Rattle.std.proofs.Common.{◌≡◌, ℕ, suc, ◌+◌, ◌-◌, ◌<◌, ◌≤◌, List, [], ◌∷◌, ◌++◌, length, drop, get_or, map, refl}
+use Rattle.std.proofs.Common.{sym, ap, subst, ◌∙◌, arith, flat_map, length-append, Option, None, Some, option_map}
 use Rattle.std.specs.List.{range_with_len}
 use Rattle.std.proofs.Math.Seq.{drop-cons}
 use Rattle.std.proofs.lemmas.List.FromFn.{length-map-range_with_len}
@@ -8,7 +9,8 @@ use Rattle.vc_compile_plan.specs.Conditions.{condition_at}
 use Rattle.vc_compile_plan.specs.Layouts.{Layout}
 use Rattle.vc_compile_plan.specs.Numbering.{rule_brings, rule_from}
 use Rattle.vc_compile_plan.specs.Refusals.{most_rules}
-use Rattle.vc_compile_plan.specs.Rules.{Draft, drafts_of_slot, last, line_drafts_from, own_draft, restriction_drafts, slot_drafts_from}
+use Rattle.vc_compile_plan.specs.Rules.{Draft, drafts_of_slot, last, line_drafts_from, own_draft, restriction_drafts}
+use Rattle.vc_compile_plan.specs.Rules.{slot_drafts_from}
 use Rattle.vc_compile_plan.specs.Places.{Asked}
 use Rattle.vc_compile_plan.specs.Sites.{Site}
 use Rattle.vc_compile_plan.specs.declared.standings.Standing.{Standing}
@@ -68,7 +70,8 @@ pub too_many_if : (before now : Numbered Rule) (all rest : List Draft) → with_
     → most_rules ≤ length now.items → 0 < length rest → most_rules < length before.items + length all
 too_many_if before now all rest same full some = let sum = left_to_add before now all rest same in omega arith
 
-pub restrictions_are_counted : (layout : Layout) (d : ℕ) (constraint : syntax.Constraint) (tuple : List ℕ) (n : ℕ) (restrictions : List syntax.Restriction)
+pub restrictions_are_counted : (layout : Layout) (d : ℕ) (constraint : syntax.Constraint) (tuple : List ℕ) (n : ℕ)
+    (restrictions : List syntax.Restriction)
     → length (restriction_drafts layout d constraint tuple n restrictions) ≡ length restrictions
 restrictions_are_counted layout d constraint tuple n [] = refl
 restrictions_are_counted layout d constraint tuple n (restriction ∷ restrictions) =
@@ -77,7 +80,8 @@ restrictions_are_counted layout d constraint tuple n (restriction ∷ restrictio
 pub selections_are_counted : (layout : Layout) (site : Site) (i n : ℕ) (selections : List Asked)
     → length (line_drafts_from layout site i n selections) ≡ length selections
 selections_are_counted layout site i n [] = refl
-selections_are_counted layout site i n (asked ∷ selections) = ap suc (selections_are_counted layout site i (suc n) selections)
+selections_are_counted layout site i n (asked ∷ selections) =
+    ap suc (selections_are_counted layout site i (suc n) selections)
 
 -- the numbers from one on begin with it
 pub range_step : (g n : ℕ) → g < n → range_with_len g (n - g) ≡ g ∷ range_with_len (g + 1) (n - (g + 1))
@@ -99,7 +103,8 @@ some_left v n below =
     let count = length-map-range_with_len (λ w. own_draft (last w)) v (n - v) in
     omega (below, count, arith)
 
-drop_first : {X : Type 0} (xs : List X) (i : ℕ) (x : X) → i < length xs → x ≡ get_or xs i x → drop i xs ≡ x ∷ drop (i + 1) xs
+drop_first : {X : Type 0} (xs : List X) (i : ℕ) (x : X) → i < length xs → x ≡ get_or xs i x
+    → drop i xs ≡ x ∷ drop (i + 1) xs
 drop_first xs i x inside is =
     let next : suc i ≡ i + 1 = omega arith in
     drop-cons xs i x inside ∙ ap (λ y. y ∷ drop (suc i) xs) (sym is) ∙ ap (λ n. x ∷ drop n xs) next
@@ -111,19 +116,23 @@ first_of_all f xs i x inside is = ap (flat_map f) (drop_first xs i x inside is)
 
 pub first_slot : (layout : Layout) (xs : List Standing) (i : ℕ) (d : Standing) → i < length xs
     → slot_drafts_from layout i (drop i xs)
-    ≡ drafts_of_slot layout i (get_or xs i d) (get_or xs i d).parent ++ slot_drafts_from layout (i + 1) (drop (i + 1) xs)
+    ≡ drafts_of_slot layout i (get_or xs i d) (get_or xs i d).parent
+    ++ slot_drafts_from layout (i + 1) (drop (i + 1) xs)
 first_slot layout xs i d inside =
     let next : suc i ≡ i + 1 = omega arith in
     ap (slot_drafts_from layout i) (drop-cons xs i d inside)
-    ∙ ap (λ n. drafts_of_slot layout i (get_or xs i d) (get_or xs i d).parent ++ slot_drafts_from layout n (drop n xs)) next
+    ∙ ap (λ n. drafts_of_slot layout i (get_or xs i d) (get_or xs i d).parent ++ slot_drafts_from layout n (drop n xs))
+    next
 
 -- what came when some drafts were to be added, where the whole list has them next
-pub adds_too_many : (room : Room) (before now after : Numbered Rule) (all first rest : List Draft) → room ≡ rooms.TooMany → Adds room now first after
+pub adds_too_many : (room : Room) (before now after : Numbered Rule) (all first rest : List Draft)
+    → room ≡ rooms.TooMany → Adds room now first after
     → with_rules now (first ++ rest) ≡ with_rules before all → most_rules < length before.items + length all
 adds_too_many room before now after all first rest is added same =
     too_many_in_all before now all first rest same (subst (λ r. Adds r now first after) is added)
 
-pub adds_enough : (room : Room) (before now after : Numbered Rule) (all first rest : List Draft) → room ≡ rooms.Enough → Adds room now first after
+pub adds_enough : (room : Room) (before now after : Numbered Rule) (all first rest : List Draft) → room ≡ rooms.Enough
+    → Adds room now first after
     → with_rules now (first ++ rest) ≡ with_rules before all → with_rules after rest ≡ with_rules before all
 adds_enough room before now after all first rest is added same =
     step_over before now after all first rest same (subst (λ r. Adds r now first after) is added)

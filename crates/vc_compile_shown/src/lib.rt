@@ -9,6 +9,3 @@ pub mod requirements;
 pub use guards::push_guards;
 pub use items::{push_lines, push_operations};
 pub use requirements::push_requirements;
-
-#[cfg(test)]
-mod tests;

@@ -1,5 +1,6 @@
 -- A place with its number, put last into what has numbers.
-use Rattle.std.proofs.Common.{◌≡◌, ℕ, Bool, true, false, cond, ◌&&◌, ◌==◌, List, [], ◌∷◌, ◌++◌, refl, ap, ◌∙◌, ◌≤◌, arith, is_some, length, nat_lt, not, Option, Some, None, if◌then◌else◌}
+use Rattle.std.proofs.Common.{◌≡◌, ℕ, Bool, true, false, cond, ◌&&◌, ◌==◌, List, [], ◌∷◌, ◌++◌, refl, ap, ◌∙◌, ◌≤◌}
+use Rattle.std.proofs.Common.{arith, is_some, length, nat_lt, not, Option, Some, None, if◌then◌else◌}
 use Rattle.std.specs.List.{position, position_or_len}
 use Rattle.std.specs.Option.{option_or}
 use Rattle.std.proofs.lemmas.Bool.Decides.{nat_tests}
@@ -8,12 +9,14 @@ use Rattle.std.specs.Map.{lookup}
 use Rattle.vc_compile_sites.specs.declared.numbers.Spot.{Spot}
 
 -- what is looked for in two lists is found in the first, or else in the second
-lookup_join : {K V : Type 0} (test : K → Bool) (first second : List (K × V)) → lookup test (first ++ second) ≡ option_or (lookup test first) (lookup test second)
+lookup_join : {K V : Type 0} (test : K → Bool) (first second : List (K × V))
+    → lookup test (first ++ second) ≡ option_or (lookup test first) (lookup test second)
 lookup_join test [] second = refl
 lookup_join test (pair ∷ pairs) second = by (test pair.0) (lookup_join test pairs second)
   where
     by : (b : Bool) → lookup test (pairs ++ second) ≡ option_or (lookup test pairs) (lookup test second)
-        → cond b (Some pair.1) (lookup test (pairs ++ second)) ≡ option_or (cond b (Some pair.1) (lookup test pairs)) (lookup test second)
+        → cond b (Some pair.1) (lookup test (pairs ++ second))
+        ≡ option_or (cond b (Some pair.1) (lookup test pairs)) (lookup test second)
     by true more = refl
     by false more = more
 

@@ -19,6 +19,3 @@ pub use places::{
 };
 pub use site::Site;
 pub use terms::{literal_of, lone_of, term_at};
-
-#[cfg(test)]
-mod tests;

@@ -6,7 +6,8 @@ use Rattle.vc_model_parts.specs.declared.parts.BillItem.{BillItem}
 use Rattle.vc_model_parts.specs.declared.parts.Model.{Model}
 use Rattle.vc_model_parts.specs.declared.parts.Object.{Object}
 use Rattle.vc_compile_plan.specs.Slots.{bill_in, object_in, has_levels_below, is_too_deep}
-use Rattle.vc_compile_slots.specs.Levels.{is_marked, is_marked_if, brings_object, brings_marked, with_components, with_marked}
+use Rattle.vc_compile_slots.specs.Levels.{is_marked, is_marked_if, brings_object, brings_marked, with_components}
+use Rattle.vc_compile_slots.specs.Levels.{with_marked}
 
 -- a test of the object of a number
 abbrev in_object : (Object → Bool) → Option Object → Bool
@@ -32,16 +33,19 @@ line_there None rest later e = e
 line_there (Some c) rest later e = refl
 
 bill_marked : (marks : List Bool) (test : ℕ → Bool) → ((c : ℕ) → is_marked marks c ≡ test c)
-    → (bill : List BillItem) → list_any (brings_marked marks) bill ≡ list_any test (filter_map (λ line. object_in line.component) bill)
+    → (bill : List BillItem)
+    → list_any (brings_marked marks) bill ≡ list_any test (filter_map (λ line. object_in line.component) bill)
 bill_marked marks test same [] = refl
 bill_marked marks test same (line ∷ bill) =
     line_marked marks test same (object_in line.component) (filter_map (λ line. object_in line.component) bill)
     (list_any (brings_marked marks) bill) (bill_marked marks test same bill)
 
-bill_there : (bill : List BillItem) → list_any brings_object bill ≡ list_any (λ c. true) (filter_map (λ line. object_in line.component) bill)
+bill_there : (bill : List BillItem)
+    → list_any brings_object bill ≡ list_any (λ c. true) (filter_map (λ line. object_in line.component) bill)
 bill_there [] = refl
 bill_there (line ∷ bill) =
-    line_there (object_in line.component) (filter_map (λ line. object_in line.component) bill) (list_any brings_object bill) (bill_there bill)
+    line_there (object_in line.component) (filter_map (λ line. object_in line.component) bill)
+    (list_any brings_object bill) (bill_there bill)
 
 object_marked : (marks : List Bool) (test : ℕ → Bool) → ((c : ℕ) → is_marked marks c ≡ test c)
     → (found : Option Object)
@@ -58,7 +62,9 @@ object_there (Some object) = bill_there object.bill
 
 -- a level more
 first_level : (model : Model) (o : ℕ) → is_marked (with_components model.objects) o ≡ has_levels_below model 1 o
-first_level model o = rw (marked_object (λ object. list_any brings_object object.bill) model.objects o) (object_there (slice_get model.objects o))
+first_level model o =
+    rw (marked_object (λ object. list_any brings_object object.bill) model.objects o)
+    (object_there (slice_get model.objects o))
 
 next_level : (model : Model) (n : ℕ) (marks : List Bool) → ((o : ℕ) → is_marked marks o ≡ has_levels_below model n o)
     → (o : ℕ) → is_marked (with_marked marks model.objects) o ≡ has_levels_below model (suc n) o
@@ -67,7 +73,8 @@ next_level model n marks same o =
     (object_marked marks (has_levels_below model n) same (slice_get model.objects o))
 
 four_levels : (model : Model)
-    → is_marked (with_marked (with_marked (with_marked (with_components model.objects) model.objects) model.objects) model.objects) model.root
+    → is_marked (with_marked (with_marked (with_marked (with_components model.objects) model.objects) model.objects)
+    model.objects) model.root
     ≡ is_too_deep model
 four_levels model =
     next_level model 3 _ (next_level model 2 _ (next_level model 1 _ (first_level model))) model.root

@@ -10,5 +10,3 @@ pub use standing::{slots_of, standings_of};
 pub use variables::{sets_of, vars_of};
 
 mod bills;
-#[cfg(test)]
-mod tests;

@@ -10,6 +10,3 @@ pub use characteristics::characteristics_of;
 pub use copies::{copy_word, dependency_names};
 pub use objects::objects_of;
 pub use tables::tables_of;
-
-#[cfg(test)]
-mod tests;

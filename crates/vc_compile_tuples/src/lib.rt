@@ -8,6 +8,3 @@ pub mod tuples;
 
 pub use asked::{Asked, asked_of};
 pub use tuples::tuples_of;
-
-#[cfg(test)]
-mod tests;

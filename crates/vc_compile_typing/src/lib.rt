@@ -9,6 +9,3 @@ pub mod uses;
 
 pub use finding::Found;
 pub use slots::type_fault;
-
-#[cfg(test)]
-mod tests;

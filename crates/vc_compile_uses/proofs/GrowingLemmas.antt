@@ -92,7 +92,8 @@ new_texts known (text ∷ more) = by (is_text_of known text) (new_texts known mo
         unlisted ∙ append_assoc known (text ∷ []) _
         ∙ ap (λ texts. known ++ text ∷ texts)
         (ap each_once
-        (filter_both (λ other. not (is_text_of known other)) (λ other. not (bytes_eq text other)) _ (still_new known text) more)
+        (filter_both (λ other. not (is_text_of known other)) (λ other. not (bytes_eq text other)) _
+        (still_new known text) more)
         ∙ each_once_filter (λ other. not (bytes_eq text other)) (fresh more))
 
 -- a text has a place where it is there

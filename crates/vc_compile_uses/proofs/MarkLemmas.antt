@@ -26,7 +26,8 @@ mark_next f xs i d before after all inside marked so_far =
     ∙ ap (λ ys. mark_all before (flat_map f ys)) (cons_there xs i d inside)
     ∙ so_far
   where
-    cons_there : {X : Type 0} (xs : List X) (i : ℕ) (d : X) → i < length xs → get_or xs i d ∷ drop (i + 1) xs ≡ drop i xs
+    cons_there : {X : Type 0} (xs : List X) (i : ℕ) (d : X) → i < length xs
+        → get_or xs i d ∷ drop (i + 1) xs ≡ drop i xs
     cons_there xs i d inside =
         let next : i + 1 ≡ suc i = omega arith in
         ap (λ n. get_or xs i d ∷ drop n xs) next ∙ sym (drop-cons xs i d inside)
@@ -71,7 +72,8 @@ all_marked marks (m ∷ ds) d inside =
     ∙ or_shift (m == d) (is_one_of ds d) (get_or marks d false)
 
 -- marks that a test tells
-marked_are : (p : ℕ → Bool) (n : ℕ) (marks : List Bool) → ((i : ℕ) → i < length marks → get_or marks i false ≡ p (n + i))
+marked_are : (p : ℕ → Bool) (n : ℕ) (marks : List Bool)
+    → ((i : ℕ) → i < length marks → get_or marks i false ≡ p (n + i))
     → marked_from n marks ≡ filter p (range_with_len n (length marks))
 marked_are p n [] told = refl
 marked_are p n (mark ∷ marks) told =

@@ -9,5 +9,3 @@ pub use uses::{active_constraints, net_constraints, used_dependencies};
 
 mod marks;
 mod mentions;
-#[cfg(test)]
-mod tests;

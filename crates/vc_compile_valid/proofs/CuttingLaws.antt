@@ -1,5 +1,6 @@
 -- What all cuts leave of the grains of a list: they lie in it, ascend, keep its decimals and all of its numbers.
-use Rattle.std.proofs.Common.{◌≡◌, ℕ, zero, suc, ◌-◌, ◌<◌, Bool, true, false, ◌&&◌, List, [], ◌∷◌, ◌++◌, Some, refl, sym, ap, ◌∙◌, arith, ℤ, pos, ◌+ℤ◌, inl, inr, unsigned_abs, if◌then◌else◌}
+use Rattle.std.proofs.Common.{◌≡◌, ℕ, zero, suc, ◌-◌, ◌<◌, Bool, true, false, ◌&&◌, List, [], ◌∷◌, ◌++◌, Some, refl}
+use Rattle.std.proofs.Common.{sym, ap, ◌∙◌, arith, ℤ, pos, ◌+ℤ◌, inl, inr, unsigned_abs, if◌then◌else◌}
 use Rattle.std.specs.Prelude.{◌^◌, slice_get}
 use Rattle.std.specs.List.{list_all, list_any}
 use Rattle.std.specs.Int.{int_max, int_min}
@@ -9,7 +10,9 @@ use Rattle.std.proofs.lemmas.Bool.{and_from, and_parts, lt-ltb, ltb-true, or_cas
 use Rattle.std.proofs.lemmas.Int.{clamps, ints}
 use Rattle.vc_value.specs.declared.decimal.Dec.{Dec}
 use Rattle.vc_value.specs.declared.grains.Grain.{Grain}
-use Rattle.vc_value.specs.Grains.{cut_at, has_decimals, hold, holds, interval, is_ascending, is_below, is_multiple, is_ordered, next_above, next_below, part_above, part_at, part_below, part_between, parts_of, unit_of}
+use Rattle.vc_value.specs.Grains.{cut_at, has_decimals, hold, holds, interval, is_ascending, is_below, is_multiple}
+use Rattle.vc_value.specs.Grains.{is_ordered, next_above, next_below, part_above, part_at, part_below, part_between}
+use Rattle.vc_value.specs.Grains.{parts_of, unit_of}
 use Rattle.vc_value.proofs.CutLaws.{cut_keeps}
 use Rattle.vc_value.proofs.CutLemmas.{all_append, cut_ascending, part_all, part_at_all}
 use Rattle.vc_value.proofs.PowerLemmas.{ten_pow_pos}
@@ -19,7 +22,8 @@ use Rattle.vc_plan.specs.Ranges.{grain_there, is_stored}
 use Rattle.vc_plan.specs.declared.conditions.Piece.TheVariants.{Stretch}
 use Rattle.vc_compile_plan.specs.Cuts.{cut_all}
 use Rattle.vc_compile_valid.proofs.ListLaws.{all_flat, any_there, from_each, passes_there, some_there}
-use Rattle.vc_compile_valid.proofs.MultipleLaws.{above_multiple, below_multiple, max_multiple, min_multiple, more_multiple, multiples_apart}
+use Rattle.vc_compile_valid.proofs.MultipleLaws.{above_multiple, below_multiple, max_multiple, min_multiple}
+use Rattle.vc_compile_valid.proofs.MultipleLaws.{more_multiple, multiples_apart}
 
 -- what holds of each interval within a grain holds of its parts
 abbrev pub Goes : (Grain → Bool) → Grain → Type 0
@@ -33,13 +37,16 @@ max_above a b = grind (arith, ints, clamps)
 min_below : (a b : ℤ) → le_z (int_min a b) a ≡ true
 min_below a b = grind (arith, ints, clamps)
 
-between_pass : (p : Grain → Bool) (low high : ℤ) (grain : Grain) → Goes p grain → list_all p (part_between low high grain) ≡ true
+between_pass : (p : Grain → Bool) (low high : ℤ) (grain : Grain) → Goes p grain
+    → list_all p (part_between low high grain) ≡ true
 between_pass p low high grain of =
     part_all p low high grain
-    (λ ordered. of (int_max grain.low.millionths low) (int_min grain.high.millionths high) (max_above grain.low.millionths low) ordered
+    (λ ordered. of (int_max grain.low.millionths low) (int_min grain.high.millionths high)
+    (max_above grain.low.millionths low) ordered
     (min_below grain.high.millionths high))
 
-pub parts_pass : (p : Grain → Bool) (unit : ℕ) (at : ℤ) (grain : Grain) → Goes p grain → list_all p (parts_of unit at grain) ≡ true
+pub parts_pass : (p : Grain → Bool) (unit : ℕ) (at : ℤ) (grain : Grain) → Goes p grain
+    → list_all p (parts_of unit at grain) ≡ true
 parts_pass p unit at grain of =
     all_append p (part_below unit at grain ++ part_at unit at grain) (part_above unit at grain)
     (all_append p (part_below unit at grain) (part_at unit at grain)
@@ -48,7 +55,8 @@ parts_pass p unit at grain of =
     (between_pass p (next_above unit at) grain.high.millionths grain of)
 
 -- and of all that is cut
-pub cuts_pass : (p : Grain → Bool) → ((grain : Grain) → p grain ≡ true → Goes p grain) → (decimals : ℕ) (grains : List Grain)
+pub cuts_pass : (p : Grain → Bool) → ((grain : Grain) → p grain ≡ true → Goes p grain)
+    → (decimals : ℕ) (grains : List Grain)
     (numbers : List Dec) → list_all p grains ≡ true → list_all p (cut_all decimals grains numbers) ≡ true
 cuts_pass p of decimals grains [] h = h
 cuts_pass p of decimals grains (number ∷ numbers) h =
@@ -65,11 +73,12 @@ cuts_pass p of decimals grains (number ∷ numbers) h =
         (parts_pass p (unit_of decimals) number.millionths g (of g parts.0)) (each gs parts.1)
 
 -- numbers small enough stay so
-between : (low z high : ℤ) (m : ℕ) → le_z low z ≡ true → le_z z high ≡ true → unsigned_abs low < m → unsigned_abs high < m
+pub between : (low z high : ℤ) (m : ℕ) → le_z low z ≡ true → le_z z high ≡ true → unsigned_abs low < m
+    → unsigned_abs high < m
     → unsigned_abs z < m
 between low z high m p q r s = grind (arith, ints)
 
-le_le : (a b c : ℤ) → le_z a b ≡ true → le_z b c ≡ true → le_z a c ≡ true
+pub le_le : (a b c : ℤ) → le_z a b ≡ true → le_z b c ≡ true → le_z a c ≡ true
 le_le a b c p q = grind (arith, ints)
 
 stored_between : (grain : Grain) (z : ℤ) → grain_there grain ≡ true → le_z grain.low.millionths z ≡ true
@@ -78,7 +87,8 @@ stored_between grain z h from to =
     let ends = and_parts (is_stored grain.low) (is_stored grain.high) h in
     lt-ltb (unsigned_abs z) (10 ^ 15)
     (between grain.low.millionths z grain.high.millionths (10 ^ 15) from to
-    (ltb-true (unsigned_abs grain.low.millionths) (10 ^ 15) ends.0) (ltb-true (unsigned_abs grain.high.millionths) (10 ^ 15) ends.1))
+    (ltb-true (unsigned_abs grain.low.millionths) (10 ^ 15) ends.0)
+    (ltb-true (unsigned_abs grain.high.millionths) (10 ^ 15) ends.1))
 
 pub cuts_there : (decimals : ℕ) (grains : List Grain) (numbers : List Dec) → list_all grain_there grains ≡ true
     → list_all grain_there (cut_all decimals grains numbers) ≡ true
@@ -91,15 +101,19 @@ cuts_there decimals grains numbers h =
 
 -- each lies within an entry
 within_part : (entries : List Grain) (grain : Grain) (from to : ℤ) → is_within entries grain ≡ true
-    → le_z grain.low.millionths from ≡ true → le_z to grain.high.millionths ≡ true → is_within entries (interval from to) ≡ true
+    → le_z grain.low.millionths from ≡ true → le_z to grain.high.millionths ≡ true
+    → is_within entries (interval from to) ≡ true
 within_part [] grain from to h low high = absurd (cc)
 within_part (e ∷ entries) grain from to h low high =
     elim (or_cases (is_part (Stretch grain) (Stretch e)) (is_within entries grain) h) [
       | inl here ↦
-          let parts = and_parts (le_z e.low.millionths grain.low.millionths) (le_z grain.high.millionths e.high.millionths) here in
+          let parts
+          = and_parts (le_z e.low.millionths grain.low.millionths) (le_z grain.high.millionths e.high.millionths)
+          here in
           or_left (is_part (Stretch (interval from to)) (Stretch e)) (is_within entries (interval from to))
           (and_from (le_z e.low.millionths from) (le_z to e.high.millionths)
-          (le_le e.low.millionths grain.low.millionths from parts.0 low) (le_le to grain.high.millionths e.high.millionths high parts.1))
+          (le_le e.low.millionths grain.low.millionths from parts.0 low)
+          (le_le to grain.high.millionths e.high.millionths high parts.1))
       | inr later ↦ or_right (is_part (Stretch (interval from to)) (Stretch e)) (is_within entries (interval from to))
           (within_part entries grain from to later low high)
     ]
@@ -115,7 +129,8 @@ within_itself grain =
 pub cuts_within : (decimals : ℕ) (entries : List Grain) (numbers : List Dec)
     → list_all (is_within entries) (cut_all decimals entries numbers) ≡ true
 cuts_within decimals entries numbers =
-    cuts_pass (is_within entries) (λ grain k from to low ordered high. within_part entries grain from to k low high) decimals entries numbers
+    cuts_pass (is_within entries) (λ grain k from to low ordered high. within_part entries grain from to k low high)
+    decimals entries numbers
     (from_each (is_within entries) entries
     (λ k e at. any_there (λ entry. is_part (Stretch e) (Stretch entry)) entries k e at (within_itself e)))
 
@@ -153,9 +168,11 @@ parts_ends decimals at grain ends =
     let parts = and_parts (has_decimals decimals grain.low) (has_decimals decimals grain.high) ends in
     all_append (has_ends decimals) (part_below unit at grain ++ part_at unit at grain) (part_above unit at grain)
     (all_append (has_ends decimals) (part_below unit at grain) (part_at unit at grain)
-    (between_ends decimals grain.low.millionths (next_below unit at) grain ends parts.0 (below_multiple unit at (some_unit decimals)))
+    (between_ends decimals grain.low.millionths (next_below unit at) grain ends parts.0
+    (below_multiple unit at (some_unit decimals)))
     (at_ends decimals at grain ends))
-    (between_ends decimals (next_above unit at) grain.high.millionths grain ends (above_multiple unit at (some_unit decimals)) parts.1)
+    (between_ends decimals (next_above unit at) grain.high.millionths grain ends
+    (above_multiple unit at (some_unit decimals)) parts.1)
 
 pub cuts_ends : (decimals : ℕ) (grains : List Grain) (numbers : List Dec) → list_all (has_ends decimals) grains ≡ true
     → list_all (has_ends decimals) (cut_all decimals grains numbers) ≡ true
@@ -192,27 +209,32 @@ cuts_hold n decimals grains (number ∷ numbers) whole =
 past : (low high next n : ℤ) → (le_z low n && le_z n high) ≡ true → lt_z high next ≡ true → le_z next n ≡ false
 past low high next n p q = grind (arith, ints)
 
-none_held : (g : Grain) (grains : List Grain) (k : ℕ) (h : Grain) (n : Dec) → list_all (λ later. is_below later.low g) grains ≡ true
+none_held : (g : Grain) (grains : List Grain) (k : ℕ) (h : Grain) (n : Dec)
+    → list_all (λ later. is_below later.low g) grains ≡ true
     → slice_get grains k ≡ Some h → holds n g ≡ true → holds n h ≡ true → ⊥
 none_held g grains k h n below at first second =
     let apart = passes_there (λ later. is_below later.low g) grains k h below at in
     let parts = and_parts (le_z h.low.millionths n.millionths) (le_z n.millionths h.high.millionths) second in
-    let clash : true ≡ false = sym parts.0 ∙ past g.low.millionths g.high.millionths h.low.millionths n.millionths first apart in cc
+    let clash : true ≡ false
+    = sym parts.0 ∙ past g.low.millionths g.high.millionths h.low.millionths n.millionths first apart in cc
 
 pub one_holder : (grains : List Grain) (j k : ℕ) (a b : Grain) (n : Dec) → is_ascending grains ≡ true
     → slice_get grains j ≡ Some a → slice_get grains k ≡ Some b → holds n a ≡ true → holds n b ≡ true → a ≡ b
 one_holder [] j k a b n ascend e f h i = absurd (cc)
 one_holder (g ∷ grains) zero zero a b n ascend e f h i = cc
 one_holder (g ∷ grains) zero (suc k) a b n ascend e f h i =
-    let rest = and_parts (is_ordered g) (list_all (λ later. is_below later.low g) grains && is_ascending grains) ascend in
+    let rest
+    = and_parts (is_ordered g) (list_all (λ later. is_below later.low g) grains && is_ascending grains) ascend in
     let below = and_parts (list_all (λ later. is_below later.low g) grains) (is_ascending grains) rest.1 in
     let same : g ≡ a = cc in absurd (none_held g grains k b n below.0 f (ap (holds n) same ∙ h) i)
 one_holder (g ∷ grains) (suc j) zero a b n ascend e f h i =
-    let rest = and_parts (is_ordered g) (list_all (λ later. is_below later.low g) grains && is_ascending grains) ascend in
+    let rest
+    = and_parts (is_ordered g) (list_all (λ later. is_below later.low g) grains && is_ascending grains) ascend in
     let below = and_parts (list_all (λ later. is_below later.low g) grains) (is_ascending grains) rest.1 in
     let same : g ≡ b = cc in absurd (none_held g grains j a n below.0 e (ap (holds n) same ∙ i) h)
 one_holder (g ∷ grains) (suc j) (suc k) a b n ascend e f h i =
-    let rest = and_parts (is_ordered g) (list_all (λ later. is_below later.low g) grains && is_ascending grains) ascend in
+    let rest
+    = and_parts (is_ordered g) (list_all (λ later. is_below later.low g) grains && is_ascending grains) ascend in
     let below = and_parts (list_all (λ later. is_below later.low g) grains) (is_ascending grains) rest.1 in
     one_holder grains j k a b n below.1 e f h i
 
@@ -221,7 +243,8 @@ pub ordered_there : (grains : List Grain) (k : ℕ) (g : Grain) → is_ascending
 ordered_there [] k g ascend e = absurd (cc)
 ordered_there (x ∷ grains) zero g ascend e =
     let same : x ≡ g = cc in
-    ap is_ordered (sym same) ∙ (and_parts (is_ordered x) (list_all (λ later. is_below later.low x) grains && is_ascending grains) ascend).0
+    ap is_ordered (sym same)
+    ∙ (and_parts (is_ordered x) (list_all (λ later. is_below later.low x) grains && is_ascending grains) ascend).0
 ordered_there (x ∷ grains) (suc k) g ascend e =
     ordered_there grains k g
     (and_parts (list_all (λ later. is_below later.low x) grains) (is_ascending grains)
@@ -242,7 +265,8 @@ same_low a b p q = grind (arith, ints)
 
 holds_low : (g : Grain) → is_ordered g ≡ true → holds g.low g ≡ true
 holds_low g ordered =
-    and_from (le_z g.low.millionths g.low.millionths) (le_z g.low.millionths g.high.millionths) (le_itself g.low.millionths) ordered
+    and_from (le_z g.low.millionths g.low.millionths) (le_z g.low.millionths g.high.millionths)
+    (le_itself g.low.millionths) ordered
 
 pub holds_first : (g : Grain) (grains : List Grain) → is_ascending (g ∷ grains) ≡ true → hold g.low (g ∷ grains) ≡ true
 holds_first g grains ascend =
@@ -251,21 +275,26 @@ holds_first g grains ascend =
 entry_begins : (decimals : ℕ) (entries grains : List Grain) → IsCutFrom decimals entries grains → (k : ℕ) (e : Grain)
     → slice_get entries k ≡ Some e → list_any (begins_at e.low) grains ≡ true
 entry_begins decimals entries grains cut k e at =
-    let ends = and_parts (has_decimals decimals e.low) (has_decimals decimals e.high) (passes_there (has_ends decimals) entries k e cut.entry_ends at) in
+    let ends
+    = and_parts (has_decimals decimals e.low) (has_decimals decimals e.high)
+    (passes_there (has_ends decimals) entries k e cut.entry_ends at) in
     let own = holds_low e (ordered_there entries k e cut.entries_ascend at) in
     let found = some_there (holds e.low) grains (cut.held e.low ends.0 ∙ any_there (holds e.low) entries k e at own) in
     let g = found.1 in
     let inside = some_there (λ entry. is_part (Stretch g) (Stretch entry)) entries
     (passes_there (is_within entries) grains found.0 g cut.within found.2) in
     let other = inside.1 in
-    let parts = and_parts (le_z other.low.millionths g.low.millionths) (le_z g.high.millionths other.high.millionths) inside.3 in
+    let parts
+    = and_parts (le_z other.low.millionths g.low.millionths) (le_z g.high.millionths other.high.millionths)
+    inside.3 in
     let has = and_parts (le_z g.low.millionths e.low.millionths) (le_z e.low.millionths g.high.millionths) found.3 in
     let same = one_holder entries inside.0 k other e e.low cut.entries_ascend inside.2 at
     (and_from (le_z other.low.millionths e.low.millionths) (le_z e.low.millionths other.high.millionths)
     (le_le other.low.millionths g.low.millionths e.low.millionths parts.0 has.0)
     (le_le e.low.millionths g.high.millionths other.high.millionths has.1 parts.1)) own in
     any_there (begins_at e.low) grains found.0 g found.2
-    (same_low g.low.millionths e.low.millionths has.0 (ap (λ x. le_z x.low.millionths g.low.millionths) (sym same) ∙ parts.0))
+    (same_low g.low.millionths e.low.millionths has.0
+    (ap (λ x. le_z x.low.millionths g.low.millionths) (sym same) ∙ parts.0))
 
 -- behind a grain an entry ends, or the next number is the first of one
 next_after : (a b : ℤ) → le_z a b ≡ true → lt_z a b ≡ false → int_eq b a ≡ true
@@ -297,23 +326,27 @@ goes_on_from decimals entries grains cut k g at = by (lt_z g.high.millionths ent
     next = record { millionths = g.high.millionths +ℤ pos (unit_of decimals) }
 
     ends : (has_decimals decimals g.low ≡ true) × (has_decimals decimals g.high ≡ true)
-    ends = and_parts (has_decimals decimals g.low) (has_decimals decimals g.high) (passes_there (has_ends decimals) grains k g cut.ends at)
+    ends = and_parts (has_decimals decimals g.low) (has_decimals decimals g.high)
+        (passes_there (has_ends decimals) grains k g cut.ends at)
 
     inside : (n : ℕ) × (x : Grain) × (slice_get entries n ≡ Some x) × (is_part (Stretch g) (Stretch x) ≡ true)
-    inside = some_there (λ entry. is_part (Stretch g) (Stretch entry)) entries (passes_there (is_within entries) grains k g cut.within at)
+    inside = some_there (λ entry. is_part (Stretch g) (Stretch entry)) entries
+        (passes_there (is_within entries) grains k g cut.within at)
 
     entry : Grain
     entry = inside.1
 
     parts : (le_z entry.low.millionths g.low.millionths ≡ true) × (le_z g.high.millionths entry.high.millionths ≡ true)
-    parts = and_parts (le_z entry.low.millionths g.low.millionths) (le_z g.high.millionths entry.high.millionths) inside.3
+    parts = and_parts (le_z entry.low.millionths g.low.millionths) (le_z g.high.millionths entry.high.millionths)
+        inside.3
 
     ordered : is_ordered g ≡ true
     ordered = ordered_there grains k g cut.ascend at
 
     own : holds g.high g ≡ true
     own =
-        and_from (le_z g.low.millionths g.high.millionths) (le_z g.high.millionths g.high.millionths) ordered (le_itself g.high.millionths)
+        and_from (le_z g.low.millionths g.high.millionths) (le_z g.high.millionths g.high.millionths) ordered
+        (le_itself g.high.millionths)
 
     -- the grain of the next number begins with it
     begins : (found : (n : ℕ) × (x : Grain) × (slice_get grains n ≡ Some x) × (holds next x ≡ true)) → (b : Bool)
@@ -331,13 +364,16 @@ goes_on_from decimals entries grains cut k g at = by (lt_z g.high.millionths ent
         let over = after_it g.high.millionths unit (some_unit decimals) in
         let same = one_holder grains found.0 k h g g.high cut.ascend found.2 at
         (and_from (le_z h.low.millionths g.high.millionths) (le_z g.high.millionths h.high.millionths) under
-        (le_le g.high.millionths next.millionths h.high.millionths (le_of_lt g.high.millionths next.millionths over) has.1)) own in
-        absurd (not_past g.high.millionths next.millionths h.high.millionths over has.1 (ap (λ x. x.high.millionths) same))
+        (le_le g.high.millionths next.millionths h.high.millionths (le_of_lt g.high.millionths next.millionths over)
+        has.1)) own in
+        absurd (not_past g.high.millionths next.millionths h.high.millionths over has.1
+        (ap (λ x. x.high.millionths) same))
 
     by : (b : Bool) → lt_z g.high.millionths entry.high.millionths ≡ b → goes_on decimals entries grains g ≡ true
     by false none =
         or_left (list_any (ends_at g.high) entries) (list_any (begins_at next) grains)
-        (any_there (ends_at g.high) entries inside.0 entry inside.2 (next_after g.high.millionths entry.high.millionths parts.1 none))
+        (any_there (ends_at g.high) entries inside.0 entry inside.2
+        (next_after g.high.millionths entry.high.millionths parts.1 none))
     by true more =
         let high = (and_parts (has_decimals decimals entry.low) (has_decimals decimals entry.high)
         (passes_there (has_ends decimals) entries inside.0 entry cut.entry_ends inside.2)).1 in
@@ -354,12 +390,15 @@ goes_on_from decimals entries grains cut k g at = by (lt_z g.high.millionths ent
         (begins found (int_eq found.1.low.millionths next.millionths) refl)
 
 pub cuts_are : (decimals : ℕ) (entries : List Grain) (numbers : List Dec) → is_ascending entries ≡ true
-    → list_all (has_ends decimals) entries ≡ true → are_cut_up decimals entries (cut_all decimals entries numbers) ≡ true
+    → list_all (has_ends decimals) entries ≡ true
+    → are_cut_up decimals entries (cut_all decimals entries numbers) ≡ true
 cuts_are decimals entries numbers ascend ends =
     and_from (list_all (is_within entries) grains)
-    (list_all (λ entry. list_any (begins_at entry.low) grains) entries && list_all (goes_on decimals entries grains) grains)
+    (list_all (λ entry. list_any (begins_at entry.low) grains) entries
+    && list_all (goes_on decimals entries grains) grains)
     cut.within
-    (and_from (list_all (λ entry. list_any (begins_at entry.low) grains) entries) (list_all (goes_on decimals entries grains) grains)
+    (and_from (list_all (λ entry. list_any (begins_at entry.low) grains) entries)
+    (list_all (goes_on decimals entries grains) grains)
     (from_each (λ entry. list_any (begins_at entry.low) grains) entries (entry_begins decimals entries grains cut))
     (from_each (goes_on decimals entries grains) grains (goes_on_from decimals entries grains cut)))
   where

@@ -1,5 +1,6 @@
 -- The domains of a plan are the lists of its characteristics, cut up.
-use Rattle.std.proofs.Common.{◌≡◌, ℕ, zero, suc, ◌+◌, ◌<◌, Bool, true, false, not, ◌&&◌, nat_lt, List, [], ◌∷◌, length, map, Some, refl, sym, ap, ◌∙◌, arith, subst}
+use Rattle.std.proofs.Common.{◌≡◌, ℕ, zero, suc, ◌+◌, ◌<◌, Bool, true, false, not, ◌&&◌, nat_lt, List, [], ◌∷◌, length}
+use Rattle.std.proofs.Common.{map, Some, refl, sym, ap, ◌∙◌, arith, subst}
 use Rattle.std.specs.Prelude.{◌==◌, nat_le, option_map, slice_get}
 use Rattle.std.specs.List.{filter, list_all}
 use Rattle.std.proofs.lemmas.Bool.{and_from, and_parts, eq-eqb, lt-ltb, ltb-true}
@@ -34,13 +35,15 @@ use Rattle.vc_compile_plan.specs.Variables.{members_of, var_at, vars_at, vars_of
 use Rattle.vc_compile_valid.specs.Domains.{HasDomains, HasLists}
 use Rattle.vc_compile_valid.specs.Models as models
 use Rattle.vc_compile_valid.specs.Models.{KeepsValues, all_values}
-use Rattle.vc_compile_valid.proofs.CuttingLaws.{cuts_are, cuts_ascend, cuts_ends, cuts_hold, cuts_there, has_ends, holds_first}
+use Rattle.vc_compile_valid.proofs.CuttingLaws.{cuts_are, cuts_ascend, cuts_ends, cuts_hold, cuts_there, has_ends}
+use Rattle.vc_compile_valid.proofs.CuttingLaws.{holds_first}
 use Rattle.vc_compile_valid.proofs.EachLaws.{Each, each_by_slot, each_mapped, each_of_all, each_passes}
 use Rattle.vc_compile_valid.proofs.ListLaws.{from_each, passes_there, there}
 use Rattle.vc_compile_valid.proofs.SlotwiseLaws.{below_count}
 
 -- the domain of a characteristic
-pub domain_at : (marks : List Mark) (c : ℕ) (xs : List Characteristic) (k : ℕ) (x : Characteristic) → slice_get xs k ≡ Some x
+pub domain_at : (marks : List Mark) (c : ℕ) (xs : List Characteristic) (k : ℕ) (x : Characteristic)
+    → slice_get xs k ≡ Some x
     → slice_get (domains_from marks c xs) k ≡ Some (cut_domain (cuts_at marks (c + k)) (domain_of x.values))
 domain_at marks c [] k x e = absurd (cc)
 domain_at marks c (y ∷ xs) zero x e =
@@ -70,11 +73,13 @@ cut_there plan numbers (domains.Nums decimals grains) h =
     and_from (nat_le decimals 6) (list_all grain_there (cut_all decimals grains numbers)) parts.0
     (cuts_there decimals grains numbers parts.1)
 
-cut_proper : (numbers : List Dec) (domain : Domain) → is_proper domain ≡ true → is_proper (cut_domain numbers domain) ≡ true
+cut_proper : (numbers : List Dec) (domain : Domain) → is_proper domain ≡ true
+    → is_proper (cut_domain numbers domain) ≡ true
 cut_proper numbers (domains.Texts texts) h = h
 cut_proper numbers (domains.Nums decimals grains) h =
     let parts = and_parts (is_ascending grains) (list_all (has_ends decimals) grains) h in
-    and_from (is_ascending (cut_all decimals grains numbers)) (list_all (has_ends decimals) (cut_all decimals grains numbers))
+    and_from (is_ascending (cut_all decimals grains numbers))
+    (list_all (has_ends decimals) (cut_all decimals grains numbers))
     (cuts_ascend decimals grains numbers parts.0) (cuts_ends decimals grains numbers parts.1)
 
 numbers_same : (ns : List ℕ) → same_numbers ns ns ≡ true
@@ -86,7 +91,8 @@ cut_whole : (numbers : List Dec) (domain : Domain) → is_proper domain ≡ true
 cut_whole numbers (domains.Texts texts) h = numbers_same texts
 cut_whole numbers (domains.Nums decimals grains) h =
     let parts = and_parts (is_ascending grains) (list_all (has_ends decimals) grains) h in
-    and_from (decimals == decimals) (are_cut_up decimals grains (cut_all decimals grains numbers)) (eq-eqb decimals decimals refl) (cuts_are decimals grains numbers parts.0 parts.1)
+    and_from (decimals == decimals) (are_cut_up decimals grains (cut_all decimals grains numbers))
+    (eq-eqb decimals decimals refl) (cuts_are decimals grains numbers parts.0 parts.1)
 
 some_length : {X : Type 0} (xs : List X) → (xs ≡ [] → ⊥) → nat_lt 0 (length xs) ≡ true
 some_length [] h = absurd (h refl)
@@ -109,16 +115,19 @@ domain_some : (numbers : List Dec) (v : Values) → is_proper (all_values v) ≡
 domain_some numbers (values.Texts size multiple listed) proper some =
     ap (nat_lt 0) (length-map (map (λ value. value.text) listed) _ ∙ length-map listed (λ value. value.text)) ∙ some
 domain_some numbers (values.Numbers decimals unit listed) proper some =
-    let parts = and_parts (is_ascending (map grain_of listed)) (list_all (has_ends decimals) (map grain_of listed)) proper in
+    let parts
+    = and_parts (is_ascending (map grain_of listed)) (list_all (has_ends decimals) (map grain_of listed)) proper in
     ap (nat_lt 0) (length-map (cut_all decimals (map grain_of listed) numbers) _)
-    ∙ cut_some decimals (map grain_of listed) numbers parts.0 parts.1 (ap (nat_lt 0) (length-map listed grain_of) ∙ some)
+    ∙ cut_some decimals (map grain_of listed) numbers parts.0 parts.1
+    (ap (nat_lt 0) (length-map listed grain_of) ∙ some)
 
 -- what a characteristic's list and domain are
 pub record IsListed (model : Model) (tables : List VariantTable) (plan : Plan) (c : ℕ) : Type 0 where
   pub x : Characteristic
   pub at : slice_get model.characteristics c ≡ Some x
   pub list : slice_get plan.characteristics c ≡ Some (characteristic_from x)
-  pub domain : slice_get plan.domains c ≡ Some (cut_domain (cuts_at (all_marks (layout_of model) tables) (0 + c)) (domain_of x.values))
+  pub domain : slice_get plan.domains c
+      ≡ Some (cut_domain (cuts_at (all_marks (layout_of model) tables) (0 + c)) (domain_of x.values))
 
 listed : (model : Model) (tables : List VariantTable) (plan : Plan) → IsPlanOf model tables plan → (c : ℕ)
     → c < length plan.characteristics → IsListed model tables plan c
@@ -135,7 +144,8 @@ listed model tables plan is c below =
     }
 
 -- domains pass what each list does that is cut
-domains_pass : (model : Model) (tables : List VariantTable) (plan : Plan) → IsPlanOf model tables plan → (p : Domain → Bool)
+domains_pass : (model : Model) (tables : List VariantTable) (plan : Plan) → IsPlanOf model tables plan
+    → (p : Domain → Bool)
     → ((numbers : List Dec) (domain : Domain) → p domain ≡ true → p (cut_domain numbers domain) ≡ true)
     → list_all (λ characteristic. p characteristic.list) plan.characteristics ≡ true → list_all p plan.domains ≡ true
 domains_pass model tables plan is p of all =
@@ -144,11 +154,14 @@ domains_pass model tables plan is p of all =
     let first = ap length is.characteristics ∙ length-map model.characteristics characteristic_from in
     let second = ap length is.domains ∙ domain_count (all_marks (layout_of model) tables) 0 model.characteristics in
     let known = listed model tables plan is k (omega (arith, low, first, second)) in
-    let same : Some domain ≡ Some (cut_domain (cuts_at (all_marks (layout_of model) tables) (0 + k)) (domain_of known.x.values)) =
+    let same : Some domain
+    ≡ Some (cut_domain (cuts_at (all_marks (layout_of model) tables) (0 + k)) (domain_of known.x.values)) =
     sym e ∙ known.domain in
-    let cut : domain ≡ cut_domain (cuts_at (all_marks (layout_of model) tables) (0 + k)) (domain_of known.x.values) = cc in
+    let cut : domain ≡ cut_domain (cuts_at (all_marks (layout_of model) tables) (0 + k)) (domain_of known.x.values)
+    = cc in
     ap p cut ∙ of (cuts_at (all_marks (layout_of model) tables) (0 + k)) (domain_of known.x.values)
-    (passes_there (λ characteristic. p characteristic.list) plan.characteristics k (characteristic_from known.x) all known.list))
+    (passes_there (λ characteristic. p characteristic.list) plan.characteristics k (characteristic_from known.x) all
+    known.list))
 
 -- all slots have the domain of the characteristic's own number
 own_domains : (model : Model) → Each (λ x. x.domain ≡ x.characteristic) (vars_of model (slots_of model))
@@ -166,12 +179,17 @@ each_there P (y ∷ xs) (suc k) x h e = each_there P xs k x h.1 e
 -- what is known of a variable
 pub record IsVarOf (model : Model) (tables : List VariantTable) (plan : Plan) (x : Var) : Type 0 where
   pub known : IsListed model tables plan x.characteristic
-  pub domain : slice_get plan.domains x.domain ≡ Some (cut_domain (cuts_at (all_marks (layout_of model) tables) (0 + x.characteristic)) (domain_of known.x.values))
+  pub domain : slice_get plan.domains x.domain
+      ≡ Some (cut_domain (cuts_at (all_marks (layout_of model) tables) (0 + x.characteristic))
+      (domain_of known.x.values))
 
-pub var_is : (model : Model) (tables : List VariantTable) (plan : Plan) → IsPlanOf model tables plan → HasLists plan → (v : ℕ) (x : Var)
+pub var_is : (model : Model) (tables : List VariantTable) (plan : Plan) → IsPlanOf model tables plan → HasLists plan
+    → (v : ℕ) (x : Var)
     → slice_get plan.vars v ≡ Some x → IsVarOf model tables plan x
 var_is model tables plan is lists v x e =
-    let parts = and_parts (is_of plan.slots x.slot) (is_of plan.characteristics x.characteristic && is_of plan.domains x.domain)
+    let parts
+    = and_parts (is_of plan.slots x.slot)
+    (is_of plan.characteristics x.characteristic && is_of plan.domains x.domain)
     (passes_there (var_there plan) plan.vars v x lists.vars_there e) in
     let below = ltb-true x.characteristic (length plan.characteristics)
     (and_parts (is_of plan.characteristics x.characteristic) (is_of plan.domains x.domain) parts.1).0 in
@@ -180,7 +198,8 @@ var_is model tables plan is lists v x e =
     (ap (λ xs. slice_get xs v) (sym is.vars) ∙ e) in
     record { known = known; domain = ap (slice_get plan.domains) own ∙ known.domain }
 
-pub has_domains : (model : Model) (tables : List VariantTable) (plan : Plan) → IsPlanOf model tables plan → KeepsValues model
+pub has_domains : (model : Model) (tables : List VariantTable) (plan : Plan) → IsPlanOf model tables plan
+    → KeepsValues model
     → HasLists plan → HasDomains plan
 has_domains model tables plan is keeps lists = record {
   domains_there = domains_pass model tables plan is (domain_there plan) (cut_there plan) lists.characteristics_there;
@@ -209,4 +228,5 @@ has_domains model tables plan is keeps lists = record {
         (ap is_proper (sym same)
         ∙ passes_there (λ characteristic. is_proper characteristic.list) plan.characteristics x.characteristic
         (characteristic_from var.known.x) lists.lists var.known.list)
-        (passes_there (λ c. nat_lt 0 (models.count_of c.values)) model.characteristics x.characteristic var.known.x keeps.some_values var.known.at)
+        (passes_there (λ c. nat_lt 0 (models.count_of c.values)) model.characteristics x.characteristic var.known.x
+        keeps.some_values var.known.at)

@@ -15,7 +15,11 @@ use Rattle.vc_plan.specs.declared.rules.Kind.{Kind}
 use Rattle.vc_compile_plan.specs.Layouts.{Layout, object_at, tree_of}
 use Rattle.vc_compile_plan.specs.Numbering.{kind_from}
 use Rattle.vc_compile_plan.specs.Places.{Asked, selections_among, site_at}
-use Rattle.vc_compile_plan.specs.Rules.{Demand, Draft, among, by_table, compare, constraint_drafts, constraints_drafts, demand_at, drafts_of_line, drafts_of_slot, equate, last, last_drafts, line, line_draft, line_drafts, line_drafts_from, never, of_left_operand, of_right_operand, of_terms, own_draft, relation_demand, restriction_draft, restriction_drafts, slot_drafts_from}
+use Rattle.vc_compile_plan.specs.Rules.{Demand, Draft, among, by_table, compare, constraint_drafts, constraints_drafts}
+use Rattle.vc_compile_plan.specs.Rules.{demand_at, drafts_of_line, drafts_of_slot, equate, last, last_drafts, line}
+use Rattle.vc_compile_plan.specs.Rules.{line_draft, line_drafts, line_drafts_from, never, of_left_operand}
+use Rattle.vc_compile_plan.specs.Rules.{of_right_operand, of_terms, own_draft, relation_demand, restriction_draft}
+use Rattle.vc_compile_plan.specs.Rules.{restriction_drafts, slot_drafts_from}
 use Rattle.vc_compile_plan.specs.Sites.{Site}
 use Rattle.vc_compile_plan.specs.Slots.{bill_if}
 use Rattle.vc_compile_plan.specs.Terms.{literal_of, lone_of, minus, minus_literal, term_at}
@@ -31,7 +35,8 @@ use Rattle.vc_compile_valid.proofs.EachLaws.{Each, each_flat, each_joined, each_
 abbrev pub kind_of : Demand → Kind
 kind_of demand = kind_from 0 demand
 
-pub constraint_same : (t : ℕ) (demand : Demand) → is_of_constraint (kind_from t demand) ≡ is_of_constraint (kind_of demand)
+pub constraint_same : (t : ℕ) (demand : Demand)
+    → is_of_constraint (kind_from t demand) ≡ is_of_constraint (kind_of demand)
 constraint_same t (among v restriction) = refl
 constraint_same t (compare relation left right) = refl
 constraint_same t (equate left right) = refl
@@ -77,7 +82,8 @@ line_of_same i t (last w) = refl
 line_of_same i t (line j) = refl
 
 -- a kind of a constraint is neither a Last nor a Line
-pub no_last : (v : ℕ) (demand : Demand) → is_of_constraint (kind_of demand) ≡ true → is_last_of v (kind_of demand) ≡ false
+pub no_last : (v : ℕ) (demand : Demand) → is_of_constraint (kind_of demand) ≡ true
+    → is_last_of v (kind_of demand) ≡ false
 no_last v (among w restriction) h = refl
 no_last v (compare relation left right) h = refl
 no_last v (equate left right) h = refl
@@ -95,7 +101,8 @@ never_last never h = refl
 never_last (last w) h = absurd (cc)
 never_last (line i) h = refl
 
-pub no_line : (i : ℕ) (demand : Demand) → is_of_constraint (kind_of demand) ≡ true → is_line_of i (kind_of demand) ≡ false
+pub no_line : (i : ℕ) (demand : Demand) → is_of_constraint (kind_of demand) ≡ true
+    → is_line_of i (kind_of demand) ≡ false
 no_line i (among w restriction) h = refl
 no_line i (compare relation left right) h = refl
 no_line i (equate left right) h = refl
@@ -181,7 +188,8 @@ minus_not_lone : (a : Option Value) (term : plan.Term) → is_lone (minus a term
 minus_not_lone None term = refl
 minus_not_lone (Some a) term = refl
 
-not_lone : (layout : Layout) (site : Site) (term : syntax.Term) → lone_of term ≡ None → is_lone (term_at layout site term) ≡ false
+not_lone : (layout : Layout) (site : Site) (term : syntax.Term) → lone_of term ≡ None
+    → is_lone (term_at layout site term) ≡ false
 not_lone layout site (syntax.Number leaf) h = refl
 not_lone layout site (syntax.Text leaf) h = refl
 not_lone layout site (syntax.Operand operand) h = absurd (cc)
@@ -191,7 +199,8 @@ not_lone layout site (syntax.Applied function term) h = refl
 not_lone layout site (syntax.SumOfParts name) h = refl
 not_lone layout site syntax.CountOfParts h = refl
 
-lone_no_value : (layout : Layout) (site : Site) (term : syntax.Term) (operand : OperandLeaf) → lone_of term ≡ Some operand
+lone_no_value : (layout : Layout) (site : Site) (term : syntax.Term) (operand : OperandLeaf)
+    → lone_of term ≡ Some operand
     → is_value (term_at layout site term) ≡ false
 lone_no_value layout site (syntax.Number leaf) operand h = absurd (cc)
 lone_no_value layout site (syntax.Text leaf) operand h = absurd (cc)
@@ -236,7 +245,8 @@ apart_terms : (layout : Layout) (site : Site) (left right : syntax.Term)
     → (is_value (term_at layout site left) && is_lone (term_at layout site right)) ≡ false
     → are_apart_terms (term_at layout site left) (term_at layout site right) ≡ true
 apart_terms layout site left right h k =
-    apart_if (is_lone (term_at layout site left)) (is_value (term_at layout site right)) (is_value (term_at layout site left))
+    apart_if (is_lone (term_at layout site left)) (is_value (term_at layout site right))
+    (is_value (term_at layout site left))
     (is_lone (term_at layout site right)) h k
 
 right_kept : (layout : Layout) (site : Site) (relator : Relator) (left right : syntax.Term) → lone_of left ≡ None
@@ -244,12 +254,16 @@ right_kept : (layout : Layout) (site : Site) (relator : Relator) (left right : s
     → keeps_apart (of_right_operand layout site o a relator left right) ≡ true
 right_kept layout site relator left right none None is a literal =
     terms_kept layout site relator left right (apart_terms layout site left right
-    (and_left (is_lone (term_at layout site left)) (is_value (term_at layout site right)) (not_lone layout site left none))
-    (and_right (is_value (term_at layout site left)) (is_lone (term_at layout site right)) (not_lone layout site right is)))
+    (and_left (is_lone (term_at layout site left)) (is_value (term_at layout site right))
+    (not_lone layout site left none))
+    (and_right (is_value (term_at layout site left)) (is_lone (term_at layout site right))
+    (not_lone layout site right is)))
 right_kept layout site relator left right none (Some operand) is None literal =
     terms_kept layout site relator left right (apart_terms layout site left right
-    (and_left (is_lone (term_at layout site left)) (is_value (term_at layout site right)) (not_lone layout site left none))
-    (and_left (is_value (term_at layout site left)) (is_lone (term_at layout site right)) (no_value layout site left literal)))
+    (and_left (is_lone (term_at layout site left)) (is_value (term_at layout site right))
+    (not_lone layout site left none))
+    (and_left (is_value (term_at layout site left)) (is_lone (term_at layout site right))
+    (no_value layout site left literal)))
 right_kept layout site relator left right none (Some operand) is (Some a) literal = refl
 
 left_kept : (layout : Layout) (site : Site) (relator : Relator) (left right : syntax.Term) (o : Option OperandLeaf)
@@ -258,12 +272,15 @@ left_kept : (layout : Layout) (site : Site) (relator : Relator) (left right : sy
 left_kept layout site relator left right (Some operand) is (Some a) literal = refl
 left_kept layout site relator left right (Some operand) is None literal =
     terms_kept layout site relator left right (apart_terms layout site left right
-    (and_right (is_lone (term_at layout site left)) (is_value (term_at layout site right)) (no_value layout site right literal))
-    (and_left (is_value (term_at layout site left)) (is_lone (term_at layout site right)) (lone_no_value layout site left operand is)))
+    (and_right (is_lone (term_at layout site left)) (is_value (term_at layout site right))
+    (no_value layout site right literal))
+    (and_left (is_value (term_at layout site left)) (is_lone (term_at layout site right))
+    (lone_no_value layout site left operand is)))
 left_kept layout site relator left right None is a literal =
     right_kept layout site relator left right is (lone_of right) refl (literal_of layout.texts left) refl
 
-pub demand_kept : (layout : Layout) (site : Site) (demand : syntax.Demand) → keeps_apart (demand_at layout site demand) ≡ true
+pub demand_kept : (layout : Layout) (site : Site) (demand : syntax.Demand)
+    → keeps_apart (demand_at layout site demand) ≡ true
 demand_kept layout site (syntax.Relates (syntax.Compared left relator right)) =
     left_kept layout site relator left right (lone_of left) refl (literal_of layout.texts right) refl
 demand_kept layout site (syntax.Relates (syntax.Within operand listed)) = refl
@@ -272,19 +289,25 @@ demand_kept layout site syntax.Never = refl
 
 -- each draft of a constraint is that of a restriction at a tuple
 pub each_restriction : (P : Draft → Type 0) (layout : Layout) (d : ℕ) (constraint : syntax.Constraint) (tuple : List ℕ)
-    → ((number : ℕ) (restriction : syntax.Restriction) → 0 < number → P (restriction_draft layout d constraint tuple number restriction))
+    → ((number : ℕ) (restriction : syntax.Restriction) → 0 < number
+    → P (restriction_draft layout d constraint tuple number restriction))
     → (number : ℕ) → 0 < number → (restrictions : List syntax.Restriction)
     → Each P (restriction_drafts layout d constraint tuple number restrictions)
 each_restriction P layout d constraint tuple of number some [] = tt
-each_restriction P layout d constraint tuple of number some (restriction ∷ restrictions) =
-    (of number restriction some, each_restriction P layout d constraint tuple of (suc number) (omega arith) restrictions)
+each_restriction P layout d constraint tuple of number some (restriction ∷ restrictions) = (
+  of number restriction some,
+  each_restriction P layout d constraint tuple of (suc number) (omega arith)
+      restrictions,
+)
 
 abbrev pub OfRestrictions : (Draft → Type 0) → Layout → Type 0
 OfRestrictions P layout =
-    (d : ℕ) (constraint : syntax.Constraint) (tuple : List ℕ) (number : ℕ) (restriction : syntax.Restriction) → 0 < number
+    (d : ℕ) (constraint : syntax.Constraint) (tuple : List ℕ) (number : ℕ) (restriction : syntax.Restriction)
+    → 0 < number
     → P (restriction_draft layout d constraint tuple number restriction)
 
-pub each_of_tree : (P : Draft → Type 0) (layout : Layout) → OfRestrictions P layout → (d : ℕ) (tree : Option syntax.Dependency)
+pub each_of_tree : (P : Draft → Type 0) (layout : Layout) → OfRestrictions P layout
+    → (d : ℕ) (tree : Option syntax.Dependency)
     → Each P (constraint_drafts layout d tree)
 each_of_tree P layout of d None = tt
 each_of_tree P layout of d (Some (syntax.Precondition condition)) = tt
@@ -292,18 +315,22 @@ each_of_tree P layout of d (Some (syntax.Selection condition)) = tt
 each_of_tree P layout of d (Some (syntax.Procedure statements)) = tt
 each_of_tree P layout of d (Some (syntax.Counts term)) = tt
 each_of_tree P layout of d (Some (syntax.Constrains constraint)) =
-    each_flat P (λ tuple. restriction_drafts layout d constraint tuple 1 constraint.restrictions) (tuples_of layout constraint)
+    each_flat P (λ tuple. restriction_drafts layout d constraint tuple 1 constraint.restrictions)
+    (tuples_of layout constraint)
     (each_of_all (λ tuple. Each P (restriction_drafts layout d constraint tuple 1 constraint.restrictions))
-    (λ tuple. each_restriction P layout d constraint tuple (of d constraint tuple) 1 (omega arith) constraint.restrictions)
+    (λ tuple. each_restriction P layout d constraint tuple (of d constraint tuple) 1 (omega arith)
+    constraint.restrictions)
     (tuples_of layout constraint))
 
-pub each_constraint : (P : Draft → Type 0) (layout : Layout) → OfRestrictions P layout → Each P (constraints_drafts layout)
+pub each_constraint : (P : Draft → Type 0) (layout : Layout) → OfRestrictions P layout
+    → Each P (constraints_drafts layout)
 each_constraint P layout of =
     each_flat P (λ d. constraint_drafts layout d (tree_of layout.model d)) (active_constraints layout)
     (each_of_all (λ d. Each P (constraint_drafts layout d (tree_of layout.model d)))
     (λ d. each_of_tree P layout of d (tree_of layout.model d)) (active_constraints layout))
 
-pub each_last : (P : Draft → Type 0) (layout : Layout) → ((v : ℕ) → P (own_draft (last v))) → Each P (last_drafts layout)
+pub each_last : (P : Draft → Type 0) (layout : Layout) → ((v : ℕ) → P (own_draft (last v)))
+    → Each P (last_drafts layout)
 each_last P layout of = all (numbers_below (length layout.vars))
   where
     all : (vs : List ℕ) → Each P (map (λ v. own_draft (last v)) vs)
@@ -313,9 +340,11 @@ each_last P layout of = all (numbers_below (length layout.vars))
 -- each draft of a slot is a Line of it, alone or of a selection condition
 abbrev pub OfSlot : (Draft → Type 0) → Layout → ℕ → Type 0
 OfSlot P layout i =
-    P (own_draft (line i)) × ((site : Site) (number : ℕ) (asked : Asked) → 0 < number → P (line_draft layout site i number asked))
+    P (own_draft (line i))
+    × ((site : Site) (number : ℕ) (asked : Asked) → 0 < number → P (line_draft layout site i number asked))
 
-lines_from : (P : Draft → Type 0) (layout : Layout) (i : ℕ) → OfSlot P layout i → (site : Site) (number : ℕ) → 0 < number
+lines_from : (P : Draft → Type 0) (layout : Layout) (i : ℕ) → OfSlot P layout i → (site : Site) (number : ℕ)
+    → 0 < number
     → (asks : List Asked) → Each P (line_drafts_from layout site i number asks)
 lines_from P layout i of site number some [] = tt
 lines_from P layout i of site number some (asked ∷ more) =
@@ -326,7 +355,8 @@ each_line : (P : Draft → Type 0) (layout : Layout) (i : ℕ) → OfSlot P layo
 each_line P layout i of site [] = (of.0, tt)
 each_line P layout i of site (asked ∷ more) = lines_from P layout i of site 1 (omega arith) (asked ∷ more)
 
-of_line : (P : Draft → Type 0) (layout : Layout) (p i : ℕ) → OfSlot P layout i → (owner : Option Slot) (item : Option BillItem)
+of_line : (P : Draft → Type 0) (layout : Layout) (p i : ℕ) → OfSlot P layout i
+    → (owner : Option Slot) (item : Option BillItem)
     → Each P (drafts_of_line layout p i owner item)
 of_line P layout p i of None None = tt
 of_line P layout p i of (Some owner) None = tt
@@ -334,13 +364,15 @@ of_line P layout p i of None (Some item) = tt
 of_line P layout p i of (Some owner) (Some item) =
     each_line P layout i of (site_at layout p owner (at.Line true)) (selections_among layout.model item.uses)
 
-pub each_of_slot : (P : Draft → Type 0) (layout : Layout) (i : ℕ) → OfSlot P layout i → (s : Standing) (parent : Option ℕ)
+pub each_of_slot : (P : Draft → Type 0) (layout : Layout) (i : ℕ) → OfSlot P layout i
+    → (s : Standing) (parent : Option ℕ)
     → Each P (drafts_of_slot layout i s parent)
 each_of_slot P layout i of s None = tt
 each_of_slot P layout i of s (Some p) =
     of_line P layout p i of (slice_get layout.slots p) (slice_get (bill_if layout.model (object_at layout p)) s.item)
 
-pub each_slot_draft : (P : Draft → Type 0) (layout : Layout) → ((i : ℕ) → OfSlot P layout i) → (i : ℕ) (standings : List Standing)
+pub each_slot_draft : (P : Draft → Type 0) (layout : Layout) → ((i : ℕ) → OfSlot P layout i)
+    → (i : ℕ) (standings : List Standing)
     → Each P (slot_drafts_from layout i standings)
 each_slot_draft P layout of i [] = tt
 each_slot_draft P layout of i (s ∷ standings) =

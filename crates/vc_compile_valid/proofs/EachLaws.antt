@@ -22,7 +22,8 @@ pub each_of_all : {X : Type 0} (P : X → Type 0) → ((x : X) → P x) → (xs 
 each_of_all P of [] = tt
 each_of_all P of (x ∷ xs) = (of x, each_of_all P of xs)
 
-pub each_passes : {X : Type 0} (P : X → Type 0) (test : X → Bool) → ((x : X) → P x → test x ≡ true) → (xs : List X) → Each P xs
+pub each_passes : {X : Type 0} (P : X → Type 0) (test : X → Bool) → ((x : X) → P x → test x ≡ true) → (xs : List X)
+    → Each P xs
     → list_all test xs ≡ true
 each_passes P test of [] h = refl
 each_passes P test of (x ∷ xs) h = and_from (test x) (list_all test xs) (of x h.0) (each_passes P test of xs h.1)
@@ -61,7 +62,8 @@ each_left P test (x ∷ xs) h = by (test x) refl (each_left P test xs h.1)
     by false e more = more
 
 -- each at its place
-pub each_at : {X : Type 0} (P : X → Type 0) (xs : List X) → ((k : ℕ) (x : X) → slice_get xs k ≡ Some x → P x) → Each P xs
+pub each_at : {X : Type 0} (P : X → Type 0) (xs : List X) → ((k : ℕ) (x : X) → slice_get xs k ≡ Some x → P x)
+    → Each P xs
 each_at P [] h = tt
 each_at P (x ∷ xs) h = (h zero x refl, each_at P xs (λ k y e. h (suc k) y e))
 
@@ -82,7 +84,8 @@ each_by_slot P has i (slot ∷ slots) h =
 
 -- lists of which the first comes before the second
 pub order_joined : {X : Type 0} (before : X → X → Bool) (xs ys : List X) → are_in_order before xs ≡ true
-    → are_in_order before ys ≡ true → Each (λ x. list_all (before x) ys ≡ true) xs → are_in_order before (xs ++ ys) ≡ true
+    → are_in_order before ys ≡ true → Each (λ x. list_all (before x) ys ≡ true) xs
+    → are_in_order before (xs ++ ys) ≡ true
 order_joined before [] ys a b h = b
 order_joined before (x ∷ xs) ys a b h =
     let parts = and_parts (list_all (before x) xs) (are_in_order before xs) a in
@@ -95,7 +98,8 @@ order_alike : {X : Type 0} (slot_of : X → ℕ) (i : ℕ) (xs : List X) → Eac
     → are_in_order (λ a b. nat_le (slot_of a) (slot_of b)) xs ≡ true
 order_alike slot_of i [] h = refl
 order_alike slot_of i (x ∷ xs) h =
-    and_from (list_all (λ y. nat_le (slot_of x) (slot_of y)) xs) (are_in_order (λ a b. nat_le (slot_of a) (slot_of b)) xs)
+    and_from (list_all (λ y. nat_le (slot_of x) (slot_of y)) xs)
+    (are_in_order (λ a b. nat_le (slot_of a) (slot_of b)) xs)
     (each_passes (λ y. slot_of y ≡ i) (λ y. nat_le (slot_of x) (slot_of y))
     (λ y e. let a = h.0 in le-leb (slot_of x) (slot_of y) (omega (arith, a, e))) xs h.1)
     (order_alike slot_of i xs h.1)
@@ -110,7 +114,8 @@ order_by_slot slot_of has own i (slot ∷ slots) =
     let rest = by_slot has (suc i) slots in
     let above : Each (λ y. suc i ≤ slot_of y) rest =
     each_by_slot (λ y. suc i ≤ slot_of y) has (suc i) slots
-    (λ k s e. each_more (λ y. slot_of y ≡ suc i + k) (λ y. suc i ≤ slot_of y) (λ y f. omega (arith, f)) (has (suc i + k) s)
+    (λ k s e. each_more (λ y. slot_of y ≡ suc i + k) (λ y. suc i ≤ slot_of y) (λ y f. omega (arith, f))
+    (has (suc i + k) s)
     (own (suc i + k) s)) in
     order_joined before (has i slot) rest (order_alike slot_of i (has i slot) (own i slot))
     (order_by_slot slot_of has own (suc i) slots)

@@ -1,5 +1,6 @@
 -- The values of a characteristic: pieces of its list, each once and in its order.
-use Rattle.std.proofs.Common.{◌≡◌, ℕ, zero, suc, ◌+◌, ◌<◌, Bool, true, false, cond, not, ◌&&◌, nat_lt, List, [], ◌∷◌, map, Some, refl, sym, ap, ◌∙◌, arith, subst, ℤ}
+use Rattle.std.proofs.Common.{◌≡◌, ℕ, zero, suc, ◌+◌, ◌<◌, Bool, true, false, cond, not, ◌&&◌, nat_lt, List, [], ◌∷◌}
+use Rattle.std.proofs.Common.{map, Some, refl, sym, ap, ◌∙◌, arith, subst, ℤ}
 use Rattle.std.specs.Prelude.{◌==◌, slice_get}
 use Rattle.std.specs.List.{list_all, list_any, position_or_len}
 use Rattle.std.specs.Int.Signed.{le_z, lt_z}
@@ -52,9 +53,11 @@ apart_at same (z ∷ xs) (suc j) (suc k) y x h less e f =
 apart_at same (z ∷ xs) zero (suc k) y x h less e f =
     let first : z ≡ y = cc in
     ap (λ w. same w x) (sym first)
-    ∙ none_at (same z) xs k x (not-true (list_any (same z) xs) (and_parts (not (list_any (same z) xs)) (are_apart same xs) h).0) f
+    ∙ none_at (same z) xs k x
+    (not-true (list_any (same z) xs) (and_parts (not (list_any (same z) xs)) (are_apart same xs) h).0) f
   where
-    none_at : {X : Type 0} (p : X → Bool) (xs : List X) (k : ℕ) (x : X) → list_any p xs ≡ false → slice_get xs k ≡ Some x → p x ≡ false
+    none_at : {X : Type 0} (p : X → Bool) (xs : List X) (k : ℕ) (x : X) → list_any p xs ≡ false
+        → slice_get xs k ≡ Some x → p x ≡ false
     none_at p [] k x h e = absurd (cc)
     none_at p (y ∷ xs) zero x h e = let same : y ≡ x = cc in ap p (sym same) ∙ (or_parts (p y) (list_any p xs) h).0
     none_at p (y ∷ xs) (suc k) x h e = none_at p xs k x (or_parts (p y) (list_any p xs) h).1 e
@@ -63,7 +66,8 @@ apart_at same (z ∷ xs) zero (suc k) y x h less e f =
 pub places_ordered : {X : Type 0} (same : X → X → Bool) (all : List X) → ((x : X) → same x x ≡ true)
     → ((x y : X) → same x y ≡ true → same y x ≡ true) → are_apart same all ≡ true
     → are_in_order (λ x y. nat_lt (position_or_len (same x) all) (position_or_len (same y) all)) all ≡ true
-places_ordered {X = X} same all itself turned apart = from 0 all (λ k x e. subst (λ m. slice_get all m ≡ Some x) (no_front k) e)
+places_ordered {X = X} same all itself turned apart =
+    from 0 all (λ k x e. subst (λ m. slice_get all m ≡ Some x) (no_front k) e)
   where
     no_front : (k : ℕ) → k ≡ 0 + k
     no_front k = omega arith
@@ -99,15 +103,18 @@ not_above z = grind (arith, ints)
 pub piece_itself : (p : Piece) → is_same_piece p p ≡ true
 piece_itself (OneText t) = and_from (t == t) (t == t) (eq-eqb t t refl) (eq-eqb t t refl)
 piece_itself (Stretch grain) =
-    let one = and_from (le_z grain.low.millionths grain.low.millionths) (le_z grain.high.millionths grain.high.millionths)
+    let one
+    = and_from (le_z grain.low.millionths grain.low.millionths) (le_z grain.high.millionths grain.high.millionths)
     (not_above grain.low.millionths) (not_above grain.high.millionths) in
     and_from (is_part (Stretch grain) (Stretch grain)) (is_part (Stretch grain) (Stretch grain)) one one
 
 piece_turned : (p q : Piece) → is_same_piece p q ≡ true → is_same_piece q p ≡ true
-piece_turned p q h = let parts = and_parts (is_part p q) (is_part q p) h in and_from (is_part q p) (is_part p q) parts.1 parts.0
+piece_turned p q h = let parts = and_parts (is_part p q) (is_part q p) h in
+    and_from (is_part q p) (is_part p q) parts.1 parts.0
 
 -- the pieces of a list without doubles
-apart_grains : (g h : Grain) → is_ordered g ≡ true → is_below h.low g ≡ true → is_same_piece (Stretch g) (Stretch h) ≡ false
+apart_grains : (g h : Grain) → is_ordered g ≡ true → is_below h.low g ≡ true
+    → is_same_piece (Stretch g) (Stretch h) ≡ false
 apart_grains g h ordered below =
     and_left (is_part (Stretch g) (Stretch h)) (is_part (Stretch h) (Stretch g))
     (and_left (le_z h.low.millionths g.low.millionths) (le_z g.high.millionths h.high.millionths)
@@ -116,23 +123,28 @@ apart_grains g h ordered below =
     past : (low high next : ℤ) → le_z low high ≡ true → lt_z high next ≡ true → le_z next low ≡ false
     past low high next p q = grind (arith, ints)
 
-ascending_apart : (grains : List Grain) → is_ascending grains ≡ true → are_in_order (λ p q. not (is_same_piece p q)) (map Stretch grains) ≡ true
+ascending_apart : (grains : List Grain) → is_ascending grains ≡ true
+    → are_in_order (λ p q. not (is_same_piece p q)) (map Stretch grains) ≡ true
 ascending_apart [] h = refl
 ascending_apart (g ∷ grains) h =
     let parts = and_parts (is_ordered g) (list_all (λ later. is_below later.low g) grains && is_ascending grains) h in
     let rest = and_parts (list_all (λ later. is_below later.low g) grains) (is_ascending grains) parts.1 in
     and_from (list_all (λ q. not (is_same_piece (Stretch g) q)) (map Stretch grains))
-    (are_in_order (λ p q. not (is_same_piece p q)) (map Stretch grains)) (behind grains parts.0 rest.0) (ascending_apart grains rest.1)
+    (are_in_order (λ p q. not (is_same_piece p q)) (map Stretch grains)) (behind grains parts.0 rest.0)
+    (ascending_apart grains rest.1)
   where
     behind : (hs : List Grain) → is_ordered g ≡ true → list_all (λ later. is_below later.low g) hs ≡ true
         → list_all (λ q. not (is_same_piece (Stretch g) q)) (map Stretch hs) ≡ true
     behind [] ordered k = refl
     behind (h ∷ hs) ordered k =
         let both = and_parts (is_below h.low g) (list_all (λ later. is_below later.low g) hs) k in
-        and_from (not (is_same_piece (Stretch g) (Stretch h))) (list_all (λ q. not (is_same_piece (Stretch g) q)) (map Stretch hs))
-        (not_from_false (is_same_piece (Stretch g) (Stretch h)) (apart_grains g h ordered both.0)) (behind hs ordered both.1)
+        and_from (not (is_same_piece (Stretch g) (Stretch h)))
+        (list_all (λ q. not (is_same_piece (Stretch g) q)) (map Stretch hs))
+        (not_from_false (is_same_piece (Stretch g) (Stretch h)) (apart_grains g h ordered both.0))
+        (behind hs ordered both.1)
 
-pub pieces_apart : (domain : Domain) → is_proper domain ≡ true → are_apart is_same_piece (grains_in (Some domain)) ≡ true
+pub pieces_apart : (domain : Domain) → is_proper domain ≡ true
+    → are_apart is_same_piece (grains_in (Some domain)) ≡ true
 pieces_apart (domains.Texts texts) h =
     apart_mapped is_same_piece OneText texts
     ∙ apart_from_order (λ s t. is_same_piece (OneText s) (OneText t)) texts
@@ -144,7 +156,8 @@ pieces_apart (domains.Nums decimals grains) h =
     apart_from_order is_same_piece (map Stretch grains) (ascending_apart grains parts.0)
 
 -- the pieces of a characteristic's values are the grains of its list
-text_pieces : (xs : List TextValue) → map (λ e. e.piece) (map entry_of_text xs) ≡ map OneText (map (λ value. value.text) xs)
+text_pieces : (xs : List TextValue)
+    → map (λ e. e.piece) (map entry_of_text xs) ≡ map OneText (map (λ value. value.text) xs)
 text_pieces [] = refl
 text_pieces (x ∷ xs) = ap (λ ps. OneText x.text ∷ ps) (text_pieces xs)
 
@@ -157,7 +170,8 @@ pieces_are (values.Texts size multiple listed) = text_pieces listed
 pieces_are (values.Numbers decimals unit listed) = number_pieces listed
 
 -- what holds of each of what is made of a list, holds so of each of the list
-pub each_unmapped : {X Y : Type 0} (P : Y → Type 0) (f : X → Y) (xs : List X) → Each P (map f xs) → Each (λ x. P (f x)) xs
+pub each_unmapped : {X Y : Type 0} (P : Y → Type 0) (f : X → Y) (xs : List X) → Each P (map f xs)
+    → Each (λ x. P (f x)) xs
 each_unmapped P f [] h = tt
 each_unmapped P f (x ∷ xs) h = (h.0, each_unmapped P f xs h.1)
 
@@ -169,15 +183,18 @@ entries_listed v =
     (each_among is_same_piece piece_itself (grains_in (Some (all_values v)))))
 
 pub entries_ordered : (v : Values) → is_proper (all_values v) ≡ true
-    → are_in_order (λ a b. nat_lt (list_place (Some (all_values v)) a.piece) (list_place (Some (all_values v)) b.piece)) (entries_of v) ≡ true
+    → are_in_order (λ a b. nat_lt (list_place (Some (all_values v)) a.piece) (list_place (Some (all_values v)) b.piece))
+    (entries_of v) ≡ true
 entries_ordered v proper =
     let place : Piece → ℕ = list_place (Some (all_values v)) in
     sym (order_mapped (λ p q. nat_lt (place p) (place q)) (λ e. e.piece) (entries_of v))
     ∙ ap (are_in_order (λ p q. nat_lt (place p) (place q))) (pieces_are v)
-    ∙ places_ordered is_same_piece (grains_in (Some (all_values v))) piece_itself piece_turned (pieces_apart (all_values v) proper)
+    ∙ places_ordered is_same_piece (grains_in (Some (all_values v))) piece_itself piece_turned
+    (pieces_apart (all_values v) proper)
 
 -- values of which there may be several are texts
-pub are_one_text : (v : Values) → are_multiple v ≡ true → Each (λ e. OneText (text_in_piece e.piece) ≡ e.piece) (entries_of v)
+pub are_one_text : (v : Values) → are_multiple v ≡ true
+    → Each (λ e. OneText (text_in_piece e.piece) ≡ e.piece) (entries_of v)
 are_one_text (values.Numbers decimals unit listed) h = absurd (cc)
 are_one_text (values.Texts size multiple listed) h = of listed
   where

@@ -1,5 +1,6 @@
 -- The numbers of lines: those of a slot's bill, behind those of all slots before it.
-use Rattle.std.proofs.Common.{◌≡◌, ℕ, zero, suc, ◌+◌, ◌<◌, ◌⊎◌, inl, inr, List, [], ◌∷◌, ◌++◌, length, map, Some, refl, sym, ap, ◌∙◌, arith}
+use Rattle.std.proofs.Common.{◌≡◌, ℕ, zero, suc, ◌+◌, ◌<◌, ◌⊎◌, inl, inr, List, [], ◌∷◌, ◌++◌, length, map, Some, refl}
+use Rattle.std.proofs.Common.{sym, ap, ◌∙◌, arith}
 use Rattle.std.specs.Prelude.{slice_get, option_map, sum_by, take}
 use Rattle.std.proofs.lemmas.List.{length-map}
 use Rattle.std.proofs.lemmas.List.Sums.{sum_by-cons}
@@ -11,7 +12,8 @@ use Rattle.vc_plan.specs.declared.plans.Plan.{Plan}
 use Rattle.vc_plan.specs.declared.plans.Slot.{Slot}
 use Rattle.vc_table.specs.declared.table.VariantTable.{VariantTable}
 use Rattle.vc_compile_plan.specs.Layouts.{layout_of}
-use Rattle.vc_compile_plan.specs.Numbering.{Brings, drafts_of, item_brings, line_from, line_terms_begin, lines_begin, numbered}
+use Rattle.vc_compile_plan.specs.Numbering.{Brings, drafts_of, item_brings, line_from, line_terms_begin, lines_begin}
+use Rattle.vc_compile_plan.specs.Numbering.{numbered}
 use Rattle.vc_compile_plan.specs.PlanOf.{IsPlanOf}
 use Rattle.vc_compile_plan.specs.Shown.{ItemDraft, line_at, line_drafts}
 use Rattle.vc_compile_plan.specs.Slots.{bill_of, line_number, slot_of, slots_of, standings_of}
@@ -70,7 +72,8 @@ abbrev pub sizes_of : {X : Type 0} → (ℕ → Slot → List X) → ℕ → Lis
 sizes_of has i [] = []
 sizes_of has i (slot ∷ slots) = length (has i slot) ∷ sizes_of has (suc i) slots
 
-pub by_slot_at : {X : Type 0} (has : ℕ → Slot → List X) (i : ℕ) (slots : List Slot) (p k n : ℕ) (slot : Slot) (x : X) → n ≡ i + p
+pub by_slot_at : {X : Type 0} (has : ℕ → Slot → List X) (i : ℕ) (slots : List Slot) (p k n : ℕ) (slot : Slot) (x : X)
+    → n ≡ i + p
     → slice_get slots p ≡ Some slot → slice_get (has n slot) k ≡ Some x
     → slice_get (by_slot has i slots) (before (sizes_of has i slots) p + k) ≡ Some x
 by_slot_at has i [] p k n slot x is at e = absurd (cc)
@@ -153,7 +156,8 @@ abbrev pub bill_sizes : Model → List ℕ
 bill_sizes model = map (λ s. length (bill_of model s.object)) (standings_of model)
 
 sizes_same : (model : Model) (all : List Standing) (i : ℕ) (standings : List Standing)
-    → sizes_of (lines_of_slot model) i (map (slot_of model all) standings) ≡ map (λ s. length (bill_of model s.object)) standings
+    → sizes_of (lines_of_slot model) i (map (slot_of model all) standings)
+    ≡ map (λ s. length (bill_of model s.object)) standings
 sizes_same model all i [] = refl
 sizes_same model all i (s ∷ standings) =
     ap (λ n. n ∷ sizes_of (lines_of_slot model) (suc i) (map (slot_of model all) standings))
@@ -179,11 +183,15 @@ line_found model tables plan is p k above item at listed =
     let slot = slot_of model (standings_of model) above in
     let drafts = drafts_of (layout_of model) in
     let draft = line_at layout p slot item in
-    let place : slice_get (line_drafts layout) (before (sizes_of (lines_of_slot model) 0 (slots_of model)) p + k) ≡ Some draft =
+    let place : slice_get (line_drafts layout) (before (sizes_of (lines_of_slot model) 0 (slots_of model)) p + k)
+    ≡ Some draft =
     by_slot_at (lines_of_slot model) 0 (slots_of model) p k p slot draft (omega arith) (slot_at model p above at)
-    (slice_get-map (line_at layout p slot) (bill_of model above.object) k ∙ ap (option_map (line_at layout p slot)) listed) in
-    let number : line_number model (standings_of model) (Some p) k ≡ before (sizes_of (lines_of_slot model) 0 (slots_of model)) p + k =
-    number_is model p k ∙ ap (λ ns. before ns p + k) (sym (sizes_same model (standings_of model) 0 (standings_of model))) in
+    (slice_get-map (line_at layout p slot) (bill_of model above.object) k
+    ∙ ap (option_map (line_at layout p slot)) listed) in
+    let number : line_number model (standings_of model) (Some p) k
+    ≡ before (sizes_of (lines_of_slot model) 0 (slots_of model)) p + k =
+    number_is model p k ∙ ap (λ ns. before ns p + k)
+    (sym (sizes_same model (standings_of model) 0 (standings_of model))) in
     let found = numbered_at item_brings line_from (lines_begin drafts) (line_terms_begin drafts) (line_drafts layout)
     (line_number model (standings_of model) (Some p) k) draft (ap (slice_get (line_drafts layout)) number ∙ place) in
     record {
@@ -205,13 +213,15 @@ pub record IsOfBill (model : Model) (l : ℕ) (line : Line) : Type 0 where
   pub number : l ≡ line_number model (standings_of model) (Some p) k
   pub is : line ≡ line_from c t (line_at (layout_of model) p (slot_of model (standings_of model) above) item)
 
-pub bill_found : (model : Model) (tables : List VariantTable) (plan : Plan) → IsPlanOf model tables plan → (l : ℕ) (line : Line)
+pub bill_found : (model : Model) (tables : List VariantTable) (plan : Plan) → IsPlanOf model tables plan
+    → (l : ℕ) (line : Line)
     → slice_get plan.lines l ≡ Some line → IsOfBill model l line
 bill_found model tables plan is l line e =
     let layout = layout_of model in
     let drafts = drafts_of (layout_of model) in
     let all = standings_of model in
-    let draft = draft_at item_brings line_from (lines_begin drafts) (line_terms_begin drafts) (line_drafts layout) l line
+    let draft
+    = draft_at item_brings line_from (lines_begin drafts) (line_terms_begin drafts) (line_drafts layout) l line
     (ap (λ ls. slice_get ls l) (sym is.lines) ∙ e) in
     let found = found_by_slot (lines_of_slot model) 0 (slots_of model) l draft.0 draft.3 in
     let stand = made_from (slot_of model all) all (slots_of model) refl found.place found.slot found.at in

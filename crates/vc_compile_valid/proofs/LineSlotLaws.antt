@@ -1,8 +1,10 @@
 -- A configurable line has one slot, and another line none.
-use Rattle.std.proofs.Common.{◌≡◌, ℕ, zero, suc, ◌+◌, ◌<◌, Bool, true, false, cond, not, ◌&&◌, ◌||◌, nat_lt, List, [], ◌∷◌, length, map, Option, Some, None, refl, sym, ap, ◌∙◌, arith, subst, if◌then◌else◌}
+use Rattle.std.proofs.Common.{◌≡◌, ℕ, zero, suc, ◌+◌, ◌<◌, Bool, true, false, cond, not, ◌&&◌, ◌||◌, nat_lt, List, []}
+use Rattle.std.proofs.Common.{◌∷◌, length, map, Option, Some, None, refl, sym, ap, ◌∙◌, arith, subst, if◌then◌else◌}
 use Rattle.std.specs.Prelude.{◌==◌, is_some, option_map, slice_get, filter_map}
 use Rattle.std.specs.List.{cons_option, filter, list_all, list_any}
-use Rattle.std.proofs.lemmas.Bool.{and_from, and_parts, eq-eqb, eqb-true, le-ltb, ltb-true, not-true, or_left, or_parts, or_right}
+use Rattle.std.proofs.lemmas.Bool.{and_from, and_parts, eq-eqb, eqb-true, le-ltb, ltb-true, not-true, or_left, or_parts}
+use Rattle.std.proofs.lemmas.Bool.{or_right}
 use Rattle.std.proofs.lemmas.List.{length-map}
 use Rattle.std.proofs.lemmas.List.Folds.{list_all-map}
 use Rattle.std.proofs.lemmas.Option.{slice_get-map, slice_get_within}
@@ -23,31 +25,36 @@ use Rattle.vc_plan.specs.declared.plans.Slot.{Slot}
 use Rattle.vc_table.specs.declared.table.VariantTable.{VariantTable}
 use Rattle.vc_types.specs.declared.place.At.TheVariants as at
 use Rattle.vc_compile_plan.specs.Layouts.{Layout, layout_of}
-use Rattle.vc_compile_plan.specs.Numbering.{Brings, drafts_of, item_brings, line_from, line_terms_begin, lines_begin, numbered, selections_from}
+use Rattle.vc_compile_plan.specs.Numbering.{Brings, drafts_of, item_brings, line_from, line_terms_begin, lines_begin}
+use Rattle.vc_compile_plan.specs.Numbering.{numbered, selections_from}
 use Rattle.vc_compile_plan.specs.PlanOf.{IsPlanOf}
 use Rattle.vc_compile_plan.specs.Shown as shown
 use Rattle.vc_compile_plan.specs.Shown.{Choice, ItemDraft, line_at, line_choices, line_drafts, material_in, material_of}
 use Rattle.vc_compile_plan.specs.Places.{site_at}
 use Rattle.vc_compile_plan.specs.Sites.{Site}
-use Rattle.vc_compile_plan.specs.Slots.{bill_in, bill_of, for_line, for_lines, has_levels_below, line_number, object_in, slot_of, slots_of, standings_from, standings_of}
+use Rattle.vc_compile_plan.specs.Slots.{bill_in, bill_of, for_line, for_lines, has_levels_below, line_number, object_in}
+use Rattle.vc_compile_plan.specs.Slots.{slot_of, slots_of, standings_from, standings_of}
 use Rattle.vc_compile_plan.specs.Tables.{object_from, objects_from}
 use Rattle.vc_compile_plan.specs.declared.standings.Standing.{Standing}
 use Rattle.vc_compile_valid.specs.Models.{KeepsParts, is_plain}
 use Rattle.vc_compile_valid.specs.Slots.{HasLineSlots}
 use Rattle.vc_compile_valid.proofs.EachLaws.{Each, each_by_slot, each_mapped, each_more, each_passes, each_tested}
-use Rattle.vc_compile_valid.proofs.LineNumberLaws.{IsOfBill, before_apart, bill_found, bill_sizes, lines_of_slot, number_is}
+use Rattle.vc_compile_valid.proofs.LineNumberLaws.{IsOfBill, before_apart, bill_found, bill_sizes, lines_of_slot}
+use Rattle.vc_compile_valid.proofs.LineNumberLaws.{number_is}
 use Rattle.vc_compile_valid.proofs.ListLaws.{any_there, none_past, passes_there, some_there}
 use Rattle.vc_compile_valid.proofs.NumberingLaws.{StandFrom, first_of_more, rest_of_more}
-use Rattle.vc_compile_valid.proofs.PlacedLaws.{EachFrom, IsPart, IsPlacedBelow, from_at, from_joined, placed_at, stand_first, stand_rest, whole_stands}
+use Rattle.vc_compile_valid.proofs.PlacedLaws.{EachFrom, IsPart, IsPlacedBelow, from_at, from_joined, placed_at}
+use Rattle.vc_compile_valid.proofs.PlacedLaws.{stand_first, stand_rest, whole_stands}
 use Rattle.vc_compile_valid.proofs.PreorderLaws.{all_earlier, is_earlier}
 use Rattle.vc_compile_valid.proofs.SlotwiseLaws.{below_count, none_left}
 
 -- what stands for a line of a slot
-abbrev is_for : ℕ → ℕ → Standing → Bool
+abbrev pub is_for : ℕ → ℕ → Standing → Bool
 is_for p k s = is_number p s.parent && (s.item == k)
 
 -- what each line brings
-lines_each : (P : ℕ → Standing → Type 0) (all : List Standing) (brought : ℕ → ℕ → ℕ → List Standing) (item n : ℕ) (lines : List BillItem)
+lines_each : (P : ℕ → Standing → Type 0) (all : List Standing) (brought : ℕ → ℕ → ℕ → List Standing) (item n : ℕ)
+    (lines : List BillItem)
     → StandFrom all n (for_lines brought item n lines)
     → ((k : ℕ) (line : BillItem) (o m : ℕ) → slice_get lines k ≡ Some line → object_in line.component ≡ Some o
     → StandFrom all m (brought (item + k) m o) → EachFrom P m (brought (item + k) m o))
@@ -89,16 +96,22 @@ line_stands all brought item n (x ∷ lines) stand zero i line o is at has =
     let here : item ≡ i = omega (arith, is) in
     let object : object_in x.component ≡ Some o = ap (λ y. object_in y.component) same ∙ has in
     let first = for_line (brought item n) (object_in x.component) in
-    let front = first_of_more all n first (for_lines brought (suc item) (n + length first) lines) stand in
-    (n, subst (λ j. StandFrom all n (brought j n o)) here (subst (λ c. StandFrom all n (for_line (brought item n) c)) object front))
+    let front = first_of_more all n first (for_lines brought (suc item) (n + length first) lines) stand in (
+      n,
+      subst (λ j. StandFrom all n (brought j n o)) here
+          (subst (λ c. StandFrom all n (for_line (brought item n) c)) object front),
+    )
 line_stands all brought item n (x ∷ lines) stand (suc k) i line o is at has =
     let first = for_line (brought item n) (object_in x.component) in
     let rest = for_lines brought (suc item) (n + length first) lines in
-    line_stands all brought (suc item) (n + length first) lines (rest_of_more all n first rest stand) k i line o (omega (arith, is)) at has
+    line_stands all brought (suc item) (n + length first) lines (rest_of_more all n first rest stand) k i line o
+    (omega (arith, is)) at has
 
 -- none of the components stands too deep
-none_of_lines : (p : ℕ → Bool) (lines : List BillItem) → list_any p (filter_map (λ line. object_in line.component) lines) ≡ false
-    → (k : ℕ) (line : BillItem) (o : ℕ) → slice_get lines k ≡ Some line → object_in line.component ≡ Some o → p o ≡ false
+none_of_lines : (p : ℕ → Bool) (lines : List BillItem)
+    → list_any p (filter_map (λ line. object_in line.component) lines) ≡ false
+    → (k : ℕ) (line : BillItem) (o : ℕ) → slice_get lines k ≡ Some line → object_in line.component ≡ Some o
+    → p o ≡ false
 none_of_lines p [] none k line o at has = absurd (cc)
 none_of_lines p (x ∷ lines) none zero line o at has =
     let same : x ≡ line = cc in
@@ -114,9 +127,10 @@ none_of_lines p (x ∷ lines) none (suc k) line o at has =
     by (Some c) h = (or_parts (p c) (list_any p (filter_map (λ line. object_in line.component) lines)) h).1
 
 -- below each slot stands one for each line that has an object
-abbrev HasParts : Model → List Standing → ℕ → Standing → Type 0
+abbrev pub HasParts : Model → List Standing → ℕ → Standing → Type 0
 HasParts model all n s =
-    (k : ℕ) (line : BillItem) (o : ℕ) → slice_get (bill_of model s.object) k ≡ Some line → object_in line.component ≡ Some o
+    (k : ℕ) (line : BillItem) (o : ℕ) → slice_get (bill_of model s.object) k ≡ Some line
+    → object_in line.component ≡ Some o
     → list_any (is_for n k) all ≡ true
 
 has_parts : (model : Model) (all : List Standing) (levels : ℕ) (parent : Option ℕ) (depth item n o : ℕ)
@@ -138,7 +152,8 @@ has_parts model all (suc levels) parent depth item n o shallow stand = (
     below : StandFrom all (suc n) (for_lines brought 0 (suc n) (bill_of model o))
     below = stand_rest all n head (for_lines brought 0 (suc n) (bill_of model o)) stand
 
-    none : (k : ℕ) (line : BillItem) (c : ℕ) → slice_get (bill_of model o) k ≡ Some line → object_in line.component ≡ Some c
+    none : (k : ℕ) (line : BillItem) (c : ℕ) → slice_get (bill_of model o) k ≡ Some line
+        → object_in line.component ≡ Some c
         → has_levels_below model levels c ≡ false
     none k line c at has = none_of_lines (has_levels_below model levels) (bill_of model o) shallow k line c at has
 
@@ -148,10 +163,12 @@ has_parts model all (suc levels) parent depth item n o shallow stand = (
     first_of (suc l) m k c none s =
         let child : Standing = record { parent = Some n; depth = suc depth; object = c; item = k } in
         any_there (is_for n k) all m child
-        (stand_first all m child (for_lines (standings_from model l (Some m) (suc (suc depth))) 0 (suc m) (bill_of model c)) s)
+        (stand_first all m child
+        (for_lines (standings_from model l (Some m) (suc (suc depth))) 0 (suc m) (bill_of model c)) s)
         (and_from (n == n) (k == k) (eq-eqb n n refl) (eq-eqb k k refl))
 
-    stood : (k : ℕ) (line : BillItem) (c : ℕ) → slice_get (bill_of model o) k ≡ Some line → object_in line.component ≡ Some c
+    stood : (k : ℕ) (line : BillItem) (c : ℕ) → slice_get (bill_of model o) k ≡ Some line
+        → object_in line.component ≡ Some c
         → list_any (is_for n k) all ≡ true
     stood k line c at has =
         let found = line_stands all brought 0 (suc n) (bill_of model o) below k k line c (omega arith) at has in
@@ -185,10 +202,13 @@ one_left : {X : Type 0} (before' : X → X → Bool) (test : X → Bool)
     → list_any test xs ≡ true → length (filter test xs) ≡ 1
 one_left before' test apart [] h some = absurd (cc)
 one_left {X = X} before' test apart (x ∷ xs) h some =
-    let parts = and_parts (list_all (before' x) xs) (are_in_order before' xs) h in by (test x) refl some parts.0 (λ k. one_left before' test apart xs parts.1 k)
+    let parts
+    = and_parts (list_all (before' x) xs) (are_in_order before' xs) h in
+    by (test x) refl some parts.0 (λ k. one_left before' test apart xs parts.1 k)
   where
     by : (b : Bool) → test x ≡ b → (b || list_any test xs) ≡ true → list_all (before' x) xs ≡ true
-        → (list_any test xs ≡ true → length (filter test xs) ≡ 1) → length (cond b (x ∷ filter test xs) (filter test xs)) ≡ 1
+        → (list_any test xs ≡ true → length (filter test xs) ≡ 1)
+        → length (cond b (x ∷ filter test xs) (filter test xs)) ≡ 1
     by true e some here more = ap (λ l. length (x ∷ l)) (none_left test xs (none_behind before' test apart x e xs here))
     by false e some here more = more some
 
@@ -198,7 +218,8 @@ left_mapped test f [] = refl
 left_mapped test f (x ∷ xs) = by (test (f x)) (left_mapped test f xs)
   where
     by : (b : Bool) → filter test (map f xs) ≡ map f (filter (λ x. test (f x)) xs)
-        → cond b (f x ∷ filter test (map f xs)) (filter test (map f xs)) ≡ map f (cond b (x ∷ filter (λ x. test (f x)) xs) (filter (λ x. test (f x)) xs))
+        → cond b (f x ∷ filter test (map f xs)) (filter test (map f xs))
+        ≡ map f (cond b (x ∷ filter (λ x. test (f x)) xs) (filter (λ x. test (f x)) xs))
     by true e = ap (λ l. f x ∷ l) e
     by false e = e
 
@@ -214,15 +235,18 @@ each_of_left : {X : Type 0} (test p : X → Bool) (xs : List X)
 each_of_left test p [] h = refl
 each_of_left test p (x ∷ xs) h = by (test x) refl (each_of_left test p xs (λ k y e. h (suc k) y e))
   where
-    by : (b : Bool) → test x ≡ b → list_all p (filter test xs) ≡ true → list_all p (cond b (x ∷ filter test xs) (filter test xs)) ≡ true
+    by : (b : Bool) → test x ≡ b → list_all p (filter test xs) ≡ true
+        → list_all p (cond b (x ∷ filter test xs) (filter test xs)) ≡ true
     by true e more = and_from (p x) (list_all p (filter test xs)) (h zero x refl e) more
     by false e more = more
 
-none_of_left : {X : Type 0} (test : X → Bool) (xs : List X) → ((k : ℕ) (x : X) → slice_get xs k ≡ Some x → test x ≡ false)
+none_of_left : {X : Type 0} (test : X → Bool) (xs : List X)
+    → ((k : ℕ) (x : X) → slice_get xs k ≡ Some x → test x ≡ false)
     → filter test xs ≡ []
 none_of_left test [] h = refl
 none_of_left test (x ∷ xs) h =
-    ap (λ b. cond b (x ∷ filter test xs) (filter test xs)) (h zero x refl) ∙ none_of_left test xs (λ k y e. h (suc k) y e)
+    ap (λ b. cond b (x ∷ filter test xs) (filter test xs)) (h zero x refl)
+    ∙ none_of_left test xs (λ k y e. h (suc k) y e)
 
 -- the slots of a line are those of its place in the bill
 abbrev is_numbered : Model → ℕ → Standing → Bool
@@ -234,7 +258,8 @@ size_at model p above at =
     slice_get-map (λ s. length (bill_of model s.object)) (standings_of model) p
     ∙ ap (option_map (λ s. length (bill_of model s.object))) at
 
-numbered_same : (model : Model) (p k l : ℕ) (above : Standing) (item : BillItem) → slice_get (standings_of model) p ≡ Some above
+numbered_same : (model : Model) (p k l : ℕ) (above : Standing) (item : BillItem)
+    → slice_get (standings_of model) p ≡ Some above
     → slice_get (bill_of model above.object) k ≡ Some item → l ≡ line_number model (standings_of model) (Some p) k
     → (n : ℕ) (s : Standing) → slice_get (standings_of model) n ≡ Some s → is_numbered model l s ≡ is_for p k s
 numbered_same model p k l above item at listed number n s e = by s.parent refl (placed_at model n s e)
@@ -260,7 +285,8 @@ numbered_same model p k l above item at listed number n s e = by s.parent refl (
             absurd (let clash : true ≡ false =
             sym (eq-eqb (line_number model (standings_of model) (Some q) s.item) l
             (ap (λ m. line_number model (standings_of model) (Some m) s.item) (sym (eqb-true p q parts.0))
-            ∙ ap (line_number model (standings_of model) (Some p)) (eqb-true s.item k parts.1) ∙ sym number)) ∙ is in cc)
+            ∙ ap (line_number model (standings_of model) (Some p)) (eqb-true s.item k parts.1) ∙ sym number))
+            ∙ is in cc)
 
     by : (o : Option ℕ) → s.parent ≡ o → IsPlacedBelow model (standings_of model) n s o
         → is_numbered model l s ≡ is_for p k s
@@ -277,8 +303,10 @@ parent_is : (o : Option ℕ) (p : ℕ) → is_number p o ≡ true → o ≡ Some
 parent_is None p h = absurd (cc)
 parent_is (Some q) p h = ap Some (sym (eqb-true p q h))
 
-object_is : (model : Model) (p k : ℕ) (above : Standing) (item : BillItem) → slice_get (standings_of model) p ≡ Some above
-    → slice_get (bill_of model above.object) k ≡ Some item → (n : ℕ) (s : Standing) → slice_get (standings_of model) n ≡ Some s
+pub object_is : (model : Model) (p k : ℕ) (above : Standing) (item : BillItem)
+    → slice_get (standings_of model) p ≡ Some above
+    → slice_get (bill_of model above.object) k ≡ Some item → (n : ℕ) (s : Standing)
+    → slice_get (standings_of model) n ≡ Some s
     → is_for p k s ≡ true → object_in item.component ≡ Some s.object
 object_is model p k above item at listed n s e h =
     let parts = and_parts (is_number p s.parent) (s.item == k) h in
@@ -289,7 +317,8 @@ object_is model p k above item at listed n s e h =
     of_parent None is placed same = absurd (cc)
     of_parent (Some q) is placed same =
         let one : q ≡ p = cc in
-        let above_same : Some placed.above ≡ Some above = sym placed.there ∙ ap (slice_get (standings_of model)) one ∙ at in
+        let above_same : Some placed.above ≡ Some above
+        = sym placed.there ∙ ap (slice_get (standings_of model)) one ∙ at in
         let stand : placed.above ≡ above = cc in
         let line_same : Some placed.line ≡ Some item =
         sym placed.listed ∙ ap (λ a. slice_get (bill_of model a.object) s.item) stand
@@ -305,13 +334,15 @@ not_twice p k a b h j =
     ap (λ o. not (same_number_if o b.parent) || (is_some o && nat_lt a.item b.item)) (parent_is a.parent p first.0)
     ∙ ap (λ o. not (same_number_if (Some p) o) || (true && nat_lt a.item b.item)) (parent_is b.parent p second.0)
     ∙ ap (λ t. not t || (true && nat_lt a.item b.item)) (eq-eqb p p refl)
-    ∙ le-ltb a.item b.item (let x = eqb-true a.item k first.1 in let y = eqb-true b.item k second.1 in omega (arith, x, y))
+    ∙ le-ltb a.item b.item
+    (let x = eqb-true a.item k first.1 in let y = eqb-true b.item k second.1 in omega (arith, x, y))
 
 -- objects of the plan by the model's
 pub objects_at : (model : Model) (s : ℕ) (xs : List configurable.Object) (k n : ℕ) → n ≡ s + k
     → slice_get (objects_from model s xs) k ≡ option_map (object_from model n) (slice_get xs k)
 objects_at model s [] k n is = refl
-objects_at model s (x ∷ xs) zero n is = let same : s ≡ n = omega (arith, is) in ap (λ m. Some (object_from model m x)) same
+objects_at model s (x ∷ xs) zero n is = let same : s
+    ≡ n = omega (arith, is) in ap (λ m. Some (object_from model m x)) same
 objects_at model s (x ∷ xs) (suc k) n is = objects_at model (suc s) xs k n (omega (arith, is))
 
 pub same_itself : (word : List ℕ) → same_bytes word word ≡ true
@@ -336,57 +367,71 @@ material_there model tables plan is o below =
 
     by : (x : Option configurable.Object) → slice_get model.objects o ≡ x
         → has_material (material_in x) (option_map (object_from model o) x) ≡ true
-    by None e = absurd (let end = none_past model.objects o e in let low = ltb-true o (length plan.objects) below in omega (arith, end, low, size))
+    by None e = absurd (let end = none_past model.objects o e in let low = ltb-true o (length plan.objects) below in
+        omega (arith, end, low, size))
     by (Some x) e = same_itself x.material
 
 -- a line is configurable where it has an object
 object_found : (material : List ℕ) (xs : List Object) (o : ℕ) → has_material material (slice_get xs o) ≡ true
     → list_any (λ object. same_bytes object.material material) xs ≡ true
 object_found material [] o h = absurd (cc)
-object_found material (x ∷ xs) zero h = or_left (same_bytes x.material material) (list_any (λ object. same_bytes object.material material) xs) h
+object_found material (x ∷ xs) zero h =
+    or_left (same_bytes x.material material) (list_any (λ object. same_bytes object.material material) xs) h
 object_found material (x ∷ xs) (suc o) h =
-    or_right (same_bytes x.material material) (list_any (λ object. same_bytes object.material material) xs) (object_found material xs o h)
+    or_right (same_bytes x.material material) (list_any (λ object. same_bytes object.material material) xs)
+    (object_found material xs o h)
 
 materials_same : (model : Model) (material : List ℕ) (s : ℕ) (xs : List configurable.Object)
     → list_any (λ object. same_bytes object.material material) (objects_from model s xs)
     ≡ list_any (λ object. same_bytes object.material material) xs
 materials_same model material s [] = refl
-materials_same model material s (x ∷ xs) = ap (λ b. same_bytes x.material material || b) (materials_same model material (suc s) xs)
+materials_same model material s (x ∷ xs) =
+    ap (λ b. same_bytes x.material material || b) (materials_same model material (suc s) xs)
 
 -- what holds of each line of each bill holds of those of one
-pub bill_pass : (model : Model) (p : BillItem → Bool) → list_all (λ object. list_all p object.bill) model.objects ≡ true → (o : ℕ)
+pub bill_pass : (model : Model) (p : BillItem → Bool) → list_all (λ object. list_all p object.bill) model.objects ≡ true
+    → (o : ℕ)
     → list_all p (bill_of model o) ≡ true
 bill_pass model p all o = by (slice_get model.objects o) refl
   where
-    pass_at : (xs : List configurable.Object) (k : ℕ) (x : configurable.Object) → list_all (λ object. list_all p object.bill) xs ≡ true
+    pass_at : (xs : List configurable.Object) (k : ℕ) (x : configurable.Object)
+        → list_all (λ object. list_all p object.bill) xs ≡ true
         → slice_get xs k ≡ Some x → list_all p x.bill ≡ true
     pass_at [] k x h e = absurd (cc)
     pass_at (y ∷ xs) zero x h e =
         let same : y ≡ x = cc in
-        ap (λ z. list_all p z.bill) (sym same) ∙ (and_parts (list_all p y.bill) (list_all (λ object. list_all p object.bill) xs) h).0
-    pass_at (y ∷ xs) (suc k) x h e = pass_at xs k x (and_parts (list_all p y.bill) (list_all (λ object. list_all p object.bill) xs) h).1 e
+        ap (λ z. list_all p z.bill) (sym same)
+        ∙ (and_parts (list_all p y.bill) (list_all (λ object. list_all p object.bill) xs) h).0
+    pass_at (y ∷ xs) (suc k) x h e =
+        pass_at xs k x (and_parts (list_all p y.bill) (list_all (λ object. list_all p object.bill) xs) h).1 e
 
     by : (x : Option configurable.Object) → slice_get model.objects o ≡ x → list_all p (bill_in x) ≡ true
     by None e = refl
     by (Some x) e = pass_at model.objects o x all e
 
 -- whether a line is configurable is told by its component
-plain_apart : (model : Model) (tables : List VariantTable) (plan : Plan) → IsPlanOf model tables plan → (material : List ℕ)
+plain_apart : (model : Model) (tables : List VariantTable) (plan : Plan) → IsPlanOf model tables plan
+    → (material : List ℕ)
     → is_plain model.objects (components.Plain material) ≡ true
     → list_any (λ object. same_bytes object.material material) plan.objects ≡ false
 plain_apart model tables plan is material h =
-    ap (list_any (λ object. same_bytes object.material material)) is.objects ∙ materials_same model material 0 model.objects
+    ap (list_any (λ object. same_bytes object.material material)) is.objects
+    ∙ materials_same model material 0 model.objects
     ∙ not-true (list_any (λ object. same_bytes object.material material) model.objects) h
 
-slots_of_line : (model : Model) (tables : List VariantTable) (plan : Plan) → KeepsParts model → IsPlanOf model tables plan
+slots_of_line : (model : Model) (tables : List VariantTable) (plan : Plan) → KeepsParts model
+    → IsPlanOf model tables plan
     → list_all (slot_there plan) plan.slots ≡ true → (l : ℕ) (line : Line) → slice_get plan.lines l ≡ Some line
     → has_its_slots plan l (Some line) ≡ true
 slots_of_line model tables plan keeps is there l line e =
     and_from (length own == (if is_configurable plan line then 1 else 0))
     (list_all (λ slot. has_material line.material (slice_get plan.objects slot.object)) own)
-    (eq-eqb (length own) (if is_configurable plan line then 1 else 0) (ap length own_are ∙ length-map (filter (is_for bill.p bill.k) all) (slot_of model all) ∙ count bill.item.component refl))
+    (eq-eqb (length own) (if is_configurable plan line then 1 else 0)
+    (ap length own_are ∙ length-map (filter (is_for bill.p bill.k) all) (slot_of model all)
+    ∙ count bill.item.component refl))
     (ap (list_all (λ slot. has_material line.material (slice_get plan.objects slot.object))) own_are
-    ∙ list_all-map (λ slot. has_material line.material (slice_get plan.objects slot.object)) (slot_of model all) (filter (is_for bill.p bill.k) all)
+    ∙ list_all-map (λ slot. has_material line.material (slice_get plan.objects slot.object)) (slot_of model all)
+    (filter (is_for bill.p bill.k) all)
     ∙ each_of_left (is_for bill.p bill.k) (λ s. has_material line.material (slice_get plan.objects s.object)) all
     (λ n s at h. material n s at h))
   where
@@ -399,7 +444,8 @@ slots_of_line model tables plan keeps is there l line e =
     own : List Slot
     own = filter (stands_for l) plan.slots
 
-    own_are : filter (stands_for l) plan.slots ≡ map (slot_of model (standings_of model)) (filter (is_for bill.p bill.k) (standings_of model))
+    own_are : filter (stands_for l) plan.slots
+        ≡ map (slot_of model (standings_of model)) (filter (is_for bill.p bill.k) (standings_of model))
     own_are =
         ap (filter (stands_for l)) is.slots ∙ left_mapped (stands_for l) (slot_of model all) all
         ∙ ap (map (slot_of model all)) (left_same (is_numbered model l) (is_for bill.p bill.k) all
@@ -409,25 +455,30 @@ slots_of_line model tables plan keeps is there l line e =
     word = ap (λ x. x.material) bill.is
 
     -- the object of a standing for the line is there
-    object_there : (n : ℕ) (s : Standing) → slice_get (standings_of model) n ≡ Some s → is_of plan.objects s.object ≡ true
+    object_there : (n : ℕ) (s : Standing) → slice_get (standings_of model) n ≡ Some s
+        → is_of plan.objects s.object ≡ true
     object_there n s at =
         (and_parts (is_of_if plan.slots s.parent) (is_of plan.objects s.object)
         (passes_there (slot_there plan) plan.slots n (slot_of model (standings_of model) s) there
         (ap (λ ss. slice_get ss n) is.slots ∙ slice_get-map (slot_of model (standings_of model)) (standings_of model) n
         ∙ ap (option_map (slot_of model (standings_of model))) at))).1
 
-    of_object : (x : Component) (o : ℕ) → object_in x ≡ Some o → material_of model x ≡ material_in (slice_get model.objects o)
-    of_object (components.Object c) o h = let same : c ≡ o = cc in ap (λ m. material_in (slice_get model.objects m)) same
+    of_object : (x : Component) (o : ℕ) → object_in x ≡ Some o
+        → material_of model x ≡ material_in (slice_get model.objects o)
+    of_object (components.Object c) o h = let same : c
+        ≡ o = cc in ap (λ m. material_in (slice_get model.objects m)) same
     of_object (components.Plain material) o h = absurd (cc)
 
     material : (n : ℕ) (s : Standing) → slice_get (standings_of model) n ≡ Some s → is_for bill.p bill.k s ≡ true
         → has_material line.material (slice_get plan.objects s.object) ≡ true
     material n s at h =
         ap (λ m. has_material m (slice_get plan.objects s.object))
-        (word ∙ of_object bill.item.component s.object (object_is model bill.p bill.k bill.above bill.item bill.at bill.listed n s at h))
+        (word ∙ of_object bill.item.component s.object
+        (object_is model bill.p bill.k bill.above bill.item bill.at bill.listed n s at h))
         ∙ material_there model tables plan is s.object (object_there n s at)
 
-    one_there : (o : ℕ) → object_in bill.item.component ≡ Some o → list_any (is_for bill.p bill.k) (standings_of model) ≡ true
+    one_there : (o : ℕ) → object_in bill.item.component ≡ Some o
+        → list_any (is_for bill.p bill.k) (standings_of model) ≡ true
     one_there o has = parts_at model keeps bill.p bill.above bill.at bill.k bill.item o bill.listed has
 
     count : (x : Component) → bill.item.component ≡ x
@@ -435,18 +486,23 @@ slots_of_line model tables plan keeps is there l line e =
     count (components.Object o) has =
         let some = one_there o (ap object_in has) in
         let found = some_there (is_for bill.p bill.k) (standings_of model) some in
-        one_left is_earlier (is_for bill.p bill.k) (not_twice bill.p bill.k) (standings_of model) (all_earlier model) some
+        one_left is_earlier (is_for bill.p bill.k) (not_twice bill.p bill.k) (standings_of model) (all_earlier model)
+        some
         ∙ sym (ap (λ b. if b then 1 else 0)
         (object_found line.material plan.objects found.1.object (material found.0 found.1 found.2 found.3)))
     count (components.Plain material) has =
-        let plain = passes_there (λ item. is_plain model.objects item.component) (bill_of model bill.above.object) bill.k bill.item
+        let plain
+        = passes_there (λ item. is_plain model.objects item.component) (bill_of model bill.above.object) bill.k
+        bill.item
         (bill_pass model (λ item. is_plain model.objects item.component) keeps.plain bill.above.object) bill.listed in
-        ap length (none_of_left (is_for bill.p bill.k) (standings_of model) (λ n s at. fails n s at (is_for bill.p bill.k s) refl))
+        ap length (none_of_left (is_for bill.p bill.k) (standings_of model)
+        (λ n s at. fails n s at (is_for bill.p bill.k s) refl))
         ∙ sym (ap (λ b. if b then 1 else 0)
         (ap (λ m. list_any (λ object. same_bytes object.material m) plan.objects) (word ∙ ap (material_of model) has)
         ∙ plain_apart model tables plan is material (ap (is_plain model.objects) (sym has) ∙ plain)))
       where
-        fails : (n : ℕ) (s : Standing) → slice_get (standings_of model) n ≡ Some s → (b : Bool) → is_for bill.p bill.k s ≡ b
+        fails : (n : ℕ) (s : Standing) → slice_get (standings_of model) n ≡ Some s → (b : Bool)
+            → is_for bill.p bill.k s ≡ b
             → is_for bill.p bill.k s ≡ false
         fails n s at false h = h
         fails n s at true h =
@@ -456,7 +512,8 @@ slots_of_line model tables plan keeps is there l line e =
 -- the selection conditions of a configurable line stand in the rules of its slot
 abbrev Leaves : Model → ItemDraft → Type 0
 Leaves model draft =
-    (not (list_any (λ object. same_bytes object.material draft.word) model.objects) || (length draft.choices == 0)) ≡ true
+    (not (list_any (λ object. same_bytes object.material draft.word) model.objects) || (length draft.choices == 0))
+    ≡ true
 
 line_leaves : (model : Model) (layout : Layout) (i : ℕ) (slot : Slot) (item : BillItem) → layout ≡ layout_of model
     → is_plain model.objects item.component ≡ true → Leaves model (line_at layout i slot item)
@@ -469,7 +526,8 @@ line_leaves model layout i slot item of plain = by item.component plain (site_of
         → (not (list_any (λ object. same_bytes object.material (material_of layout.model x)) model.objects)
         || (length (line_choices layout site x item.uses) == 0)) ≡ true
     by (components.Object o) h site =
-        or_right (not (list_any (λ object. same_bytes object.material (material_of layout.model (components.Object o))) model.objects)) true refl
+        or_right (not (list_any (λ object. same_bytes object.material (material_of layout.model (components.Object o)))
+        model.objects)) true refl
     by (components.Plain material) h site =
         or_left (not (list_any (λ object. same_bytes object.material material) model.objects))
         (length (line_choices layout site (components.Plain material) item.uses) == 0) h
@@ -478,22 +536,28 @@ all_leave : (model : Model) → KeepsParts model → Each (Leaves model) (line_d
 all_leave model keeps =
     each_by_slot (Leaves model) (lines_of_slot model) 0 (slots_of model) (λ k slot e.
     each_mapped (Leaves model) (line_at (layout_of model) (0 + k) slot) (bill_of model slot.object)
-    (each_more (λ item. is_plain model.objects item.component ≡ true) (λ item. Leaves model (line_at (layout_of model) (0 + k) slot item))
+    (each_more (λ item. is_plain model.objects item.component ≡ true)
+    (λ item. Leaves model (line_at (layout_of model) (0 + k) slot item))
     (λ item h. line_leaves model (layout_of model) (0 + k) slot item refl h) (bill_of model slot.object)
     (each_tested (λ item. is_plain model.objects item.component) (bill_of model slot.object)
     (bill_pass model (λ item. is_plain model.objects item.component) keeps.plain slot.object))))
 
 pub numbered_made : {D X : Type 0} (brings : Brings D) (make : ℕ → ℕ → D → X) (Q : D → Type 0) (P : X → Type 0)
-    → ((c t : ℕ) (d : D) → Q d → P (make c t d)) → (c t : ℕ) (drafts : List D) → Each Q drafts → Each P (numbered brings make c t drafts)
+    → ((c t : ℕ) (d : D) → Q d → P (make c t d)) → (c t : ℕ) (drafts : List D) → Each Q drafts
+    → Each P (numbered brings make c t drafts)
 numbered_made brings make Q P of c t [] h = tt
-numbered_made brings make Q P of c t (d ∷ drafts) h =
-    (of c t d h.0, numbered_made brings make Q P of (c + length (brings.conditions d)) (t + length (brings.terms d)) drafts h.1)
+numbered_made brings make Q P of c t (d ∷ drafts) h = (
+  of c t d h.0,
+  numbered_made brings make Q P of (c + length (brings.conditions d)) (t + length (brings.terms d))
+      drafts h.1,
+)
 
 selection_count : (c : ℕ) (choices : List Choice) → length (selections_from c choices) ≡ length choices
 selection_count c [] = refl
 selection_count c (x ∷ choices) = ap suc (selection_count (suc c) choices)
 
-pub has_line_slots : (model : Model) (tables : List VariantTable) (plan : Plan) → KeepsParts model → IsPlanOf model tables plan
+pub has_line_slots : (model : Model) (tables : List VariantTable) (plan : Plan) → KeepsParts model
+    → IsPlanOf model tables plan
     → list_all (slot_there plan) plan.slots ≡ true → HasLineSlots plan
 has_line_slots model tables plan keeps is there =
     let drafts = drafts_of (layout_of model) in
@@ -501,12 +565,15 @@ has_line_slots model tables plan keeps is there =
       line_slots = each_passes (λ l. l < 0 + length plan.lines) (λ l. has_its_slots plan l (slice_get plan.lines l))
           (λ l below. of_line l (slice_get plan.lines l) refl)
           (numbers_below (length plan.lines)) (below_count 0 (length plan.lines));
-      line_selections = each_passes (λ x. leaves_selections plan x ≡ true) (leaves_selections plan) (λ x h. h) plan.lines
+      line_selections = each_passes (λ x. leaves_selections plan x ≡ true) (leaves_selections plan) (λ x h. h)
+          plan.lines
           (subst (Each (λ x. leaves_selections plan x ≡ true)) (sym is.lines)
           (numbered_made item_brings line_from (Leaves model) (λ x. leaves_selections plan x ≡ true)
-          (λ c t d h. ap (λ n. not (list_any (λ object. same_bytes object.material d.word) plan.objects) || (n == 0)) (selection_count c d.choices)
+          (λ c t d h. ap (λ n. not (list_any (λ object. same_bytes object.material d.word) plan.objects) || (n == 0))
+          (selection_count c d.choices)
           ∙ ap (λ b. not b || (length d.choices == 0))
-          (ap (list_any (λ object. same_bytes object.material d.word)) is.objects ∙ materials_same model d.word 0 model.objects) ∙ h)
+          (ap (list_any (λ object. same_bytes object.material d.word)) is.objects
+          ∙ materials_same model d.word 0 model.objects) ∙ h)
           (lines_begin drafts) (line_terms_begin drafts) drafts.lines (all_leave model keeps)));
     }
   where

@@ -1,5 +1,6 @@
 -- Laws of lists under tests, and of lists without doubles.
-use Rattle.std.proofs.Common.{◌≡◌, ℕ, zero, suc, Bool, true, false, cond, not, ◌&&◌, ◌||◌, ◌<◌, ◌≤◌, List, [], ◌∷◌, ◌++◌, length, map, flat_map}
+use Rattle.std.proofs.Common.{◌≡◌, ℕ, zero, suc, Bool, true, false, cond, not, ◌&&◌, ◌||◌, ◌<◌, ◌≤◌, List, [], ◌∷◌}
+use Rattle.std.proofs.Common.{◌++◌, length, map, flat_map}
 use Rattle.std.proofs.Common.{Option, None, Some, refl, sym, ap, ◌∙◌, arith}
 use Rattle.std.specs.Prelude.{option_map, slice_get}
 use Rattle.std.specs.List.{filter, list_all, list_any}
@@ -13,7 +14,8 @@ pub weaker : {X : Type 0} (p q : X → Bool) (xs : List X) → ((x : X) → p x 
     → list_all q xs ≡ true
 weaker p q [] of h = refl
 weaker p q (x ∷ xs) of h =
-    let parts = and_parts (p x) (list_all p xs) h in and_from (q x) (list_all q xs) (of x parts.0) (weaker p q xs of parts.1)
+    let parts
+    = and_parts (p x) (list_all p xs) h in and_from (q x) (list_all q xs) (of x parts.0) (weaker p q xs of parts.1)
 
 -- each passes where each one does
 pub from_each : {X : Type 0} (p : X → Bool) (xs : List X) → ((k : ℕ) (x : X) → slice_get xs k ≡ Some x → p x ≡ true)
@@ -32,7 +34,8 @@ all_flat p f (x ∷ xs) h =
     let parts = and_parts (list_all p (f x)) (list_all (λ x. list_all p (f x)) xs) h in
     all_joined p (f x) (flat_map f xs) parts.0 (all_flat p f xs parts.1)
 
-any_mapped : {X Y : Type 0} (p : Y → Bool) (f : X → Y) (xs : List X) → list_any p (map f xs) ≡ list_any (λ x. p (f x)) xs
+any_mapped : {X Y : Type 0} (p : Y → Bool) (f : X → Y) (xs : List X)
+    → list_any p (map f xs) ≡ list_any (λ x. p (f x)) xs
 any_mapped p f [] = refl
 any_mapped p f (x ∷ xs) = ap (λ b. p (f x) || b) (any_mapped p f xs)
 
@@ -45,14 +48,16 @@ apart_mapped same f (x ∷ xs) =
     ∙ ap (λ b. not (list_any (λ y. same (f x) (f y)) xs) && b) (apart_mapped same f xs)
 
 -- none of a list passes where each fails, and the other way
-pub none_from : {X : Type 0} (p : X → Bool) (xs : List X) → list_all (λ x. not (p x)) xs ≡ true → not (list_any p xs) ≡ true
+pub none_from : {X : Type 0} (p : X → Bool) (xs : List X) → list_all (λ x. not (p x)) xs ≡ true
+    → not (list_any p xs) ≡ true
 none_from p [] h = refl
 none_from p (x ∷ xs) h =
     let parts = and_parts (not (p x)) (list_all (λ x. not (p x)) xs) h in
     not_from_false (p x || list_any p xs)
     (or_from (p x) (list_any p xs) (not-true (p x) parts.0) (not-true (list_any p xs) (none_from p xs parts.1)))
 
-pub each_fails : {X : Type 0} (p : X → Bool) (xs : List X) → not (list_any p xs) ≡ true → list_all (λ x. not (p x)) xs ≡ true
+pub each_fails : {X : Type 0} (p : X → Bool) (xs : List X) → not (list_any p xs) ≡ true
+    → list_all (λ x. not (p x)) xs ≡ true
 each_fails p [] h = refl
 each_fails p (x ∷ xs) h =
     let parts = or_parts (p x) (list_any p xs) (not-true (p x || list_any p xs) h) in
@@ -94,14 +99,16 @@ apart_left same q (x ∷ xs) h =
     by false here more = more
 
 -- two lists without doubles, and none of the one in the other
-pub apart_joined : {X : Type 0} (same : X → X → Bool) (xs ys : List X) → are_apart same xs ≡ true → are_apart same ys ≡ true
+pub apart_joined : {X : Type 0} (same : X → X → Bool) (xs ys : List X) → are_apart same xs ≡ true
+    → are_apart same ys ≡ true
     → list_all (λ y. not (list_any (λ x. same x y) xs)) ys ≡ true → are_apart same (xs ++ ys) ≡ true
 apart_joined same [] ys a b h = b
 apart_joined same (x ∷ xs) ys a b h =
     let parts = and_parts (not (list_any (same x) xs)) (are_apart same xs) a in
     let of : (y : _) → not (same x y || list_any (λ x. same x y) xs) ≡ true
     → (not (same x y) ≡ true) × (not (list_any (λ x. same x y) xs) ≡ true) = λ y e.
-    let both = or_parts (same x y) (list_any (λ x. same x y) xs) (not-true (same x y || list_any (λ x. same x y) xs) e) in
+    let both
+    = or_parts (same x y) (list_any (λ x. same x y) xs) (not-true (same x y || list_any (λ x. same x y) xs) e) in
     (not_from_false (same x y) both.0, not_from_false (list_any (λ x. same x y) xs) both.1) in
     let here = none_from (same x) ys
     (weaker (λ y. not (same x y || list_any (λ x. same x y) xs)) (λ y. not (same x y)) ys (λ y e. (of y e).0) h) in
@@ -109,12 +116,15 @@ apart_joined same (x ∷ xs) ys a b h =
     list_any-append (same x) xs ys
     ∙ or_from (list_any (same x) xs) (list_any (same x) ys) (not-true (list_any (same x) xs) parts.0)
     (not-true (list_any (same x) ys) here) in
-    and_from (not (list_any (same x) (xs ++ ys))) (are_apart same (xs ++ ys)) (not_from_false (list_any (same x) (xs ++ ys)) none)
+    and_from (not (list_any (same x) (xs ++ ys))) (are_apart same (xs ++ ys))
+    (not_from_false (list_any (same x) (xs ++ ys)) none)
     (apart_joined same xs ys parts.1 b
-    (weaker (λ y. not (same x y || list_any (λ x. same x y) xs)) (λ y. not (list_any (λ x. same x y) xs)) ys (λ y e. (of y e).1) h))
+    (weaker (λ y. not (same x y || list_any (λ x. same x y) xs)) (λ y. not (list_any (λ x. same x y) xs)) ys
+    (λ y e. (of y e).1) h))
 
 -- what is made of a list has something at a number of which the list has it
-pub made_from : {X Y : Type 0} (f : X → Y) (xs : List X) (ys : List Y) → map f xs ≡ ys → (n : ℕ) (y : Y) → slice_get ys n ≡ Some y
+pub made_from : {X Y : Type 0} (f : X → Y) (xs : List X) (ys : List Y) → map f xs ≡ ys → (n : ℕ) (y : Y)
+    → slice_get ys n ≡ Some y
     → (x : X) × (slice_get xs n ≡ Some x) × (f x ≡ y)
 made_from {X = X} {Y = Y} f xs ys e n y at = by (slice_get xs n) refl
   where
@@ -139,7 +149,8 @@ there (x ∷ xs) zero h = (x, refl)
 there (x ∷ xs) (suc k) h = there xs k (omega (arith, h))
 
 -- one that is there passes what all pass
-pub passes_there : {X : Type 0} (p : X → Bool) (xs : List X) (k : ℕ) (x : X) → list_all p xs ≡ true → slice_get xs k ≡ Some x → p x ≡ true
+pub passes_there : {X : Type 0} (p : X → Bool) (xs : List X) (k : ℕ) (x : X) → list_all p xs ≡ true
+    → slice_get xs k ≡ Some x → p x ≡ true
 passes_there p [] k x h e = absurd (cc)
 passes_there p (y ∷ xs) zero x h e =
     let same : y ≡ x = cc in ap p (sym same) ∙ (and_parts (p y) (list_all p xs) h).0

@@ -1,5 +1,6 @@
 -- Whole numbers of units: which counts are some, and how far apart two of them are.
-use Rattle.std.proofs.Common.{◌≡◌, ℕ, zero, suc, ◌+◌, ◌-◌, ◌*◌, ◌/◌, ◌%◌, ◌<◌, ◌≤◌, Bool, true, false, refl, sym, ap, ◌∙◌, arith, ℤ, pos, negsuc, ◌+ℤ◌, ◌-ℤ◌, inl, inr, if◌then◌else◌}
+use Rattle.std.proofs.Common.{◌≡◌, ℕ, zero, suc, ◌+◌, ◌-◌, ◌*◌, ◌/◌, ◌%◌, ◌<◌, ◌≤◌, Bool, true, false, refl, sym, ap}
+use Rattle.std.proofs.Common.{◌∙◌, arith, ℤ, pos, negsuc, ◌+ℤ◌, ◌-ℤ◌, inl, inr, if◌then◌else◌}
 use Rattle.std.specs.Prelude.{int_lt, unsigned_abs}
 use Rattle.std.specs.Int.{int_max, int_min, int_rem_euclid}
 use Rattle.std.specs.Int.Signed.{lt_z, le_z}
@@ -55,7 +56,8 @@ multiple_from u z t x q some e whole =
 quotient : (u : ℕ) (z : ℤ) (t x : ℕ) → 0 < u → z +ℤ pos (t * u) ≡ pos x → is_multiple u z ≡ true → x ≡ (x / u) * u
 quotient u z t x some e whole =
     let rest : x % u ≡ 0 =
-    ap unsigned_abs (sym (int_rem_euclid_is z (pos u) u t x some refl e) ∙ int_same (int_rem_euclid z (pos u)) (pos 0) whole) in
+    ap unsigned_abs (sym (int_rem_euclid_is z (pos u) u t x some refl e)
+    ∙ int_same (int_rem_euclid z (pos u)) (pos 0) whole) in
     let all = div-add-mod' x u in
     omega (arith, rest, all)
 
@@ -92,7 +94,8 @@ below_multiple u at some =
         let all = div-add-mod' raise.first u in
         ap (λ b. is_multiple u (at -ℤ (if b then pos u else pos (suc r)))) (not_none r)
         ∙ multiple_from u (at -ℤ pos (suc r)) raise.turns ((raise.first / u) * u) (raise.first / u) some
-        (shift_down at (raise.turns * u) raise.first (suc r) ((raise.first / u) * u) raise.first_is (omega (arith, all, e))) refl
+        (shift_down at (raise.turns * u) raise.first (suc r) ((raise.first / u) * u) raise.first_is
+        (omega (arith, all, e))) refl
 
 pub above_multiple : (u : ℕ) (at : ℤ) → 0 < u → is_multiple u (next_above u at) ≡ true
 above_multiple u at some =
@@ -147,14 +150,16 @@ multiples_apart u n a some first second less =
     shifted_le n a (r.turns * u) r.first r.second u r.first_is r.second_is (omega (arith, x, y, gap))
 
 -- the greater and the less of two
-pub max_multiple : (u : ℕ) (x y : ℤ) → is_multiple u x ≡ true → is_multiple u y ≡ true → is_multiple u (int_max x y) ≡ true
+pub max_multiple : (u : ℕ) (x y : ℤ) → is_multiple u x ≡ true → is_multiple u y ≡ true
+    → is_multiple u (int_max x y) ≡ true
 max_multiple u x y h k = by (int_lt y x)
   where
     by : (b : Bool) → is_multiple u (if b then x else y) ≡ true
     by true = h
     by false = k
 
-pub min_multiple : (u : ℕ) (x y : ℤ) → is_multiple u x ≡ true → is_multiple u y ≡ true → is_multiple u (int_min x y) ≡ true
+pub min_multiple : (u : ℕ) (x y : ℤ) → is_multiple u x ≡ true → is_multiple u y ≡ true
+    → is_multiple u (int_min x y) ≡ true
 min_multiple u x y h k = by (int_lt y x)
   where
     by : (b : Bool) → is_multiple u (if b then y else x) ≡ true

@@ -1,5 +1,6 @@
 -- What a characteristic of a slot's class is called by: the number of its variable or its set.
-use Rattle.std.proofs.Common.{◌≡◌, ℕ, zero, suc, ◌+◌, Bool, true, false, cond, not, ◌&&◌, ◌||◌, List, [], ◌∷◌, length, map}
+use Rattle.std.proofs.Common.{◌≡◌, ℕ, zero, suc, ◌+◌, Bool, true, false, cond, not, ◌&&◌, ◌||◌, List, [], ◌∷◌, length}
+use Rattle.std.proofs.Common.{map}
 use Rattle.std.proofs.Common.{Some, refl, sym, ap, ◌∙◌, arith, if◌then◌else◌}
 use Rattle.std.specs.Prelude.{◌==◌, find, slice_get}
 use Rattle.std.specs.List.{filter, list_any, position_or_len}
@@ -23,7 +24,8 @@ use Rattle.vc_compile_plan.specs.Layouts.{layout_of}
 use Rattle.vc_compile_plan.specs.PlanOf.{IsPlanOf}
 use Rattle.vc_compile_plan.specs.Sites.{named_at}
 use Rattle.vc_compile_plan.specs.Slots.{slots_of}
-use Rattle.vc_compile_plan.specs.Variables.{by_slot, members_of, set_at, set_number, sets_at, sets_of, var_at, var_number, vars_at, vars_of}
+use Rattle.vc_compile_plan.specs.Variables.{by_slot, members_of, set_at, set_number, sets_at, sets_of, var_at}
+use Rattle.vc_compile_plan.specs.Variables.{var_number, vars_at, vars_of}
 use Rattle.vc_compile_valid.proofs.EachLaws.{Each, each_more}
 
 -- the first that passes, where one does
@@ -53,7 +55,8 @@ each_among same itself (x ∷ xs) = (
 )
 
 -- what stands at one slot stands among all
-pub any_by_slot : {X : Type 0} (p : X → Bool) (has : ℕ → Slot → List X) (i : ℕ) (slots : List Slot) (k : ℕ) (slot : Slot)
+pub any_by_slot : {X : Type 0} (p : X → Bool) (has : ℕ → Slot → List X) (i : ℕ) (slots : List Slot) (k : ℕ)
+    (slot : Slot)
     → slice_get slots k ≡ Some slot → list_any p (has (i + k) slot) ≡ true → list_any p (by_slot has i slots) ≡ true
 any_by_slot p has i [] k slot e h = absurd (cc)
 any_by_slot p has i (s ∷ slots) zero slot e h =
@@ -101,37 +104,43 @@ pub record IsNamedAt (plan : Plan) (i c : ℕ) (n : Named) : Type 0 where
 -- the variable, and the set, of a characteristic of a slot's class
 pub var_found : (model : Model) (k : ℕ) (slot : Slot) → slice_get (slots_of model) k ≡ Some slot → (c : ℕ)
     → list_any (λ d. c == d) (members_of model slot.object) ≡ true → is_multiple model c ≡ false
-    → (x : Var) × (slice_get (vars_of model (slots_of model)) (var_number (vars_of model (slots_of model)) (0 + k) c) ≡ Some x)
+    → (x : Var) × (slice_get (vars_of model (slots_of model)) (var_number (vars_of model (slots_of model)) (0 + k) c)
+    ≡ Some x)
     × (x.slot ≡ 0 + k) × (x.characteristic ≡ c)
 var_found model k slot at c member single =
     let test : Var → Bool = λ x. (x.slot == (0 + k)) && (x.characteristic == c) in
     let found = first_found test (vars_of model (slots_of model))
     (any_by_slot test (vars_at model) 0 (slots_of model) k slot at
     (any_made test (var_at model (0 + k)) (λ d. not (is_multiple model d)) c
-    (and_from (0 + k == 0 + k) (c == c) (eq-eqb (0 + k) (0 + k) refl) (eq-eqb c c refl)) (not_from_false (is_multiple model c) single)
+    (and_from (0 + k == 0 + k) (c == c) (eq-eqb (0 + k) (0 + k) refl) (eq-eqb c c refl))
+    (not_from_false (is_multiple model c) single)
     (members_of model slot.object) member)) in
     let parts = and_parts (found.0.slot == (0 + k)) (found.0.characteristic == c) found.2 in
     (found.0, found.1, eqb-true found.0.slot (0 + k) parts.0, eqb-true found.0.characteristic c parts.1)
 
 pub set_found : (model : Model) (k : ℕ) (slot : Slot) → slice_get (slots_of model) k ≡ Some slot → (c : ℕ)
     → list_any (λ d. c == d) (members_of model slot.object) ≡ true → is_multiple model c ≡ true
-    → (x : TextSet) × (slice_get (sets_of model (slots_of model)) (set_number (sets_of model (slots_of model)) (0 + k) c) ≡ Some x)
+    → (x : TextSet) × (slice_get (sets_of model (slots_of model))
+    (set_number (sets_of model (slots_of model)) (0 + k) c) ≡ Some x)
     × (x.slot ≡ 0 + k) × (x.characteristic ≡ c)
 set_found model k slot at c member multiple =
     let test : TextSet → Bool = λ x. (x.slot == (0 + k)) && (x.characteristic == c) in
     let found = first_found test (sets_of model (slots_of model))
     (any_by_slot test (sets_at model) 0 (slots_of model) k slot at
     (any_made test (set_at (0 + k)) (is_multiple model) c
-    (and_from (0 + k == 0 + k) (c == c) (eq-eqb (0 + k) (0 + k) refl) (eq-eqb c c refl)) multiple (members_of model slot.object) member)) in
+    (and_from (0 + k == 0 + k) (c == c) (eq-eqb (0 + k) (0 + k) refl) (eq-eqb c c refl)) multiple
+    (members_of model slot.object) member)) in
     let parts = and_parts (found.0.slot == (0 + k)) (found.0.characteristic == c) found.2 in
     (found.0, found.1, eqb-true found.0.slot (0 + k) parts.0, eqb-true found.0.characteristic c parts.1)
 
-pub named_at_slot : (model : Model) (tables : List VariantTable) (plan : Plan) → IsPlanOf model tables plan → (k : ℕ) (slot : Slot)
+pub named_at_slot : (model : Model) (tables : List VariantTable) (plan : Plan) → IsPlanOf model tables plan
+    → (k : ℕ) (slot : Slot)
     → slice_get (slots_of model) k ≡ Some slot → (c : ℕ) → list_any (λ d. c == d) (members_of model slot.object) ≡ true
     → IsNamedAt plan (0 + k) c (named_at (layout_of model) (0 + k) c)
 named_at_slot model tables plan is k slot at c member = by (is_multiple model c) refl
   where
-    var_is : is_multiple model c ≡ false → IsNamedAt plan (0 + k) c (named.Var (var_number (vars_of model (slots_of model)) (0 + k) c))
+    var_is : is_multiple model c ≡ false
+        → IsNamedAt plan (0 + k) c (named.Var (var_number (vars_of model (slots_of model)) (0 + k) c))
     var_is single =
         let found = var_found model k slot at c member single in
         let n = var_number (vars_of model (slots_of model)) (0 + k) c in
@@ -144,7 +153,8 @@ named_at_slot model tables plan is k slot at c member = by (is_multiple model c)
           slot = ap slot_in here ∙ ap Some found.2;
         }
 
-    set_is : is_multiple model c ≡ true → IsNamedAt plan (0 + k) c (named.Set (set_number (sets_of model (slots_of model)) (0 + k) c))
+    set_is : is_multiple model c ≡ true
+        → IsNamedAt plan (0 + k) c (named.Set (set_number (sets_of model (slots_of model)) (0 + k) c))
     set_is multiple =
         let found = set_found model k slot at c member multiple in
         let n = set_number (sets_of model (slots_of model)) (0 + k) c in
@@ -163,7 +173,8 @@ named_at_slot model tables plan is k slot at c member = by (is_multiple model c)
     by true e = set_is e
     by false e = var_is e
 
-pub named_found : (model : Model) (tables : List VariantTable) (plan : Plan) → IsPlanOf model tables plan → (k : ℕ) (slot : Slot)
+pub named_found : (model : Model) (tables : List VariantTable) (plan : Plan) → IsPlanOf model tables plan
+    → (k : ℕ) (slot : Slot)
     → slice_get (slots_of model) k ≡ Some slot → (c : ℕ) → list_any (λ d. c == d) (members_of model slot.object) ≡ true
     → IsNamed plan c (named_at (layout_of model) (0 + k) c)
 named_found model tables plan is k slot at c member = (named_at_slot model tables plan is k slot at c member).named

@@ -1,10 +1,15 @@
 -- What the numbers of conditions and terms mean: those of the draft that a thing is made of.
-use Rattle.std.proofs.Common.{◌≡◌, ℕ, suc, ◌+◌, ◌≤◌, List, [], ◌∷◌, ◌++◌, length, flat_map, refl, sym, ap, ◌∙◌, arith, append_assoc, append-nil, length-append}
+use Rattle.std.proofs.Common.{◌≡◌, ℕ, suc, ◌+◌, ◌≤◌, List, [], ◌∷◌, ◌++◌, length, flat_map, refl, sym, ap, ◌∙◌, arith}
+use Rattle.std.proofs.Common.{append_assoc, append-nil, length-append}
 use Rattle.std.proofs.lemmas.List.{length-map}
 use Rattle.vc_plan.specs.declared.plans.Plan.{Plan}
 use Rattle.vc_table.specs.declared.table.VariantTable.{VariantTable}
 use Rattle.vc_compile_plan.specs.Layouts.{Layout}
-use Rattle.vc_compile_plan.specs.Numbering.{Brings, Drafts, numbered, conditions_of, terms_of, rule_brings, guard_brings, requirement_brings, item_brings, procedure_brings, brought_conditions, brought_terms, guards_begin, requirements_begin, lines_begin, operations_begin, line_terms_begin, operation_terms_begin, procedures_begin, procedure_terms_begin}
+use Rattle.vc_compile_plan.specs.Numbering.{Brings, Drafts, numbered, conditions_of, terms_of, rule_brings}
+use Rattle.vc_compile_plan.specs.Numbering.{guard_brings, requirement_brings, item_brings, procedure_brings}
+use Rattle.vc_compile_plan.specs.Numbering.{brought_conditions, brought_terms, guards_begin, requirements_begin}
+use Rattle.vc_compile_plan.specs.Numbering.{lines_begin, operations_begin, line_terms_begin, operation_terms_begin}
+use Rattle.vc_compile_plan.specs.Numbering.{procedures_begin, procedure_terms_begin}
 use Rattle.vc_compile_plan.specs.PlanOf.{IsPlanOver}
 use Rattle.vc_compile_plan.specs.Trees.{Condition, Term, Always, condition_of, term_of}
 use Rattle.vc_compile_valid.proofs.EachLaws.{Each}
@@ -16,7 +21,8 @@ pub record StandFrom {X : Type 0} (all : List X) (n : ℕ) (xs : List X) : Type 
   pub number : n ≡ length before
   pub all_are : all ≡ before ++ (xs ++ after)
 
-pub first_of_more : {X : Type 0} (all : List X) (n : ℕ) (xs ys : List X) → StandFrom all n (xs ++ ys) → StandFrom all n xs
+pub first_of_more : {X : Type 0} (all : List X) (n : ℕ) (xs ys : List X) → StandFrom all n (xs ++ ys)
+    → StandFrom all n xs
 first_of_more all n xs ys s = record {
   before = s.before;
   after = ys ++ s.after;
@@ -54,7 +60,8 @@ numbered_each brings make Q P conditions terms of c t (draft ∷ drafts) good cs
     let more_terms = flat_map brings.terms drafts in (
       of c t draft good.0 (first_of_more conditions c (brings.conditions draft) more_conditions cs)
           (first_of_more terms t (brings.terms draft) more_terms ts),
-      numbered_each brings make Q P conditions terms of (c + length (brings.conditions draft)) (t + length (brings.terms draft))
+      numbered_each brings make Q P conditions terms of (c + length (brings.conditions draft))
+          (t + length (brings.terms draft))
           drafts good.1 (rest_of_more conditions c (brings.conditions draft) more_conditions cs)
           (rest_of_more terms t (brings.terms draft) more_terms ts),
     )
@@ -94,33 +101,42 @@ from_guards d =
 
 from_requirements : (d : Drafts) → StandFrom (conditions_of d) (requirements_begin d) (requirements_on d)
 from_requirements d =
-    rest_of_more (conditions_of d) (guards_begin d) (brought_conditions guard_brings d.guards) (requirements_on d) (from_guards d)
+    rest_of_more (conditions_of d) (guards_begin d) (brought_conditions guard_brings d.guards) (requirements_on d)
+    (from_guards d)
 
 from_lines : (d : Drafts) → StandFrom (conditions_of d) (lines_begin d) (lines_on d)
 from_lines d =
-    rest_of_more (conditions_of d) (requirements_begin d) (brought_conditions requirement_brings d.requirements) (lines_on d)
+    rest_of_more (conditions_of d) (requirements_begin d) (brought_conditions requirement_brings d.requirements)
+    (lines_on d)
     (from_requirements d)
 
 from_operations : (d : Drafts) → StandFrom (conditions_of d) (operations_begin d) (operations_on d)
 from_operations d =
-    rest_of_more (conditions_of d) (lines_begin d) (brought_conditions item_brings d.lines) (operations_on d) (from_lines d)
+    rest_of_more (conditions_of d) (lines_begin d) (brought_conditions item_brings d.lines) (operations_on d)
+    (from_lines d)
 
 pub rule_conditions : (d : Drafts) → StandFrom (conditions_of d) 1 (brought_conditions rule_brings d.rules)
-rule_conditions d = first_of_more (conditions_of d) 1 (brought_conditions rule_brings d.rules) (guards_on d) (from_rules d)
+rule_conditions d = first_of_more (conditions_of d) 1 (brought_conditions rule_brings d.rules) (guards_on d)
+    (from_rules d)
 
-pub guard_conditions : (d : Drafts) → StandFrom (conditions_of d) (guards_begin d) (brought_conditions guard_brings d.guards)
+pub guard_conditions : (d : Drafts)
+    → StandFrom (conditions_of d) (guards_begin d) (brought_conditions guard_brings d.guards)
 guard_conditions d =
-    first_of_more (conditions_of d) (guards_begin d) (brought_conditions guard_brings d.guards) (requirements_on d) (from_guards d)
+    first_of_more (conditions_of d) (guards_begin d) (brought_conditions guard_brings d.guards) (requirements_on d)
+    (from_guards d)
 
 pub requirement_conditions : (d : Drafts)
     → StandFrom (conditions_of d) (requirements_begin d) (brought_conditions requirement_brings d.requirements)
 requirement_conditions d =
-    first_of_more (conditions_of d) (requirements_begin d) (brought_conditions requirement_brings d.requirements) (lines_on d)
+    first_of_more (conditions_of d) (requirements_begin d) (brought_conditions requirement_brings d.requirements)
+    (lines_on d)
     (from_requirements d)
 
-pub line_conditions : (d : Drafts) → StandFrom (conditions_of d) (lines_begin d) (brought_conditions item_brings d.lines)
+pub line_conditions : (d : Drafts)
+    → StandFrom (conditions_of d) (lines_begin d) (brought_conditions item_brings d.lines)
 line_conditions d =
-    first_of_more (conditions_of d) (lines_begin d) (brought_conditions item_brings d.lines) (operations_on d) (from_lines d)
+    first_of_more (conditions_of d) (lines_begin d) (brought_conditions item_brings d.lines) (operations_on d)
+    (from_lines d)
 
 pub operation_conditions : (d : Drafts)
     → StandFrom (conditions_of d) (operations_begin d) (brought_conditions item_brings d.operations)
@@ -143,7 +159,13 @@ line_terms_on d = brought_terms item_brings d.lines ++ operation_terms_on d
 
 from_rule_terms : (d : Drafts) → StandFrom (terms_of d) 0 (brought_terms rule_brings d.rules ++ line_terms_on d)
 from_rule_terms d =
-    record { before = []; after = []; number = refl; all_are = sym (append-nil (brought_terms rule_brings d.rules ++ line_terms_on d)) }
+    record {
+      before = [];
+      after = [];
+      number = refl;
+      all_are =
+          sym (append-nil (brought_terms rule_brings d.rules ++ line_terms_on d));
+    }
 
 from_line_terms : (d : Drafts) → StandFrom (terms_of d) (line_terms_begin d) (line_terms_on d)
 from_line_terms d =
@@ -156,14 +178,16 @@ from_line_terms d =
 
 from_operation_terms : (d : Drafts) → StandFrom (terms_of d) (operation_terms_begin d) (operation_terms_on d)
 from_operation_terms d =
-    rest_of_more (terms_of d) (line_terms_begin d) (brought_terms item_brings d.lines) (operation_terms_on d) (from_line_terms d)
+    rest_of_more (terms_of d) (line_terms_begin d) (brought_terms item_brings d.lines) (operation_terms_on d)
+    (from_line_terms d)
 
 pub rule_terms : (d : Drafts) → StandFrom (terms_of d) 0 (brought_terms rule_brings d.rules)
 rule_terms d = first_of_more (terms_of d) 0 (brought_terms rule_brings d.rules) (line_terms_on d) (from_rule_terms d)
 
 pub line_terms : (d : Drafts) → StandFrom (terms_of d) (line_terms_begin d) (brought_terms item_brings d.lines)
 line_terms d =
-    first_of_more (terms_of d) (line_terms_begin d) (brought_terms item_brings d.lines) (operation_terms_on d) (from_line_terms d)
+    first_of_more (terms_of d) (line_terms_begin d) (brought_terms item_brings d.lines) (operation_terms_on d)
+    (from_line_terms d)
 
 pub operation_terms : (d : Drafts)
     → StandFrom (terms_of d) (operation_terms_begin d) (brought_terms item_brings d.operations)
@@ -183,13 +207,21 @@ none_brought [] = refl
 none_brought (x ∷ xs) = none_brought xs
 
 pub no_terms : {D : Type 0} (all : List Term) (xs : List D) → StandFrom all 0 (flat_map {A = Term} (λ x. []) xs)
-no_terms all xs = record { before = []; after = all; number = refl; all_are = ap (λ l. l ++ all) (sym (none_brought xs)) }
+no_terms all xs = record {
+  before = [];
+  after = all;
+  number = refl;
+  all_are =
+      ap (λ l. l ++ all) (sym (none_brought xs));
+}
 
 -- the plan has as many
-pub condition_count : (layout : Layout) (d : Drafts) (tables : List VariantTable) (plan : Plan) → IsPlanOver layout d tables plan
+pub condition_count : (layout : Layout) (d : Drafts) (tables : List VariantTable) (plan : Plan)
+    → IsPlanOver layout d tables plan
     → length plan.conditions ≡ length (conditions_of d)
 condition_count layout d tables plan is = sym (length-map plan.conditions condition_of) ∙ ap length is.conditions
 
-pub term_count : (layout : Layout) (d : Drafts) (tables : List VariantTable) (plan : Plan) → IsPlanOver layout d tables plan
+pub term_count : (layout : Layout) (d : Drafts) (tables : List VariantTable) (plan : Plan)
+    → IsPlanOver layout d tables plan
     → length plan.terms ≡ length (terms_of d)
 term_count layout d tables plan is = sym (length-map plan.terms term_of) ∙ ap length is.terms

@@ -1,5 +1,6 @@
 -- Slots of one object have its lines, and its operations, alike.
-use Rattle.std.proofs.Common.{◌≡◌, ℕ, ◌+◌, ◌<◌, Bool, true, false, cond, not, ◌&&◌, ◌||◌, List, [], ◌∷◌, length, map, Some, refl, sym, ap, ◌∙◌, arith}
+use Rattle.std.proofs.Common.{◌≡◌, ℕ, ◌+◌, ◌<◌, Bool, true, false, cond, not, ◌&&◌, ◌||◌, List, [], ◌∷◌, length, map}
+use Rattle.std.proofs.Common.{Some, refl, sym, ap, ◌∙◌, arith}
 use Rattle.std.specs.Prelude.{◌==◌, slice_get}
 use Rattle.std.specs.List.{filter}
 use Rattle.std.proofs.lemmas.Bool.{and_from, eq-eqb, eqb-true}
@@ -8,7 +9,8 @@ use Rattle.vc_model_parts.specs.declared.parts.BillItem.{BillItem}
 use Rattle.vc_model_parts.specs.declared.parts.Model.{Model}
 use Rattle.vc_model_parts.specs.declared.parts.Operation as parts
 use Rattle.vc_plan.specs.Alike as alike
-use Rattle.vc_plan.specs.Alike.{are_of_one_object, have_one_bill, have_one_routing, lines_at, operations_at, same_lines, same_operations}
+use Rattle.vc_plan.specs.Alike.{are_of_one_object, have_one_bill, have_one_routing, lines_at, operations_at, same_lines}
+use Rattle.vc_plan.specs.Alike.{same_operations}
 use Rattle.vc_plan.specs.Domains.{numbers_below}
 use Rattle.vc_plan.specs.Orders.{same_number_if}
 use Rattle.vc_plan.specs.Valid.{each_slot}
@@ -18,9 +20,11 @@ use Rattle.vc_plan.specs.declared.plans.Plan.{Plan}
 use Rattle.vc_plan.specs.declared.plans.Slot.{Slot}
 use Rattle.vc_table.specs.declared.table.VariantTable.{VariantTable}
 use Rattle.vc_compile_plan.specs.Layouts.{layout_of}
-use Rattle.vc_compile_plan.specs.Numbering.{drafts_of, item_brings, line_from, line_terms_begin, lines_begin, numbered, operation_from, operation_terms_begin, operations_begin}
+use Rattle.vc_compile_plan.specs.Numbering.{drafts_of, item_brings, line_from, line_terms_begin, lines_begin, numbered}
+use Rattle.vc_compile_plan.specs.Numbering.{operation_from, operation_terms_begin, operations_begin}
 use Rattle.vc_compile_plan.specs.PlanOf.{IsPlanOf}
-use Rattle.vc_compile_plan.specs.Shown.{ItemDraft, line_at, line_drafts, material_of, operation_at, operation_drafts, operations_in}
+use Rattle.vc_compile_plan.specs.Shown.{ItemDraft, line_at, line_drafts, material_of, operation_at, operation_drafts}
+use Rattle.vc_compile_plan.specs.Shown.{operations_in}
 use Rattle.vc_compile_plan.specs.Slots.{bill_of, slots_of}
 use Rattle.vc_compile_valid.specs.Slots.{HasOneBill}
 use Rattle.vc_compile_valid.proofs.EachLaws.{each_mapped, each_of_all, each_passes}
@@ -67,7 +71,8 @@ lines_same (l ∷ ls) (m ∷ ms) e =
     (same_word l.material m.material (ap (λ f. f.word) first)) (same_word l.unit m.unit (ap (λ f. f.unit) first))))
     (lines_same ls ms rest)
 
-operations_same : (ls ms : List Operation) → map operation_face ls ≡ map operation_face ms → same_operations ls ms ≡ true
+operations_same : (ls ms : List Operation) → map operation_face ls ≡ map operation_face ms
+    → same_operations ls ms ≡ true
 operations_same [] [] e = refl
 operations_same [] (m ∷ ms) e = absurd (cc)
 operations_same (l ∷ ls) [] e = absurd (cc)
@@ -89,7 +94,8 @@ faces_left : {X : Type 0} (make : ℕ → ℕ → ItemDraft → X) (test : X →
 faces_left make test face i same faced c t [] = refl
 faces_left {X = X} make test face i same faced c t (d ∷ drafts) =
     by (test (make c t d)) (d.slot == i) (same c t d)
-    (faces_left make test face i same faced (c + length (item_brings.conditions d)) (t + length (item_brings.terms d)) drafts)
+    (faces_left make test face i same faced (c + length (item_brings.conditions d)) (t + length (item_brings.terms d))
+    drafts)
   where
     rest : List X
     rest = numbered item_brings make (c + length (item_brings.conditions d)) (t + length (item_brings.terms d)) drafts
@@ -116,7 +122,8 @@ own_faces : (model : Model) (i : ℕ) (slot : Slot) (operations : List parts.Ope
 own_faces model i slot [] = refl
 own_faces model i slot (x ∷ operations) = ap (λ fs. own_face x ∷ fs) (own_faces model i slot operations)
 
-line_faces : (model : Model) (tables : List VariantTable) (plan : Plan) → IsPlanOf model tables plan → (i : ℕ) (slot : Slot)
+line_faces : (model : Model) (tables : List VariantTable) (plan : Plan) → IsPlanOf model tables plan
+    → (i : ℕ) (slot : Slot)
     → slice_get (slots_of model) i ≡ Some slot
     → map line_face (lines_at plan i) ≡ map (item_face model) (bill_of model slot.object)
 line_faces model tables plan is i slot e =
@@ -129,7 +136,8 @@ line_faces model tables plan is i slot e =
     (each_of_all (λ x. i ≡ i) (λ x. refl) (bill_of model slot.object))) 0 (slots_of model) i slot e i (no_front i))
     ∙ item_faces model i slot (bill_of model slot.object)
 
-operation_faces : (model : Model) (tables : List VariantTable) (plan : Plan) → IsPlanOf model tables plan → (i : ℕ) (slot : Slot)
+operation_faces : (model : Model) (tables : List VariantTable) (plan : Plan) → IsPlanOf model tables plan
+    → (i : ℕ) (slot : Slot)
     → slice_get (slots_of model) i ≡ Some slot
     → map operation_face (operations_at plan i) ≡ map own_face (operations_in (slice_get model.objects slot.object))
 operation_faces model tables plan is i slot e =
@@ -139,13 +147,16 @@ operation_faces model tables plan is i slot e =
     (operations_begin drafts) (operation_terms_begin drafts) (operation_drafts (layout_of model))
     ∙ ap (map draft_face) (at_slot (λ d. d.slot)
     (λ i slot. map (operation_at (layout_of model) i slot) (operations_in (slice_get model.objects slot.object)))
-    (λ i slot. each_mapped (λ x. x.slot ≡ i) (operation_at (layout_of model) i slot) (operations_in (slice_get model.objects slot.object))
-    (each_of_all (λ x. i ≡ i) (λ x. refl) (operations_in (slice_get model.objects slot.object)))) 0 (slots_of model) i slot e i
+    (λ i slot. each_mapped (λ x. x.slot ≡ i) (operation_at (layout_of model) i slot)
+    (operations_in (slice_get model.objects slot.object))
+    (each_of_all (λ x. i ≡ i) (λ x. refl) (operations_in (slice_get model.objects slot.object)))) 0 (slots_of model) i
+    slot e i
     (no_front i))
     ∙ own_faces model i slot (operations_in (slice_get model.objects slot.object))
 
 -- slots of one object
-same_object : (model : Model) (tables : List VariantTable) (plan : Plan) → IsPlanOf model tables plan → (i j : ℕ) (a b : Slot)
+same_object : (model : Model) (tables : List VariantTable) (plan : Plan) → IsPlanOf model tables plan
+    → (i j : ℕ) (a b : Slot)
     → slice_get (slots_of model) i ≡ Some a → slice_get (slots_of model) j ≡ Some b → are_of_one_object plan i j ≡ true
     → a.object ≡ b.object
 same_object model tables plan is i j a b e f h =
@@ -154,7 +165,8 @@ same_object model tables plan is i j a b e f h =
     ∙ ap (λ o. same_number_if (alike.object_in o) (alike.object_in (slice_get (slots_of model) j))) e
     ∙ ap (λ o. same_number_if (Some a.object) (alike.object_in o)) f) ∙ h)
 
-one_bill : (model : Model) (tables : List VariantTable) (plan : Plan) → IsPlanOf model tables plan → (i j : ℕ) (a b : Slot)
+one_bill : (model : Model) (tables : List VariantTable) (plan : Plan) → IsPlanOf model tables plan
+    → (i j : ℕ) (a b : Slot)
     → slice_get (slots_of model) i ≡ Some a → slice_get (slots_of model) j ≡ Some b → have_one_bill plan i j ≡ true
 one_bill model tables plan is i j a b e f = by (are_of_one_object plan i j) refl
   where
@@ -166,19 +178,23 @@ one_bill model tables plan is i j a b e f = by (are_of_one_object plan i j) refl
         ∙ ap (λ o. map (item_face model) (bill_of model o)) (same_object model tables plan is i j a b e f h)
         ∙ sym (line_faces model tables plan is j b f))
 
-one_routing : (model : Model) (tables : List VariantTable) (plan : Plan) → IsPlanOf model tables plan → (i j : ℕ) (a b : Slot)
+one_routing : (model : Model) (tables : List VariantTable) (plan : Plan) → IsPlanOf model tables plan
+    → (i j : ℕ) (a b : Slot)
     → slice_get (slots_of model) i ≡ Some a → slice_get (slots_of model) j ≡ Some b → have_one_routing plan i j ≡ true
 one_routing model tables plan is i j a b e f = by (are_of_one_object plan i j) refl
   where
-    by : (t : Bool) → are_of_one_object plan i j ≡ t → (not t || same_operations (operations_at plan i) (operations_at plan j)) ≡ true
+    by : (t : Bool) → are_of_one_object plan i j ≡ t
+        → (not t || same_operations (operations_at plan i) (operations_at plan j)) ≡ true
     by false h = refl
     by true h =
         operations_same (operations_at plan i) (operations_at plan j)
         (operation_faces model tables plan is i a e
-        ∙ ap (λ o. map own_face (operations_in (slice_get model.objects o))) (same_object model tables plan is i j a b e f h)
+        ∙ ap (λ o. map own_face (operations_in (slice_get model.objects o)))
+        (same_object model tables plan is i j a b e f h)
         ∙ sym (operation_faces model tables plan is j b f))
 
-pub has_one_bill : (model : Model) (tables : List VariantTable) (plan : Plan) → IsPlanOf model tables plan → HasOneBill plan
+pub has_one_bill : (model : Model) (tables : List VariantTable) (plan : Plan) → IsPlanOf model tables plan
+    → HasOneBill plan
 has_one_bill model tables plan is = record {
   one_bill = pairs (have_one_bill plan) (one_bill model tables plan is);
   one_routing = pairs (have_one_routing plan) (one_routing model tables plan is);
@@ -188,7 +204,8 @@ has_one_bill model tables plan is = record {
     size = ap length is.slots
 
     pairs : (test : ℕ → ℕ → Bool)
-        → ((i j : ℕ) (a b : Slot) → slice_get (slots_of model) i ≡ Some a → slice_get (slots_of model) j ≡ Some b → test i j ≡ true)
+        → ((i j : ℕ) (a b : Slot) → slice_get (slots_of model) i ≡ Some a → slice_get (slots_of model) j ≡ Some b
+        → test i j ≡ true)
         → each_slot plan (λ i. each_slot plan (test i)) ≡ true
     pairs test of =
         each_passes (λ i. i < 0 + length plan.slots) (λ i. each_slot plan (test i))

@@ -1,5 +1,6 @@
 -- Lists in order, and lists without doubles as such.
-use Rattle.std.proofs.Common.{◌≡◌, ℕ, zero, suc, ◌+◌, ◌≤◌, Bool, true, false, cond, not, ◌&&◌, List, [], ◌∷◌, ◌++◌, length, map, flat_map}
+use Rattle.std.proofs.Common.{◌≡◌, ℕ, zero, suc, ◌+◌, ◌≤◌, Bool, true, false, cond, not, ◌&&◌, List, [], ◌∷◌, ◌++◌}
+use Rattle.std.proofs.Common.{length, map, flat_map}
 use Rattle.std.proofs.Common.{refl, ap, ◌∙◌, arith}
 use Rattle.std.specs.Prelude.{◌==◌}
 use Rattle.std.specs.List.{filter, list_all, list_any, range_with_len}
@@ -27,17 +28,21 @@ numbered_behind brings make test earlier of c t (d ∷ drafts) h =
     let parts = and_parts (earlier d) (list_all earlier drafts) h in
     let rest = numbered brings make (c + length (brings.conditions d)) (t + length (brings.terms d)) drafts in
     and_from (test (make c t d)) (list_all test rest) (of c t d parts.0)
-    (numbered_behind brings make test earlier of (c + length (brings.conditions d)) (t + length (brings.terms d)) drafts parts.1)
+    (numbered_behind brings make test earlier of (c + length (brings.conditions d)) (t + length (brings.terms d)) drafts
+    parts.1)
 
-pub numbered_ordered : {D X : Type 0} (brings : Brings D) (make : ℕ → ℕ → D → X) (before : X → X → Bool) (earlier : D → D → Bool)
-    → ((c t m n : ℕ) (a b : D) → earlier a b ≡ true → before (make c t a) (make m n b) ≡ true) → (c t : ℕ) (drafts : List D)
+pub numbered_ordered : {D X : Type 0} (brings : Brings D) (make : ℕ → ℕ → D → X) (before : X → X → Bool)
+    (earlier : D → D → Bool)
+    → ((c t m n : ℕ) (a b : D) → earlier a b ≡ true → before (make c t a) (make m n b) ≡ true)
+    → (c t : ℕ) (drafts : List D)
     → are_in_order earlier drafts ≡ true → are_in_order before (numbered brings make c t drafts) ≡ true
 numbered_ordered brings make before earlier of c t [] h = refl
 numbered_ordered brings make before earlier of c t (d ∷ drafts) h =
     let parts = and_parts (list_all (earlier d) drafts) (are_in_order earlier drafts) h in
     let m = c + length (brings.conditions d) in
     let n = t + length (brings.terms d) in
-    and_from (list_all (before (make c t d)) (numbered brings make m n drafts)) (are_in_order before (numbered brings make m n drafts))
+    and_from (list_all (before (make c t d)) (numbered brings make m n drafts))
+    (are_in_order before (numbered brings make m n drafts))
     (numbered_behind brings make (before (make c t d)) (earlier d) (λ k l b e. of c t k l d b e) m n drafts parts.0)
     (numbered_ordered brings make before earlier of m n drafts parts.1)
 
@@ -47,14 +52,16 @@ pub apart_from_order : {X : Type 0} (same : X → X → Bool) (xs : List X) → 
 apart_from_order same [] h = refl
 apart_from_order same (x ∷ xs) h =
     let parts = and_parts (list_all (λ b. not (same x b)) xs) (are_in_order (λ a b. not (same a b)) xs) h in
-    and_from (not (list_any (same x) xs)) (are_apart same xs) (none_from (same x) xs parts.0) (apart_from_order same xs parts.1)
+    and_from (not (list_any (same x) xs)) (are_apart same xs) (none_from (same x) xs parts.0)
+    (apart_from_order same xs parts.1)
 
 pub order_from_apart : {X : Type 0} (same : X → X → Bool) (xs : List X) → are_apart same xs ≡ true
     → are_in_order (λ a b. not (same a b)) xs ≡ true
 order_from_apart same [] h = refl
 order_from_apart same (x ∷ xs) h =
     let parts = and_parts (not (list_any (same x) xs)) (are_apart same xs) h in
-    and_from (list_all (λ b. not (same x b)) xs) (are_in_order (λ a b. not (same a b)) xs) (each_fails (same x) xs parts.0)
+    and_from (list_all (λ b. not (same x b)) xs) (are_in_order (λ a b. not (same a b)) xs)
+    (each_fails (same x) xs parts.0)
     (order_from_apart same xs parts.1)
 
 -- an order that follows from another, and the order of what is left
@@ -63,7 +70,8 @@ pub order_weaker : {X : Type 0} (before later : X → X → Bool) (xs : List X)
 order_weaker before later [] of h = refl
 order_weaker {X = X} before later (x ∷ xs) of h =
     let parts = and_parts (list_all (before x) xs) (are_in_order before xs) h in
-    and_from (list_all (later x) xs) (are_in_order later xs) (behind xs parts.0) (order_weaker before later xs of parts.1)
+    and_from (list_all (later x) xs) (are_in_order later xs) (behind xs parts.0)
+    (order_weaker before later xs of parts.1)
   where
     behind : (ys : List X) → list_all (before x) ys ≡ true → list_all (later x) ys ≡ true
     behind [] k = refl
@@ -81,7 +89,8 @@ order_left before test (x ∷ xs) h =
     by : (b : Bool) → list_all (before x) xs ≡ true → are_in_order before (filter test xs) ≡ true
         → are_in_order before (cond b (x ∷ filter test xs) (filter test xs)) ≡ true
     by true here more =
-        and_from (list_all (before x) (filter test xs)) (are_in_order before (filter test xs)) (all_left (before x) test xs here) more
+        and_from (list_all (before x) (filter test xs)) (are_in_order before (filter test xs))
+        (all_left (before x) test xs here) more
     by false here more = more
 
 -- what comes before everything may stand in front
@@ -89,7 +98,8 @@ pub order_free : {X : Type 0} (before : X → X → Bool) (xs ys : List X) → E
     → are_in_order before ys ≡ true → are_in_order before (xs ++ ys) ≡ true
 order_free before [] ys free h = h
 order_free {X = X} before (x ∷ xs) ys free h =
-    and_from (list_all (before x) (xs ++ ys)) (are_in_order before (xs ++ ys)) (all (xs ++ ys)) (order_free before xs ys free.1 h)
+    and_from (list_all (before x) (xs ++ ys)) (are_in_order before (xs ++ ys)) (all (xs ++ ys))
+    (order_free before xs ys free.1 h)
   where
     all : (zs : List X) → list_all (before x) zs ≡ true
     all [] = refl
@@ -123,7 +133,9 @@ range_from m a (suc n) h = (h, range_from m (a + 1) n (omega (arith, h)))
 pub range_apart : (a n : ℕ) → are_in_order (λ i j. not (i == j)) (range_with_len a n) ≡ true
 range_apart a zero = refl
 range_apart a (suc n) =
-    and_from (list_all (λ j. not (a == j)) (range_with_len (a + 1) n)) (are_in_order (λ i j. not (i == j)) (range_with_len (a + 1) n))
-    (each_passes (λ j. a + 1 ≤ j) (λ j. not (a == j)) (λ j h. not_from_false (a == j) (ne_eqb a j (λ e. omega (arith, h, e))))
+    and_from (list_all (λ j. not (a == j)) (range_with_len (a + 1) n))
+    (are_in_order (λ i j. not (i == j)) (range_with_len (a + 1) n))
+    (each_passes (λ j. a + 1 ≤ j) (λ j. not (a == j))
+    (λ j h. not_from_false (a == j) (ne_eqb a j (λ e. omega (arith, h, e))))
     (range_with_len (a + 1) n) (range_from (a + 1) (a + 1) n (omega arith)))
     (range_apart (a + 1) n)

@@ -1,11 +1,14 @@
--- Where standings stand: each but the first below one before it, for a line that this one's object has, and in preorder.
-use Rattle.std.proofs.Common.{◌≡◌, ℕ, zero, suc, ◌+◌, ◌<◌, ◌≤◌, List, [], ◌∷◌, ◌++◌, length, Option, Some, None, refl, sym, ap, ◌∙◌, arith, subst, append-nil}
+-- Where standings stand: each but the first below one before it, for a line that this one's object has, and in
+-- preorder.
+use Rattle.std.proofs.Common.{◌≡◌, ℕ, zero, suc, ◌+◌, ◌<◌, ◌≤◌, List, [], ◌∷◌, ◌++◌, length, Option, Some, None, refl}
+use Rattle.std.proofs.Common.{sym, ap, ◌∙◌, arith, subst, append-nil}
 use Rattle.std.specs.Prelude.{slice_get, option_map}
 use Rattle.std.proofs.lemmas.Option.{slice_get-map}
 use Rattle.vc_model_parts.specs.declared.parts.BillItem.{BillItem}
 use Rattle.vc_model_parts.specs.declared.parts.Model.{Model}
 use Rattle.vc_compile_plan.specs.declared.standings.Standing.{Standing}
-use Rattle.vc_compile_plan.specs.Slots.{bill_of, for_line, for_lines, object_in, slot_of, slots_of, standings_from, standings_of}
+use Rattle.vc_compile_plan.specs.Slots.{bill_of, for_line, for_lines, object_in, slot_of, slots_of, standings_from}
+use Rattle.vc_compile_plan.specs.Slots.{standings_of}
 use Rattle.vc_compile_valid.proofs.NumberingLaws.{StandFrom, first_of_more, renumber, rest_of_more}
 
 -- each has this, by its number; the first has this number
@@ -45,16 +48,19 @@ last_from P Q of m (x ∷ xs) q h =
     subst Q (sym (one_more m (length xs))) (last_from P Q of (suc m) xs (of (suc m) x h.0) h.1)
 
 -- the first of what stands from a number has it, and the others stand behind it
-behind_all : {X : Type 0} (before : List X) (x : X) (rest : List X) → slice_get (before ++ (x ∷ rest)) (length before) ≡ Some x
+behind_all : {X : Type 0} (before : List X) (x : X) (rest : List X)
+    → slice_get (before ++ (x ∷ rest)) (length before) ≡ Some x
 behind_all [] x rest = refl
 behind_all (b ∷ before) x rest = behind_all before x rest
 
-pub stand_first : {X : Type 0} (all : List X) (n : ℕ) (x : X) (xs : List X) → StandFrom all n (x ∷ xs) → slice_get all n ≡ Some x
+pub stand_first : {X : Type 0} (all : List X) (n : ℕ) (x : X) (xs : List X) → StandFrom all n (x ∷ xs)
+    → slice_get all n ≡ Some x
 stand_first all n x xs s =
     ap (λ l. slice_get l n) s.all_are ∙ ap (slice_get (s.before ++ (x ∷ (xs ++ s.after)))) s.number
     ∙ behind_all s.before x (xs ++ s.after)
 
-pub stand_rest : {X : Type 0} (all : List X) (n : ℕ) (x : X) (xs : List X) → StandFrom all n (x ∷ xs) → StandFrom all (suc n) xs
+pub stand_rest : {X : Type 0} (all : List X) (n : ℕ) (x : X) (xs : List X) → StandFrom all n (x ∷ xs)
+    → StandFrom all (suc n) xs
 stand_rest all n x xs s = renumber all (suc n) (n + 1) xs (omega arith) (rest_of_more all n (x ∷ []) xs s)
 
 -- so many steps up from a standing, to another
@@ -67,7 +73,8 @@ pub record Reaches (all : List Standing) (most p n : ℕ) : Type 0 where
   pub few : steps < most
   pub up : Up all steps p n
 
-up_more : (all : List Standing) (k p m n : ℕ) (s : Standing) → slice_get all m ≡ Some s → s.parent ≡ Some p → Up all k m n
+up_more : (all : List Standing) (k p m n : ℕ) (s : Standing) → slice_get all m ≡ Some s → s.parent ≡ Some p
+    → Up all k m n
     → Up all (suc k) p n
 up_more all zero p m n s at above u = (s, p, ap (slice_get all) (sym u) ∙ at, above, refl)
 up_more all (suc k) p m n s at above u = (u.0, u.1, u.2, u.3, up_more all k p m u.1 s at above u.4)
@@ -125,16 +132,20 @@ lines_grown : (model : Model) (all : List Standing) (levels number depth : ℕ) 
     → IsPlaced model all n (standing_below number depth item o)
     → EachFrom (Grown model all levels n) n (standings_from model levels (Some number) (suc depth) item n o))
     → (item prior : ℕ) (lines : List BillItem) → number ≤ prior → Reaches all (suc levels) number prior
-    → ((k : ℕ) (line : BillItem) → slice_get lines k ≡ Some line → slice_get (bill_of model head.object) (item + k) ≡ Some line)
-    → StandFrom all (suc prior) (for_lines (standings_from model levels (Some number) (suc depth)) item (suc prior) lines)
+    → ((k : ℕ) (line : BillItem) → slice_get lines k ≡ Some line
+    → slice_get (bill_of model head.object) (item + k) ≡ Some line)
+    → StandFrom all (suc prior)
+    (for_lines (standings_from model levels (Some number) (suc depth)) item (suc prior) lines)
     → EachFrom (Grown model all (suc levels) number) (suc prior)
     (for_lines (standings_from model levels (Some number) (suc depth)) item (suc prior) lines)
 lines_grown model all levels number depth head few at deep below item prior [] low reached listed stand = tt
 lines_grown model all levels number depth head few at deep below item prior (line ∷ lines) low reached listed stand =
     from_joined (Grown model all (suc levels) number) (suc prior) first (rest (suc prior + length first)) here
     (subst (λ m. EachFrom (Grown model all (suc levels) number) m (rest m)) (shift (length first))
-    (lines_grown model all levels number depth head few at deep below (suc item) (prior + length first) lines (omega (arith, low))
-    (last_from (Grown model all (suc levels) number) (Reaches all (suc levels) number) (λ n s g. g.reached) prior first reached here)
+    (lines_grown model all levels number depth head few at deep below (suc item) (prior + length first) lines
+    (omega (arith, low))
+    (last_from (Grown model all (suc levels) number) (Reaches all (suc levels) number) (λ n s g. g.reached) prior first
+    reached here)
     (λ k l e. subst (λ m. slice_get (bill_of model head.object) m ≡ Some l) (one_more item k) (listed (suc k) l e))
     (subst (λ m. StandFrom all m (rest m)) (sym (shift (length first)))
     (rest_of_more all (suc prior) first (rest (suc prior + length first)) stand))))
@@ -151,7 +162,8 @@ lines_grown model all levels number depth head few at deep below item prior (lin
     shift : (k : ℕ) → suc (prior + k) ≡ suc prior + k
     shift k = omega arith
 
-    of_first : (o : Option ℕ) → object_in line.component ≡ o → StandFrom all (suc prior) (for_line (brought item (suc prior)) o)
+    of_first : (o : Option ℕ) → object_in line.component ≡ o
+        → StandFrom all (suc prior) (for_line (brought item (suc prior)) o)
         → EachFrom (Grown model all (suc levels) number) (suc prior) (for_line (brought item (suc prior)) o)
     of_first None is stand = tt
     of_first (Some o) is stand =
@@ -162,7 +174,8 @@ lines_grown model all levels number depth head few at deep below item prior (lin
           there = at;
           depth = ap suc (sym deep);
           line = line;
-          listed = subst (λ m. slice_get (bill_of model head.object) m ≡ Some line) (no_more item) (listed zero line refl);
+          listed = subst (λ m. slice_get (bill_of model head.object) m ≡ Some line) (no_more item)
+              (listed zero line refl);
           object = is;
           before = omega (arith, low);
           prior = prior;
@@ -185,7 +198,8 @@ grown model all (suc levels) parent depth item number o few stand placed =
     let rest = for_lines (standings_from model levels (Some number) (suc depth)) 0 (suc number) (bill_of model o) in (
       record { placed = placed; reached = record { steps = 0; few = omega arith; up = refl } },
       lines_grown model all levels number depth head few (stand_first all number head rest stand) refl
-          (λ i n c s p. grown model all levels (Some number) (suc depth) i n c (omega (arith, few)) s p) 0 number (bill_of model o)
+          (λ i n c s p. grown model all levels (Some number) (suc depth) i n c (omega (arith, few)) s p) 0 number
+          (bill_of model o)
           (omega arith) (record { steps = 0; few = omega arith; up = refl })
           (λ k line e. subst (λ m. slice_get (bill_of model o) m ≡ Some line) (no_front k) e)
           (stand_rest all number head rest stand),
@@ -200,7 +214,8 @@ whole_stands all = record { before = []; after = []; number = refl; all_are = sy
 all_grown : (model : Model)
     → EachFrom (Grown model (standings_of model) 4 0) 0 (standings_of model)
 all_grown model =
-    grown model (standings_of model) 4 None 0 0 0 model.root (omega arith) (whole_stands (standings_of model)) (refl, refl)
+    grown model (standings_of model) 4 None 0 0 0 model.root (omega arith) (whole_stands (standings_of model))
+    (refl, refl)
 
 pub placed_at : (model : Model) (k : ℕ) (s : Standing) → slice_get (standings_of model) k ≡ Some s
     → IsPlaced model (standings_of model) k s
@@ -215,4 +230,5 @@ placed_at model k s e =
 pub slot_at : (model : Model) (k : ℕ) (s : Standing) → slice_get (standings_of model) k ≡ Some s
     → slice_get (slots_of model) k ≡ Some (slot_of model (standings_of model) s)
 slot_at model k s e =
-    slice_get-map (slot_of model (standings_of model)) (standings_of model) k ∙ ap (option_map (slot_of model (standings_of model))) e
+    slice_get-map (slot_of model (standings_of model)) (standings_of model) k
+    ∙ ap (option_map (slot_of model (standings_of model))) e

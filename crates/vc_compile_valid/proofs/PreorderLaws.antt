@@ -1,8 +1,11 @@
 -- The slots of a plan are in preorder, each below the one whose line it stands for, and in the order of lines.
-use Rattle.std.proofs.Common.{◌≡◌, ℕ, zero, suc, ◌+◌, ◌<◌, ◌≤◌, ◌⊎◌, inl, inr, Bool, true, false, not, ◌&&◌, ◌||◌, nat_lt, List, [], ◌∷◌, ◌++◌, length, Option, Some, None, refl, sym, ap, ◌∙◌, arith, subst, length-append}
+use Rattle.std.proofs.Common.{◌≡◌, ℕ, zero, suc, ◌+◌, ◌<◌, ◌≤◌, ◌⊎◌, inl, inr, Bool, true, false, not, ◌&&◌, ◌||◌}
+use Rattle.std.proofs.Common.{nat_lt, List, [], ◌∷◌, ◌++◌, length, Option, Some, None, refl, sym, ap, ◌∙◌, arith, subst}
+use Rattle.std.proofs.Common.{length-append}
 use Rattle.std.specs.Prelude.{◌==◌, drop, is_some, slice_get}
 use Rattle.std.specs.List.{list_all, list_any}
-use Rattle.std.proofs.lemmas.Bool.{and_from, and_parts, eq-eqb, eqb-true, lt-ltb, ltb-true, ne_eqb, not_from_false, or_left, or_right}
+use Rattle.std.proofs.lemmas.Bool.{and_from, and_parts, eq-eqb, eqb-true, lt-ltb, ltb-true, ne_eqb, not_from_false}
+use Rattle.std.proofs.lemmas.Bool.{or_left, or_right}
 use Rattle.std.proofs.lemmas.List.{length-map}
 use Rattle.std.proofs.lemmas.List.Folds.{list_all-map}
 use Rattle.vc_model_parts.specs.declared.parts.BillItem.{BillItem}
@@ -14,7 +17,8 @@ use Rattle.vc_plan.specs.Slots.{depth_in, follows_in_preorder, is_below, is_item
 use Rattle.vc_plan.specs.declared.plans.Plan.{Plan}
 use Rattle.vc_table.specs.declared.table.VariantTable.{VariantTable}
 use Rattle.vc_compile_plan.specs.PlanOf.{IsPlanOf}
-use Rattle.vc_compile_plan.specs.Slots.{bill_of, for_line, for_lines, line_number, object_in, slot_of, standings_from, standings_of}
+use Rattle.vc_compile_plan.specs.Slots.{bill_of, for_line, for_lines, line_number, object_in, slot_of, standings_from}
+use Rattle.vc_compile_plan.specs.Slots.{standings_of}
 use Rattle.vc_compile_plan.specs.declared.standings.Standing.{Standing}
 use Rattle.vc_compile_valid.specs.Slots.{HasPreorder}
 use Rattle.vc_compile_valid.proofs.EachLaws.{Each, each_joined, each_more, each_passes, order_joined}
@@ -24,7 +28,8 @@ use Rattle.vc_compile_valid.proofs.OrderedLaws.{order_mapped, order_weaker}
 use Rattle.vc_compile_valid.proofs.PlacedLaws.{IsPart, IsPlacedBelow, Up, placed_at, slot_at}
 use Rattle.vc_compile_valid.proofs.SlotwiseLaws.{below_count}
 
-slot_in_plan : (model : Model) (tables : List VariantTable) (plan : Plan) → IsPlanOf model tables plan → (k : ℕ) (s : Standing)
+slot_in_plan : (model : Model) (tables : List VariantTable) (plan : Plan) → IsPlanOf model tables plan
+    → (k : ℕ) (s : Standing)
     → slice_get (standings_of model) k ≡ Some s → slice_get plan.slots k ≡ Some (slot_of model (standings_of model) s)
 slot_in_plan model tables plan is k s e = ap (λ ss. slice_get ss k) is.slots ∙ slot_at model k s e
 
@@ -32,20 +37,24 @@ slot_in_plan model tables plan is k s e = ap (λ ss. slice_get ss k) is.slots �
 abbrev behind_root : Model → List Standing
 behind_root model = for_lines (standings_from model 3 (Some 0) 1) 0 1 (bill_of model model.root)
 
-below_slot : (model : Model) (tables : List VariantTable) (plan : Plan) → IsPlanOf model tables plan → (n p : ℕ) (s : Standing)
+below_slot : (model : Model) (tables : List VariantTable) (plan : Plan) → IsPlanOf model tables plan
+    → (n p : ℕ) (s : Standing)
     → IsPart model (standings_of model) n p s
     → ((s.depth == depth_in (slice_get plan.slots p) + 1)
-    && is_number p (slot_of_line (slice_get plan.lines (line_number model (standings_of model) (Some p) s.item)))) ≡ true
+    && is_number p (slot_of_line (slice_get plan.lines (line_number model (standings_of model) (Some p) s.item))))
+    ≡ true
 below_slot model tables plan is n p s part =
     let line = line_found model tables plan is p s.item part.above part.line part.there part.listed in
-    let above : depth_in (slice_get plan.slots p) ≡ part.above.depth = ap depth_in (slot_in_plan model tables plan is p part.above part.there) in
+    let above : depth_in (slice_get plan.slots p) ≡ part.above.depth
+    = ap depth_in (slot_in_plan model tables plan is p part.above part.there) in
     let deep = part.depth in
     and_from (s.depth == depth_in (slice_get plan.slots p) + 1)
     (is_number p (slot_of_line (slice_get plan.lines (line_number model (standings_of model) (Some p) s.item))))
     (eq-eqb s.depth (depth_in (slice_get plan.slots p) + 1) (omega (arith, deep, above)))
     (ap (λ o. is_number p (slot_of_line o)) line.there ∙ eq-eqb p p refl)
 
-below_one : (model : Model) (tables : List VariantTable) (plan : Plan) → IsPlanOf model tables plan → (k : ℕ) (s : Standing)
+below_one : (model : Model) (tables : List VariantTable) (plan : Plan) → IsPlanOf model tables plan
+    → (k : ℕ) (s : Standing)
     → slice_get (standings_of model) (suc k) ≡ Some s
     → is_below plan (slot_of model (standings_of model) s) s.parent ≡ true
 below_one model tables plan is k s e = by s.parent refl (placed_at model (suc k) s e)
@@ -59,7 +68,8 @@ below_one model tables plan is k s e = by s.parent refl (placed_at model (suc k)
         ∙ below_slot model tables plan is (suc k) p s placed
 
 -- a slot that is reached is in the lineage
-in_lineage : (model : Model) (tables : List VariantTable) (plan : Plan) → IsPlanOf model tables plan → (most steps p n : ℕ)
+in_lineage : (model : Model) (tables : List VariantTable) (plan : Plan) → IsPlanOf model tables plan
+    → (most steps p n : ℕ)
     → steps < most → Up (standings_of model) steps p n
     → list_any (λ q. is_number q (Some p)) (lineage plan most (Some n)) ≡ true
 in_lineage model tables plan is zero steps p n few up = absurd (omega (arith, few))
@@ -138,13 +148,17 @@ widen : (p item low high end : ℕ) (s : Standing) → high ≤ end → OfLine p
 widen p item low high end s fits (inl only) =
     let at = only.at in inl (record { is = only.is; from = omega (arith, at) })
 widen p item low high end s fits (inr deep) =
-    let to = deep.to in inr (record { parent = deep.parent; is = deep.is; from = deep.from; to = omega (arith, to, fits) })
+    let to
+    = deep.to in inr (record { parent = deep.parent; is = deep.is; from = deep.from; to = omega (arith, to, fits) })
 
-later : (p item low start end : ℕ) (s : Standing) → low ≤ start → OfLines p (suc item) start end s → OfLines p item low end s
+later : (p item low start end : ℕ) (s : Standing) → low ≤ start → OfLines p (suc item) start end s
+    → OfLines p item low end s
 later p item low start end s fits (inl direct) =
     let from = direct.from in inl (record { is = direct.is; from = omega (arith, from) })
 later p item low start end s fits (inr deep) =
-    let from = deep.from in inr (record { parent = deep.parent; is = deep.is; from = omega (arith, from, fits); to = deep.to })
+    let from
+    = deep.from in inr (record
+    { parent = deep.parent; is = deep.is; from = omega (arith, from, fits); to = deep.to })
 
 across : (p item low middle end : ℕ) (a b : Standing) → p < low → low ≤ middle → OfLine p item low middle a
     → OfLines p (suc item) middle end b → is_earlier a b ≡ true
@@ -157,7 +171,8 @@ across p item low middle end a b under fits (inr deep) (inl direct) =
     let from = deep.from in other_parents a b deep.parent p deep.is direct.is (λ e. omega (arith, e, from, under))
 across p item low middle end a b under fits (inr deep) (inr other) =
     let to = deep.to in
-    let from = other.from in other_parents a b deep.parent other.parent deep.is other.is (λ e. omega (arith, e, to, from))
+    let from
+    = other.from in other_parents a b deep.parent other.parent deep.is other.is (λ e. omega (arith, e, to, from))
 
 -- what each line brings, and its order
 record IsBrought (p : ℕ) (brought : ℕ → ℕ → ℕ → List Standing) : Type 0 where
@@ -169,12 +184,14 @@ of_option : (p : ℕ) (brought : ℕ → ℕ → ℕ → List Standing) → IsBr
 of_option p brought is item n under None = tt
 of_option p brought is item n under (Some o) = is.own item n o under
 
-order_of_option : (p : ℕ) (brought : ℕ → ℕ → ℕ → List Standing) → IsBrought p brought → (item n : ℕ) → p < n → (o : Option ℕ)
+order_of_option : (p : ℕ) (brought : ℕ → ℕ → ℕ → List Standing) → IsBrought p brought → (item n : ℕ) → p < n
+    → (o : Option ℕ)
     → are_in_order is_earlier (for_line (brought item n) o) ≡ true
 order_of_option p brought is item n under None = refl
 order_of_option p brought is item n under (Some o) = is.order item n o under
 
-of_lines : (p : ℕ) (brought : ℕ → ℕ → ℕ → List Standing) → IsBrought p brought → (item n : ℕ) → p < n → (lines : List BillItem)
+of_lines : (p : ℕ) (brought : ℕ → ℕ → ℕ → List Standing) → IsBrought p brought → (item n : ℕ) → p < n
+    → (lines : List BillItem)
     → Each (OfLines p item n (n + length (for_lines brought item n lines))) (for_lines brought item n lines)
 of_lines p brought is item n under [] = tt
 of_lines p brought is item n under (line ∷ lines) =
@@ -185,12 +202,14 @@ of_lines p brought is item n under (line ∷ lines) =
     (each_more (OfLine p item n (n + length first)) (OfLines p item n (n + length (first ++ rest)))
     (λ s h. widen p item n (n + length first) (n + length (first ++ rest)) s (omega (arith, size)) h) first
     (of_option p brought is item n under (object_in line.component)))
-    (each_more (OfLines p (suc item) (n + length first) ((n + length first) + length rest)) (OfLines p item n (n + length (first ++ rest)))
+    (each_more (OfLines p (suc item) (n + length first) ((n + length first) + length rest))
+    (OfLines p item n (n + length (first ++ rest)))
     (λ s h. later p item n (n + length first) (n + length (first ++ rest)) s (omega arith)
     (subst (λ m. OfLines p (suc item) (n + length first) m s) (omega (arith, size)) h)) rest
     (of_lines p brought is (suc item) (n + length first) (omega (arith, under)) lines))
 
-order_of_lines : (p : ℕ) (brought : ℕ → ℕ → ℕ → List Standing) → IsBrought p brought → (item n : ℕ) → p < n → (lines : List BillItem)
+order_of_lines : (p : ℕ) (brought : ℕ → ℕ → ℕ → List Standing) → IsBrought p brought → (item n : ℕ) → p < n
+    → (lines : List BillItem)
     → are_in_order is_earlier (for_lines brought item n lines) ≡ true
 order_of_lines p brought is item n under [] = refl
 order_of_lines p brought is item n under (line ∷ lines) =
@@ -222,7 +241,8 @@ brought_more model levels p depth ih = record { own = own; order = order }
     deep : (n o : ℕ) → Each (IsDeep n (n + suc (length (rest n o)))) (rest n o)
     deep n o =
         each_more (OfLines n 0 (suc n) (suc n + length (rest n o))) (IsDeep n (n + suc (length (rest n o))))
-        (λ s h. deeper n (n + suc (length (rest n o))) s (subst (λ m. OfLines n 0 (suc n) m s) (omega arith) h) (omega arith))
+        (λ s h. deeper n (n + suc (length (rest n o))) s (subst (λ m. OfLines n 0 (suc n) m s) (omega arith) h)
+        (omega arith))
         (rest n o)
         (of_lines n (standings_from model levels (Some n) (suc depth)) (ih n (suc depth)) 0 (suc n)
         (omega arith) (bill_of model o))
@@ -232,16 +252,19 @@ brought_more model levels p depth ih = record { own = own; order = order }
         (standings_from model (suc levels) (Some p) depth item n o)
     own item n o under = (
       inl (record { is = refl; at = refl }),
-      each_more (IsDeep n (n + suc (length (rest n o)))) (OfLine p item n (n + suc (length (rest n o)))) (λ s h. inr h) (rest n o)
+      each_more (IsDeep n (n + suc (length (rest n o)))) (OfLine p item n (n + suc (length (rest n o)))) (λ s h. inr h)
+          (rest n o)
           (deep n o),
     )
 
-    order : (item n o : ℕ) → p < n → are_in_order is_earlier (standings_from model (suc levels) (Some p) depth item n o) ≡ true
+    order : (item n o : ℕ) → p < n
+        → are_in_order is_earlier (standings_from model (suc levels) (Some p) depth item n o) ≡ true
     order item n o under =
         let head : Standing = record { parent = Some p; depth = depth; object = o; item = item } in
         and_from (list_all (is_earlier head) (rest n o)) (are_in_order is_earlier (rest n o))
         (each_passes (IsDeep n (n + suc (length (rest n o)))) (is_earlier head)
-        (λ s h. let from = h.from in other_parents head s p h.parent refl h.is (λ e. omega (arith, e, from, under))) (rest n o) (deep n o))
+        (λ s h. let from = h.from in other_parents head s p h.parent refl h.is (λ e. omega (arith, e, from, under)))
+        (rest n o) (deep n o))
         (order_of_lines n (standings_from model levels (Some n) (suc depth)) (ih n (suc depth)) 0 (suc n)
         (omega arith) (bill_of model o))
 
@@ -284,18 +307,23 @@ item_before model a b h = by (same_number_if a.parent b.parent) refl h
     numbered None some less = absurd (cc)
     numbered (Some p) some less = omega (arith, less)
 
-    by : (t : Bool) → same_number_if a.parent b.parent ≡ t → (not t || (is_some a.parent && nat_lt a.item b.item)) ≡ true
-        → (not t || nat_lt (line_number model (standings_of model) a.parent a.item) (line_number model (standings_of model) b.parent b.item))
+    by : (t : Bool) → same_number_if a.parent b.parent ≡ t
+        → (not t || (is_some a.parent && nat_lt a.item b.item)) ≡ true
+        → (not t || nat_lt (line_number model (standings_of model) a.parent a.item)
+        (line_number model (standings_of model) b.parent b.item))
         ≡ true
     by false e k = refl
     by true e k =
         let parts = and_parts (is_some a.parent) (nat_lt a.item b.item) k in
         let less = numbered a.parent parts.0 (ltb-true a.item b.item parts.1) in
-        ap (λ o. nat_lt (line_number model (standings_of model) a.parent a.item) (line_number model (standings_of model) o b.item))
+        ap (λ o. nat_lt (line_number model (standings_of model) a.parent a.item)
+        (line_number model (standings_of model) o b.item))
         (sym (same_if a.parent b.parent e))
-        ∙ lt-ltb (line_number model (standings_of model) a.parent a.item) (line_number model (standings_of model) a.parent b.item) less
+        ∙ lt-ltb (line_number model (standings_of model) a.parent a.item)
+        (line_number model (standings_of model) a.parent b.item) less
 
-pub has_preorder : (model : Model) (tables : List VariantTable) (plan : Plan) → IsPlanOf model tables plan → HasPreorder plan
+pub has_preorder : (model : Model) (tables : List VariantTable) (plan : Plan) → IsPlanOf model tables plan
+    → HasPreorder plan
 has_preorder model tables plan is =
     let all = standings_of model in
     record {
@@ -308,6 +336,7 @@ has_preorder model tables plan is =
           (numbers_below (length plan.slots)) (below_count 0 (length plan.slots));
       items = ap (are_in_order is_item_before) is.slots
           ∙ order_mapped is_item_before (slot_of model all) all
-          ∙ order_weaker is_earlier (λ a b. is_item_before (slot_of model all a) (slot_of model all b)) all (item_before model)
+          ∙ order_weaker is_earlier (λ a b. is_item_before (slot_of model all a) (slot_of model all b)) all
+          (item_before model)
           (all_earlier model);
     }

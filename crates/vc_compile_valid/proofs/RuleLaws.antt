@@ -1,9 +1,12 @@
 -- Rules of a plan: numbered, none twice, one Last a variable, and Lines for each slot but the root.
-use Rattle.std.proofs.Common.{◌≡◌, ℕ, zero, suc, ◌+◌, ◌<◌, ◌≤◌, Bool, true, false, cond, not, ◌&&◌, ◌||◌, nat_lt, List, [], ◌∷◌, ◌++◌, length, map, flat_map}
-use Rattle.std.proofs.Common.{Option, Some, None, refl, sym, ap, ◌∙◌, arith, subst, if◌then◌else◌, append_assoc, append-nil, inl, inr}
+use Rattle.std.proofs.Common.{◌≡◌, ℕ, zero, suc, ◌+◌, ◌<◌, ◌≤◌, Bool, true, false, cond, not, ◌&&◌, ◌||◌, nat_lt, List}
+use Rattle.std.proofs.Common.{[], ◌∷◌, ◌++◌, length, map, flat_map}
+use Rattle.std.proofs.Common.{Option, Some, None, refl, sym, ap, ◌∙◌, arith, subst, if◌then◌else◌, append_assoc}
+use Rattle.std.proofs.Common.{append-nil, inl, inr}
 use Rattle.std.specs.Prelude.{◌==◌, is_none, is_some, option_map, slice_get}
 use Rattle.std.specs.List.{filter, list_all, list_any, range_with_len}
-use Rattle.std.proofs.lemmas.Bool.{and_from, and_left, and_right, cases_order, eq-eqb, eqb-false, eqb-true, lt-ltb, ne_eqb, not-true, not_from_false, or_from, or_left, or_right}
+use Rattle.std.proofs.lemmas.Bool.{and_from, and_left, and_right, cases_order, eq-eqb, eqb-false, eqb-true, lt-ltb}
+use Rattle.std.proofs.lemmas.Bool.{ne_eqb, not-true, not_from_false, or_from, or_left, or_right}
 use Rattle.std.proofs.lemmas.List.{length-map}
 use Rattle.std.proofs.lemmas.List.Folds.{list_any-append}
 use Rattle.vc_syntax_terms.specs.Trees as syntax
@@ -11,7 +14,9 @@ use Rattle.vc_model_parts.specs.declared.parts.BillItem.{BillItem}
 use Rattle.vc_model_parts.specs.declared.parts.Model.{Model}
 use Rattle.vc_plan.specs.Domains.{numbers_below}
 use Rattle.vc_plan.specs.Orders.{are_apart, are_in_order, same_number_if, same_numbers}
-use Rattle.vc_plan.specs.RuleShapes.{are_one_line, are_one_rule, are_with_and_without, asks_by_right, asks_nothing, has_its_lines, has_one_last, is_last, is_last_of, is_line_of, is_literal, is_not_among, is_numbered, is_of_constraint, line_slot}
+use Rattle.vc_plan.specs.RuleShapes.{are_one_line, are_one_rule, are_with_and_without, asks_by_right, asks_nothing}
+use Rattle.vc_plan.specs.RuleShapes.{has_its_lines, has_one_last, is_last, is_last_of, is_line_of, is_literal}
+use Rattle.vc_plan.specs.RuleShapes.{is_not_among, is_numbered, is_of_constraint, line_slot}
 use Rattle.vc_plan.specs.Restrictions.{lone_in}
 use Rattle.vc_plan.specs.declared.conditions.Condition.{Condition as StoredCondition}
 use Rattle.vc_plan.specs.declared.conditions.Condition.TheVariants as conditions
@@ -23,10 +28,14 @@ use Rattle.vc_plan.specs.declared.terms.Term.TheVariants as terms
 use Rattle.vc_table.specs.declared.table.VariantTable.{VariantTable}
 use Rattle.vc_types.specs.declared.place.At.TheVariants as at
 use Rattle.vc_compile_plan.specs.Layouts.{Layout, layout_of, object_at, tree_of}
-use Rattle.vc_compile_plan.specs.Numbering.{Brings, Drafts, conditions_of, demand_terms, drafts_of, kind_from, numbered, number_for, rule_brings, rule_from, terms_of}
+use Rattle.vc_compile_plan.specs.Numbering.{Brings, Drafts, conditions_of, demand_terms, drafts_of, kind_from, numbered}
+use Rattle.vc_compile_plan.specs.Numbering.{number_for, rule_brings, rule_from, terms_of}
 use Rattle.vc_compile_plan.specs.Places.{Asked, selections_among, site_at}
 use Rattle.vc_compile_plan.specs.PlanOf.{IsPlanOf}
-use Rattle.vc_compile_plan.specs.Rules.{Demand, Draft, among, by_table, compare, constraint_drafts, constraint_site, constraints_drafts, drafts_of_line, drafts_of_slot, equate, last, last_drafts, line, line_draft, line_drafts, line_drafts_from, never, own_draft, restriction_draft, restriction_drafts, rule_drafts, slot_drafts_from}
+use Rattle.vc_compile_plan.specs.Rules.{Demand, Draft, among, by_table, compare, constraint_drafts, constraint_site}
+use Rattle.vc_compile_plan.specs.Rules.{constraints_drafts, drafts_of_line, drafts_of_slot, equate, last, last_drafts}
+use Rattle.vc_compile_plan.specs.Rules.{line, line_draft, line_drafts, line_drafts_from, never, own_draft}
+use Rattle.vc_compile_plan.specs.Rules.{restriction_draft, restriction_drafts, rule_drafts, slot_drafts_from}
 use Rattle.vc_compile_plan.specs.Sites.{Site}
 use Rattle.vc_compile_plan.specs.Slots.{bill_if, bill_of, for_lines, slot_of, slots_of, standings_from, standings_of}
 use Rattle.vc_compile_plan.specs.Trees as trees
@@ -35,11 +44,15 @@ use Rattle.vc_compile_plan.specs.Tuples.{matches, tuples_from, tuples_of}
 use Rattle.vc_compile_plan.specs.Uses.{active_constraints, is_active}
 use Rattle.vc_compile_plan.specs.declared.standings.Standing.{Standing}
 use Rattle.vc_compile_valid.specs.Rules.{HasRules}
-use Rattle.vc_compile_valid.proofs.DraftLaws.{are_apart_terms, constraint_same, demand_constrains, demand_kept, each_constraint, each_last, each_of_slot, each_restriction, each_slot_draft, is_lone, is_value, keeps_apart, kind_of, last_of_same, last_same, line_of_same, never_last, no_last, no_line, no_slot, slot_same}
+use Rattle.vc_compile_valid.proofs.DraftLaws.{are_apart_terms, constraint_same, demand_constrains, demand_kept}
+use Rattle.vc_compile_valid.proofs.DraftLaws.{each_constraint, each_last, each_of_slot, each_restriction}
+use Rattle.vc_compile_valid.proofs.DraftLaws.{each_slot_draft, is_lone, is_value, keeps_apart, kind_of, last_of_same}
+use Rattle.vc_compile_valid.proofs.DraftLaws.{last_same, line_of_same, never_last, no_last, no_line, no_slot, slot_same}
 use Rattle.vc_compile_valid.proofs.EachLaws.{Each, each_joined, each_more, each_of_all, each_passes, order_joined}
 use Rattle.vc_compile_valid.proofs.ListLaws.{made_from, none_past}
 use Rattle.vc_compile_valid.proofs.NumberingLaws.{StandFrom, numbered_each, rule_conditions, rule_terms}
-use Rattle.vc_compile_valid.proofs.OrderedLaws.{apart_from_order, flat_ordered, numbered_ordered, order_free, order_left, order_mapped, order_weaker, range_apart}
+use Rattle.vc_compile_valid.proofs.OrderedLaws.{apart_from_order, flat_ordered, numbered_ordered, order_free}
+use Rattle.vc_compile_valid.proofs.OrderedLaws.{order_left, order_mapped, order_weaker, range_apart}
 use Rattle.vc_compile_valid.proofs.PlacedLaws.{IsPart, IsPlacedBelow, placed_at, slot_at, stand_first, stand_rest}
 use Rattle.vc_compile_valid.proofs.SlotwiseLaws.{below_count, left_append, left_numbered, none_left}
 
@@ -104,12 +117,15 @@ literal_same (terms.PartCount slot) = refl
 literal_same (terms.Applied' function p a) = refl
 literal_same (terms.Joined' operator p a q b) = refl
 
-not_among_terms : (plan : Plan) (drafts : Drafts) → map term_of plan.terms ≡ terms_of drafts → (t : ℕ) (left right : trees.Term)
+not_among_terms : (plan : Plan) (drafts : Drafts) → map term_of plan.terms ≡ terms_of drafts
+    → (t : ℕ) (left right : trees.Term)
     → StandFrom (terms_of drafts) t (left ∷ right ∷ []) → are_apart_terms left right ≡ true
     → not ((is_some (lone_in (slice_get plan.terms t)) && is_literal (slice_get plan.terms (suc t)))
     || (is_literal (slice_get plan.terms t) && is_some (lone_in (slice_get plan.terms (suc t))))) ≡ true
 not_among_terms plan drafts e t left right stand apart =
-    let first = made_from term_of plan.terms (terms_of drafts) e t left (stand_first (terms_of drafts) t left (right ∷ []) stand) in
+    let first
+    = made_from term_of plan.terms (terms_of drafts) e t left
+    (stand_first (terms_of drafts) t left (right ∷ []) stand) in
     let second = made_from term_of plan.terms (terms_of drafts) e (suc t) right
     (stand_first (terms_of drafts) (suc t) right [] (stand_rest (terms_of drafts) t left (right ∷ []) stand)) in
     let test : Bool → Bool → Bool → Bool → Bool = λ a b c d. not ((a && b) || (c && d)) in
@@ -119,7 +135,8 @@ not_among_terms plan drafts e t left right stand apart =
     let value_second = ap is_literal second.1 ∙ literal_same second.0 ∙ ap is_value second.2 in
     ap (λ a. test a (is_literal (slice_get plan.terms (suc t))) (is_literal (slice_get plan.terms t))
     (is_some (lone_in (slice_get plan.terms (suc t))))) lone_first
-    ∙ ap (λ b. test (is_lone left) b (is_literal (slice_get plan.terms t)) (is_some (lone_in (slice_get plan.terms (suc t))))) value_second
+    ∙ ap (λ b. test (is_lone left) b (is_literal (slice_get plan.terms t))
+    (is_some (lone_in (slice_get plan.terms (suc t))))) value_second
     ∙ ap (λ c. test (is_lone left) (is_value right) c (is_some (lone_in (slice_get plan.terms (suc t))))) value_first
     ∙ ap (λ d. test (is_lone left) (is_value right) (is_value left) d) lone_second
     ∙ apart
@@ -128,7 +145,8 @@ not_among_kind : (plan : Plan) (drafts : Drafts) → map term_of plan.terms ≡ 
     → StandFrom (terms_of drafts) t (demand_terms demand) → keeps_apart demand ≡ true
     → is_not_among plan (kind_from t demand) ≡ true
 not_among_kind plan drafts e t (among v restriction) stand apart = refl
-not_among_kind plan drafts e t (compare relation left right) stand apart = not_among_terms plan drafts e t left right stand apart
+not_among_kind plan drafts e t (compare relation left right) stand apart =
+    not_among_terms plan drafts e t left right stand apart
 not_among_kind plan drafts e t (equate left right) stand apart = not_among_terms plan drafts e t left right stand apart
 not_among_kind plan drafts e t (by_table table columns) stand apart = refl
 not_among_kind plan drafts e t never stand apart = refl
@@ -141,9 +159,11 @@ record IsRule (plan : Plan) (rule : Rule) : Type 0 where
   asked : asks_by_right plan rule ≡ true
   apart : is_not_among plan rule.kind ≡ true
 
-asked_is : (plan : Plan) (drafts : Drafts) → map condition_of plan.conditions ≡ conditions_of drafts → (c t : ℕ) (o : Option ℕ)
+asked_is : (plan : Plan) (drafts : Drafts) → map condition_of plan.conditions ≡ conditions_of drafts
+    → (c t : ℕ) (o : Option ℕ)
     (condition : Option trees.Condition) (demand : Demand) → IsAsked o condition demand
-    → (if is_some o then not (is_last (kind_from t demand)) else asks_nothing (slice_get plan.conditions (number_for c condition)))
+    → (if is_some o then not (is_last (kind_from t demand))
+    else asks_nothing (slice_get plan.conditions (number_for c condition)))
     ≡ true
 asked_is plan drafts e c t None condition demand h =
     ap (λ x. asks_nothing (slice_get plan.conditions (number_for c x))) h ∙ first_asks_nothing plan drafts e
@@ -188,7 +208,8 @@ one_rule_same c t m n a b =
 -- tuples differ
 same_more : (i : ℕ) (s t : List ℕ) → not (same_numbers s t) ≡ true → not (same_numbers (i ∷ s) (i ∷ t)) ≡ true
 same_more i s t h =
-    not_from_false ((i == i) && same_numbers s t) (and_right (i == i) (same_numbers s t) (not-true (same_numbers s t) h))
+    not_from_false ((i == i) && same_numbers s t)
+    (and_right (i == i) (same_numbers s t) (not-true (same_numbers s t) h))
 
 tuples_differ : (numbers : List ℕ) → are_in_order (λ i j. not (i == j)) numbers ≡ true → (n : ℕ)
     → are_in_order (λ s t. not (same_numbers s t)) (tuples_from numbers n) ≡ true
@@ -199,9 +220,11 @@ tuples_differ numbers apart (suc n) =
     (λ i. map (λ tuple. i ∷ tuple) shorter)
     (λ i j s t different h k.
     ap (λ l. not (same_numbers l t)) h.1 ∙ ap (λ l. not (same_numbers (i ∷ h.0) l)) k.1
-    ∙ not_from_false ((i == j) && same_numbers h.0 k.0) (and_left (i == j) (same_numbers h.0 k.0) (not-true (i == j) different)))
+    ∙ not_from_false ((i == j) && same_numbers h.0 k.0)
+    (and_left (i == j) (same_numbers h.0 k.0) (not-true (i == j) different)))
     numbers
-    (each_of_all (λ i. Each (λ t. (rest : List ℕ) × (t ≡ i ∷ rest)) (map (λ tuple. i ∷ tuple) shorter)) (λ i. heads i shorter) numbers)
+    (each_of_all (λ i. Each (λ t. (rest : List ℕ) × (t ≡ i ∷ rest)) (map (λ tuple. i ∷ tuple) shorter))
+    (λ i. heads i shorter) numbers)
     (each_of_all (λ i. are_in_order (λ s t. not (same_numbers s t)) (map (λ tuple. i ∷ tuple) shorter) ≡ true)
     (λ i. order_mapped (λ s t. not (same_numbers s t)) (λ tuple. i ∷ tuple) shorter
     ∙ order_weaker (λ s t. not (same_numbers s t)) (λ s t. not (same_numbers (i ∷ s) (i ∷ t))) shorter (same_more i)
@@ -213,7 +236,8 @@ tuples_differ numbers apart (suc n) =
     heads i (t ∷ ts) = ((t, refl), heads i ts)
 
 -- drafts of one tuple have numbers that ascend
-restriction_numbers : (layout : Layout) (d : ℕ) (constraint : syntax.Constraint) (tuple : List ℕ) (number m : ℕ) → m ≤ number
+restriction_numbers : (layout : Layout) (d : ℕ) (constraint : syntax.Constraint) (tuple : List ℕ) (number m : ℕ)
+    → m ≤ number
     → (restrictions : List syntax.Restriction)
     → Each (λ x. m ≤ x.number) (restriction_drafts layout d constraint tuple number restrictions)
 restriction_numbers layout d constraint tuple number m low [] = tt
@@ -230,7 +254,8 @@ differ_by_number a b apart =
 
 restrictions_differ : (layout : Layout) (d : ℕ) (constraint : syntax.Constraint) (tuple : List ℕ) (number : ℕ)
     → (restrictions : List syntax.Restriction)
-    → are_in_order (λ a b. not (are_one_draft a b)) (restriction_drafts layout d constraint tuple number restrictions) ≡ true
+    → are_in_order (λ a b. not (are_one_draft a b)) (restriction_drafts layout d constraint tuple number restrictions)
+    ≡ true
 restrictions_differ layout d constraint tuple number [] = refl
 restrictions_differ layout d constraint tuple number (r ∷ rs) =
     let first = restriction_draft layout d constraint tuple number r in
@@ -259,14 +284,17 @@ differ_by_tuple s t a b different h k =
     (and_right (same_number_if a.dependency b.dependency) ((a.number == b.number) && same_numbers a.slots b.slots)
     (and_right (a.number == b.number) (same_numbers a.slots b.slots) apart)))
 
-differ_by_dependency : (d e : ℕ) (a b : Draft) → not (d == e) ≡ true → IsOf d a → IsOf e b → not (are_one_draft a b) ≡ true
+differ_by_dependency : (d e : ℕ) (a b : Draft) → not (d == e) ≡ true → IsOf d a → IsOf e b
+    → not (are_one_draft a b) ≡ true
 differ_by_dependency d e a b different h k =
     let apart : same_number_if a.dependency b.dependency ≡ false =
-    ap (λ o. same_number_if o b.dependency) h.dependency ∙ ap (same_number_if (Some d)) k.dependency ∙ not-true (d == e) different in
+    ap (λ o. same_number_if o b.dependency) h.dependency ∙ ap (same_number_if (Some d)) k.dependency
+    ∙ not-true (d == e) different in
     not_from_false (are_one_draft a b)
     (and_right (is_of_constraint (kind_of a.demand) && is_of_constraint (kind_of b.demand))
     (same_number_if a.dependency b.dependency && ((a.number == b.number) && same_numbers a.slots b.slots))
-    (and_left (same_number_if a.dependency b.dependency) ((a.number == b.number) && same_numbers a.slots b.slots) apart))
+    (and_left (same_number_if a.dependency b.dependency) ((a.number == b.number) && same_numbers a.slots b.slots)
+    apart))
 
 tree_differs : (layout : Layout) (d : ℕ) (tree : Option syntax.Dependency)
     → are_in_order (λ a b. not (are_one_draft a b)) (constraint_drafts layout d tree) ≡ true
@@ -276,22 +304,27 @@ tree_differs layout d (Some (syntax.Selection condition)) = refl
 tree_differs layout d (Some (syntax.Procedure statements)) = refl
 tree_differs layout d (Some (syntax.Counts term)) = refl
 tree_differs layout d (Some (syntax.Constrains constraint)) =
-    let drafts : List ℕ → List Draft = λ tuple. restriction_drafts layout d constraint tuple 1 constraint.restrictions in
+    let drafts : List ℕ → List Draft
+    = λ tuple. restriction_drafts layout d constraint tuple 1 constraint.restrictions in
     flat_ordered (λ a b. not (are_one_draft a b)) (λ s t. not (same_numbers s t)) IsAt drafts differ_by_tuple
     (tuples_of layout constraint)
     (each_of_all (λ tuple. Each (IsAt tuple) (drafts tuple))
-    (λ tuple. each_restriction (IsAt tuple) layout d constraint tuple (λ number r some. record { slots = refl }) 1 (omega arith)
+    (λ tuple. each_restriction (IsAt tuple) layout d constraint tuple (λ number r some. record { slots = refl }) 1
+    (omega arith)
     constraint.restrictions) (tuples_of layout constraint))
     (each_of_all (λ tuple. are_in_order (λ a b. not (are_one_draft a b)) (drafts tuple) ≡ true)
     (λ tuple. restrictions_differ layout d constraint tuple 1 constraint.restrictions) (tuples_of layout constraint))
     (order_left (λ s t. not (same_numbers s t)) (matches layout constraint)
     (tuples_from (numbers_below (length layout.slots)) (length constraint.objects))
-    (tuples_differ (numbers_below (length layout.slots)) (range_apart 0 (length layout.slots)) (length constraint.objects)))
+    (tuples_differ (numbers_below (length layout.slots)) (range_apart 0 (length layout.slots))
+    (length constraint.objects)))
 
-constraints_differ : (layout : Layout) → are_in_order (λ a b. not (are_one_draft a b)) (constraints_drafts layout) ≡ true
+constraints_differ : (layout : Layout)
+    → are_in_order (λ a b. not (are_one_draft a b)) (constraints_drafts layout) ≡ true
 constraints_differ layout =
     let drafts : ℕ → List Draft = λ d. constraint_drafts layout d (tree_of layout.model d) in
-    flat_ordered (λ a b. not (are_one_draft a b)) (λ d e. not (d == e)) IsOf drafts differ_by_dependency (active_constraints layout)
+    flat_ordered (λ a b. not (are_one_draft a b)) (λ d e. not (d == e)) IsOf drafts differ_by_dependency
+    (active_constraints layout)
     (each_of_all (λ d. Each (IsOf d) (drafts d)) (λ d. of_tree d (tree_of layout.model d)) (active_constraints layout))
     (each_of_all (λ d. are_in_order (λ a b. not (are_one_draft a b)) (drafts d) ≡ true)
     (λ d. tree_differs layout d (tree_of layout.model d)) (active_constraints layout))
@@ -307,12 +340,14 @@ constraints_differ layout =
     of_tree d (Some (syntax.Constrains constraint)) = of_tuples d constraint (tuples_of layout constraint)
       where
         of_tuples : (d : ℕ) (constraint : syntax.Constraint) (tuples : List (List ℕ))
-            → Each (IsOf d) (flat_map (λ tuple. restriction_drafts layout d constraint tuple 1 constraint.restrictions) tuples)
+            → Each (IsOf d) (flat_map (λ tuple. restriction_drafts layout d constraint tuple 1 constraint.restrictions)
+            tuples)
         of_tuples d constraint [] = tt
         of_tuples d constraint (tuple ∷ tuples) =
             each_joined (IsOf d) (restriction_drafts layout d constraint tuple 1 constraint.restrictions)
             (flat_map (λ tuple. restriction_drafts layout d constraint tuple 1 constraint.restrictions) tuples)
-            (each_restriction (IsOf d) layout d constraint tuple (λ number r some. record { dependency = refl }) 1 (omega arith)
+            (each_restriction (IsOf d) layout d constraint tuple (λ number r some. record { dependency = refl }) 1
+            (omega arith)
             constraint.restrictions) (of_tuples d constraint tuples)
 
 -- what is of no constraint differs from all
@@ -335,7 +370,8 @@ IsOwn a = is_of_constraint (kind_of a.demand) ≡ false
 
 owns : (layout : Layout) → Each IsOwn (last_drafts layout ++ slot_drafts_from layout 0 layout.standings)
 owns layout =
-    each_joined IsOwn (last_drafts layout) (slot_drafts_from layout 0 layout.standings) (each_last IsOwn layout (λ v. refl))
+    each_joined IsOwn (last_drafts layout) (slot_drafts_from layout 0 layout.standings)
+    (each_last IsOwn layout (λ v. refl))
     (each_slot_draft IsOwn layout (λ i. (refl, λ site number asked some. refl)) 0 layout.standings)
 
 drafts_differ : (layout : Layout) → are_in_order (λ a b. not (are_one_draft a b)) (rule_drafts layout) ≡ true
@@ -343,7 +379,8 @@ drafts_differ layout =
     let before : Draft → Draft → Bool = λ a b. not (are_one_draft a b) in
     let rest = last_drafts layout ++ slot_drafts_from layout 0 layout.standings in
     order_joined before (constraints_drafts layout) rest (constraints_differ layout)
-    (all_free before rest (each_more IsOwn (λ a. (b : Draft) → before a b ≡ true) (λ a own b. own_differs a own b) rest (owns layout)))
+    (all_free before rest
+    (each_more IsOwn (λ a. (b : Draft) → before a b ≡ true) (λ a own b. own_differs a own b) rest (owns layout)))
     (each_constraint (λ a. list_all (before a) rest ≡ true) layout
     (λ d constraint tuple number r some. each_passes IsOwn
     (before (restriction_draft layout d constraint tuple number r))
@@ -353,7 +390,8 @@ drafts_differ layout =
         → are_in_order before xs ≡ true
     all_free before [] free = refl
     all_free before (x ∷ xs) free =
-        and_from (list_all (before x) xs) (are_in_order before xs) (each_passes (λ b. Unit {0}) (before x) (λ b u. free.0 b) xs
+        and_from (list_all (before x) xs) (are_in_order before xs)
+        (each_passes (λ b. Unit {0}) (before x) (λ b u. free.0 b) xs
         (each_of_all (λ b. Unit {0}) (λ b. tt) xs)) (all_free before xs free.1)
 
 -- two Lines of one slot with one number, and of which one is of no selection condition
@@ -364,18 +402,22 @@ are_one_line_draft a b =
 
 abbrev are_mixed : Draft → Draft → Bool
 are_mixed a b =
-    (is_some (line_slot (kind_of a.demand)) && same_number_if (line_slot (kind_of a.demand)) (line_slot (kind_of b.demand)))
+    (is_some (line_slot (kind_of a.demand))
+    && same_number_if (line_slot (kind_of a.demand)) (line_slot (kind_of b.demand)))
     && (is_none a.dependency || is_none b.dependency)
 
 one_line_same : (c t m n : ℕ) (a b : Draft) → are_one_line_draft a b ≡ are_one_line (rule_from c t a) (rule_from m n b)
 one_line_same c t m n a b =
-    ap (λ x. is_some x && (same_number_if x (line_slot (kind_of b.demand)) && (a.number == b.number))) (sym (slot_same t a.demand))
-    ∙ ap (λ y. is_some (line_slot (kind_from t a.demand)) && (same_number_if (line_slot (kind_from t a.demand)) y && (a.number == b.number)))
+    ap (λ x. is_some x && (same_number_if x (line_slot (kind_of b.demand)) && (a.number == b.number)))
+    (sym (slot_same t a.demand))
+    ∙ ap (λ y. is_some (line_slot (kind_from t a.demand))
+    && (same_number_if (line_slot (kind_from t a.demand)) y && (a.number == b.number)))
     (sym (slot_same n b.demand))
 
 mixed_same : (c t m n : ℕ) (a b : Draft) → are_mixed a b ≡ are_with_and_without (rule_from c t a) (rule_from m n b)
 mixed_same c t m n a b =
-    ap (λ x. (is_some x && same_number_if x (line_slot (kind_of b.demand))) && (is_none a.dependency || is_none b.dependency))
+    ap (λ x. (is_some x && same_number_if x (line_slot (kind_of b.demand)))
+    && (is_none a.dependency || is_none b.dependency))
     (sym (slot_same t a.demand))
     ∙ ap (λ y. (is_some (line_slot (kind_from t a.demand)) && same_number_if (line_slot (kind_from t a.demand)) y)
     && (is_none a.dependency || is_none b.dependency)) (sym (slot_same n b.demand))
@@ -387,10 +429,12 @@ IsLineOf i x = line_slot (kind_of x.demand) ≡ Some i
 abbrev IsLineFrom : ℕ → Draft → Type 0
 IsLineFrom i x = (j : ℕ) × (i ≤ j) × (line_slot (kind_of x.demand) ≡ Some j)
 
-of_its_slot : (layout : Layout) (i : ℕ) (s : Standing) (parent : Option ℕ) → Each (IsLineOf i) (drafts_of_slot layout i s parent)
+of_its_slot : (layout : Layout) (i : ℕ) (s : Standing) (parent : Option ℕ)
+    → Each (IsLineOf i) (drafts_of_slot layout i s parent)
 of_its_slot layout i s parent = each_of_slot (IsLineOf i) layout i (refl, λ site number asked some. refl) s parent
 
-of_later_slots : (layout : Layout) (i : ℕ) (standings : List Standing) → Each (IsLineFrom i) (slot_drafts_from layout i standings)
+of_later_slots : (layout : Layout) (i : ℕ) (standings : List Standing)
+    → Each (IsLineFrom i) (slot_drafts_from layout i standings)
 of_later_slots layout i [] = tt
 of_later_slots layout i (s ∷ standings) =
     each_joined (IsLineFrom i) (drafts_of_slot layout i s s.parent) (slot_drafts_from layout (suc i) standings)
@@ -405,22 +449,27 @@ slots_apart : (before : Draft → Draft → Bool) (layout : Layout)
     → (i : ℕ) (standings : List Standing) → are_in_order before (slot_drafts_from layout i standings) ≡ true
 slots_apart before layout across within i [] = refl
 slots_apart before layout across within i (s ∷ standings) =
-    order_joined before (drafts_of_slot layout i s s.parent) (slot_drafts_from layout (suc i) standings) (of_slot s.parent)
+    order_joined before (drafts_of_slot layout i s s.parent) (slot_drafts_from layout (suc i) standings)
+    (of_slot s.parent)
     (slots_apart before layout across within (suc i) standings)
     (each_more (IsLineOf i) (λ a. list_all (before a) (slot_drafts_from layout (suc i) standings) ≡ true)
-    (λ a h. each_passes (IsLineFrom (suc i)) (before a) (λ b k. let low = k.1 in across i k.0 a b (omega (arith, low)) h k.2)
+    (λ a h. each_passes (IsLineFrom (suc i)) (before a)
+    (λ b k. let low = k.1 in across i k.0 a b (omega (arith, low)) h k.2)
     (slot_drafts_from layout (suc i) standings) (of_later_slots layout (suc i) standings))
     (drafts_of_slot layout i s s.parent) (of_its_slot layout i s s.parent))
   where
-    of_owner : (p : ℕ) (owner : Option Slot) (item : Option BillItem) → are_in_order before (drafts_of_line layout p i owner item) ≡ true
+    of_owner : (p : ℕ) (owner : Option Slot) (item : Option BillItem)
+        → are_in_order before (drafts_of_line layout p i owner item) ≡ true
     of_owner p None None = refl
     of_owner p (Some owner) None = refl
     of_owner p None (Some item) = refl
-    of_owner p (Some owner) (Some item) = within (site_at layout p owner (at.Line true)) i (selections_among layout.model item.uses)
+    of_owner p (Some owner) (Some item) =
+        within (site_at layout p owner (at.Line true)) i (selections_among layout.model item.uses)
 
     of_slot : (parent : Option ℕ) → are_in_order before (drafts_of_slot layout i s parent) ≡ true
     of_slot None = refl
-    of_slot (Some p) = of_owner p (slice_get layout.slots p) (slice_get (bill_if layout.model (object_at layout p)) s.item)
+    of_slot (Some p) = of_owner p (slice_get layout.slots p)
+        (slice_get (bill_if layout.model (object_at layout p)) s.item)
 
 other_slots : (i j : ℕ) (a b : Draft) → i < j → IsLineOf i a → IsLineOf j b
     → same_number_if (line_slot (kind_of a.demand)) (line_slot (kind_of b.demand)) ≡ false
@@ -446,7 +495,8 @@ mixed_across i j a b less h k =
 line_numbers : (layout : Layout) (site : Site) (i number m : ℕ) → m ≤ number → (asks : List Asked)
     → Each (λ x. m ≤ x.number) (line_drafts_from layout site i number asks)
 line_numbers layout site i number m low [] = tt
-line_numbers layout site i number m low (a ∷ asks) = (low, line_numbers layout site i (suc number) m (omega (arith, low)) asks)
+line_numbers layout site i number m low (a ∷ asks) =
+    (low, line_numbers layout site i (suc number) m (omega (arith, low)) asks)
 
 lines_ascend : (layout : Layout) (site : Site) (i number : ℕ) (asks : List Asked)
     → are_in_order (λ a b. not (are_one_line_draft a b)) (line_drafts_from layout site i number asks) ≡ true
@@ -454,7 +504,8 @@ lines_ascend layout site i number [] = refl
 lines_ascend layout site i number (a ∷ asks) =
     let first = line_draft layout site i number a in
     let rest = line_drafts_from layout site i (suc number) asks in
-    and_from (list_all (λ b. not (are_one_line_draft first b)) rest) (are_in_order (λ a b. not (are_one_line_draft a b)) rest)
+    and_from (list_all (λ b. not (are_one_line_draft first b)) rest)
+    (are_in_order (λ a b. not (are_one_line_draft a b)) rest)
     (each_passes (λ x. suc number ≤ x.number) (λ b. not (are_one_line_draft first b))
     (λ b h. not_from_false (are_one_line_draft first b)
     (and_right true (same_number_if (Some i) (line_slot (kind_of b.demand)) && (number == b.number))
@@ -495,7 +546,8 @@ mixed_within layout site i [] = refl
 mixed_within layout site i (a ∷ asks) = unmixed layout site i 1 (a ∷ asks)
 
 -- what is no Line stands before all
-no_lines : (layout : Layout) → Each (λ x. line_slot (kind_of x.demand) ≡ None) (constraints_drafts layout ++ last_drafts layout)
+no_lines : (layout : Layout)
+    → Each (λ x. line_slot (kind_of x.demand) ≡ None) (constraints_drafts layout ++ last_drafts layout)
 no_lines layout =
     each_joined (λ x. line_slot (kind_of x.demand) ≡ None) (constraints_drafts layout) (last_drafts layout)
     (each_constraint (λ x. line_slot (kind_of x.demand) ≡ None) layout
@@ -506,20 +558,27 @@ no_lines layout =
 lines_differ : (layout : Layout) → are_in_order (λ a b. not (are_one_line_draft a b)) (rule_drafts layout) ≡ true
 lines_differ layout =
     let before : Draft → Draft → Bool = λ a b. not (are_one_line_draft a b) in
-    ap (are_in_order before) (sym (append_assoc (constraints_drafts layout) (last_drafts layout) (slot_drafts_from layout 0 layout.standings)))
+    ap (are_in_order before)
+    (sym (append_assoc (constraints_drafts layout) (last_drafts layout)
+    (slot_drafts_from layout 0 layout.standings)))
     ∙ order_free before (constraints_drafts layout ++ last_drafts layout) (slot_drafts_from layout 0 layout.standings)
     (each_more (λ x. line_slot (kind_of x.demand) ≡ None) (λ a. (b : Draft) → before a b ≡ true)
-    (λ a h b. ap (λ o. not (is_some o && (same_number_if o (line_slot (kind_of b.demand)) && (a.number == b.number)))) h)
+    (λ a h b. ap (λ o. not (is_some o && (same_number_if o (line_slot (kind_of b.demand)) && (a.number == b.number))))
+    h)
     (constraints_drafts layout ++ last_drafts layout) (no_lines layout))
     (slots_apart before layout lines_across (lines_within layout) 0 layout.standings)
 
 none_mixed : (layout : Layout) → are_in_order (λ a b. not (are_mixed a b)) (rule_drafts layout) ≡ true
 none_mixed layout =
     let before : Draft → Draft → Bool = λ a b. not (are_mixed a b) in
-    ap (are_in_order before) (sym (append_assoc (constraints_drafts layout) (last_drafts layout) (slot_drafts_from layout 0 layout.standings)))
+    ap (are_in_order before)
+    (sym (append_assoc (constraints_drafts layout) (last_drafts layout)
+    (slot_drafts_from layout 0 layout.standings)))
     ∙ order_free before (constraints_drafts layout ++ last_drafts layout) (slot_drafts_from layout 0 layout.standings)
     (each_more (λ x. line_slot (kind_of x.demand) ≡ None) (λ a. (b : Draft) → before a b ≡ true)
-    (λ a h b. ap (λ o. not ((is_some o && same_number_if o (line_slot (kind_of b.demand))) && (is_none a.dependency || is_none b.dependency))) h)
+    (λ a h b. ap (λ o. not
+    ((is_some o && same_number_if o (line_slot (kind_of b.demand))) && (is_none a.dependency || is_none b.dependency)))
+    h)
     (constraints_drafts layout ++ last_drafts layout) (no_lines layout))
     (slots_apart before layout mixed_across (mixed_within layout) 0 layout.standings)
 
@@ -565,7 +624,8 @@ last_is layout v below =
     (demand_constrains layout (constraint_site layout constraint tuple) r.demand))))
     ∙ left_append test (last_drafts layout) lines
     ∙ ap (λ l. filter test (last_drafts layout) ++ l)
-    (none_left test lines (each_slot_draft (λ x. test x ≡ false) layout (λ i. (refl, λ site number asked some. refl)) 0 layout.standings))
+    (none_left test lines
+    (each_slot_draft (λ x. test x ≡ false) layout (λ i. (refl, λ site number asked some. refl)) 0 layout.standings))
     ∙ append-nil (filter test (last_drafts layout)))
     ∙ one_of_range v 0 (length layout.vars) (omega arith) (omega (arith, below))
 
@@ -587,11 +647,14 @@ none_any test (x ∷ xs) h = or_from (test x) (list_any test xs) h.0 (none_any t
 abbrev is_line_draft : ℕ → Draft → Bool
 is_line_draft i x = is_line_of i (kind_of x.demand)
 
-has_line : (layout : Layout) (site : Site) (i : ℕ) (asks : List Asked) → list_any (is_line_draft i) (line_drafts layout site i asks) ≡ true
+has_line : (layout : Layout) (site : Site) (i : ℕ) (asks : List Asked)
+    → list_any (is_line_draft i) (line_drafts layout site i asks) ≡ true
 has_line layout site i [] = or_left (i == i) false (eq-eqb i i refl)
-has_line layout site i (a ∷ asks) = or_left (i == i) (list_any (is_line_draft i) (line_drafts_from layout site i 2 asks)) (eq-eqb i i refl)
+has_line layout site i (a ∷ asks) =
+    or_left (i == i) (list_any (is_line_draft i) (line_drafts_from layout site i 2 asks)) (eq-eqb i i refl)
 
-any_at : (layout : Layout) (i k n : ℕ) (s : Standing) → n ≡ i + k → (standings : List Standing) → slice_get standings k ≡ Some s
+any_at : (layout : Layout) (i k n : ℕ) (s : Standing) → n ≡ i + k → (standings : List Standing)
+    → slice_get standings k ≡ Some s
     → list_any (is_line_draft n) (drafts_of_slot layout n s s.parent) ≡ true
     → list_any (is_line_draft n) (slot_drafts_from layout i standings) ≡ true
 any_at layout i k n s is [] e h = absurd (cc)
@@ -599,12 +662,14 @@ any_at layout i zero n s is (x ∷ standings) e h =
     let same : x ≡ s = cc in
     let here : i ≡ n = omega (arith, is) in
     list_any-append (is_line_draft n) (drafts_of_slot layout i x x.parent) (slot_drafts_from layout (suc i) standings)
-    ∙ or_left (list_any (is_line_draft n) (drafts_of_slot layout i x x.parent)) (list_any (is_line_draft n) (slot_drafts_from layout (suc i) standings))
+    ∙ or_left (list_any (is_line_draft n) (drafts_of_slot layout i x x.parent))
+    (list_any (is_line_draft n) (slot_drafts_from layout (suc i) standings))
     (ap (λ y. list_any (is_line_draft n) (drafts_of_slot layout i y y.parent)) same
     ∙ ap (λ m. list_any (is_line_draft n) (drafts_of_slot layout m s s.parent)) here ∙ h)
 any_at layout i (suc k) n s is (x ∷ standings) e h =
     list_any-append (is_line_draft n) (drafts_of_slot layout i x x.parent) (slot_drafts_from layout (suc i) standings)
-    ∙ or_right (list_any (is_line_draft n) (drafts_of_slot layout i x x.parent)) (list_any (is_line_draft n) (slot_drafts_from layout (suc i) standings))
+    ∙ or_right (list_any (is_line_draft n) (drafts_of_slot layout i x x.parent))
+    (list_any (is_line_draft n) (slot_drafts_from layout (suc i) standings))
     (any_at layout (suc i) k n s (omega (arith, is)) standings e h)
 
 -- the slot above, and the line of its object
@@ -615,8 +680,10 @@ line_there model i p s part =
     let owner = slot_of model (standings_of model) part.above in
     let there = slot_at model p part.above part.there in
     let object : object_at layout p ≡ Some part.above.object = ap (option_map (λ slot. slot.object)) there in
-    ap (λ o. list_any (is_line_draft i) (drafts_of_line layout p i o (slice_get (bill_if model (object_at layout p)) s.item))) there
-    ∙ ap (λ o. list_any (is_line_draft i) (drafts_of_line layout p i (Some owner) (slice_get (bill_if model o) s.item))) object
+    ap (λ o. list_any (is_line_draft i)
+    (drafts_of_line layout p i o (slice_get (bill_if model (object_at layout p)) s.item))) there
+    ∙ ap (λ o. list_any (is_line_draft i) (drafts_of_line layout p i (Some owner) (slice_get (bill_if model o) s.item)))
+    object
     ∙ ap (λ o. list_any (is_line_draft i) (drafts_of_line layout p i (Some owner) o)) part.listed
     ∙ has_line layout (site_at layout p owner (at.Line true)) i (selections_among model part.line.uses)
 
@@ -627,7 +694,8 @@ line_of_slot model i below = by (slice_get (standings_of model) (suc i)) refl
     size : length (slots_of model) ≡ length (standings_of model)
     size = length-map (standings_of model) (slot_of model (standings_of model))
 
-    of_parent : (s : Standing) → slice_get (standings_of model) (suc i) ≡ Some s → (parent : Option ℕ) → s.parent ≡ parent
+    of_parent : (s : Standing) → slice_get (standings_of model) (suc i) ≡ Some s → (parent : Option ℕ)
+        → s.parent ≡ parent
         → IsPlacedBelow model (standings_of model) (suc i) s parent
         → list_any (is_line_draft (suc i)) (drafts_of_slot (layout_of model) (suc i) s parent) ≡ true
     of_parent s e None is placed = absurd (let none = placed.0 in omega (arith, none))
@@ -640,7 +708,8 @@ line_of_slot model i below = by (slice_get (standings_of model) (suc i)) refl
         any_at (layout_of model) 0 (suc i) (suc i) s (omega arith) (standings_of model) e
         (of_parent s e s.parent refl (placed_at model (suc i) s e))
 
-no_line_of_root : (model : Model) → list_any (is_line_draft 0) (slot_drafts_from (layout_of model) 0 (standings_of model)) ≡ false
+no_line_of_root : (model : Model)
+    → list_any (is_line_draft 0) (slot_drafts_from (layout_of model) 0 (standings_of model)) ≡ false
 no_line_of_root model =
     none_any (is_line_draft 0) (slot_drafts_from (layout_of model) 1 below)
     (each_more (IsLineFrom 1) (λ x. is_line_draft 0 x ≡ false) (λ x h. other x.demand h.0 h.1 h.2)
@@ -649,7 +718,8 @@ no_line_of_root model =
     below : List Standing
     below = for_lines (standings_from model 3 (Some 0) 1) 0 1 (bill_of model model.root)
 
-    other : (demand : Demand) (j : ℕ) → 1 ≤ j → line_slot (kind_of demand) ≡ Some j → is_line_of 0 (kind_of demand) ≡ false
+    other : (demand : Demand) (j : ℕ) → 1 ≤ j → line_slot (kind_of demand) ≡ Some j
+        → is_line_of 0 (kind_of demand) ≡ false
     other (among v restriction) j low h = refl
     other (compare relation left right) j low h = refl
     other (equate left right) j low h = refl
@@ -665,7 +735,8 @@ any_line model tables plan is i =
     let layout = layout_of model in
     let lines = slot_drafts_from layout 0 (standings_of model) in
     ap (list_any (λ rule. is_line_of i rule.kind)) is.rules
-    ∙ any_numbered rule_brings rule_from (λ rule. is_line_of i rule.kind) (is_line_draft i) (λ c t d. line_of_same i t d.demand) 1 0
+    ∙ any_numbered rule_brings rule_from (λ rule. is_line_of i rule.kind) (is_line_draft i)
+    (λ c t d. line_of_same i t d.demand) 1 0
     (rule_drafts layout)
     ∙ list_any-append (is_line_draft i) (constraints_drafts layout) (last_drafts layout ++ lines)
     ∙ ap (λ b. b || list_any (is_line_draft i) (last_drafts layout ++ lines))
@@ -679,7 +750,8 @@ any_line model tables plan is i =
 slot_has_lines : (model : Model) (tables : List VariantTable) (plan : Plan) → IsPlanOf model tables plan → (i : ℕ)
     → i < length plan.slots → has_its_lines plan i ≡ true
 slot_has_lines model tables plan is zero below =
-    not_from_false (list_any (λ rule. is_line_of 0 rule.kind) plan.rules) (any_line model tables plan is 0 ∙ no_line_of_root model)
+    not_from_false (list_any (λ rule. is_line_of 0 rule.kind) plan.rules)
+    (any_line model tables plan is 0 ∙ no_line_of_root model)
 slot_has_lines model tables plan is (suc i) below =
     any_line model tables plan is (suc i)
     ∙ line_of_slot model i (let size = ap length is.slots in omega (arith, below, size))
@@ -691,7 +763,8 @@ has_rules model tables plan is =
     record {
       numbered = each_passes (IsRule plan) is_numbered (λ x h. h.number) plan.rules all;
       rules_once = rules_ordered model tables plan is are_one_rule are_one_draft one_rule_same (drafts_differ layout);
-      lines_once = rules_ordered model tables plan is are_one_line are_one_line_draft one_line_same (lines_differ layout);
+      lines_once = rules_ordered model tables plan is are_one_line are_one_line_draft one_line_same
+          (lines_differ layout);
       lasts = each_passes (λ v. v < 0 + length plan.vars) (has_one_last plan)
           (λ v below. let size = ap length is.vars in
           eq-eqb (length (filter (λ rule. is_last_of v rule.kind) plan.rules)) 1

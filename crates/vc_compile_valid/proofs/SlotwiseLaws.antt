@@ -9,26 +9,31 @@ use Rattle.vc_compile_plan.specs.Numbering.{Brings, numbered}
 use Rattle.vc_compile_plan.specs.Variables.{by_slot}
 use Rattle.vc_compile_valid.proofs.EachLaws.{Each, each_by_slot, each_more}
 
-pub left_append : {X : Type 0} (test : X → Bool) (xs ys : List X) → filter test (xs ++ ys) ≡ filter test xs ++ filter test ys
+pub left_append : {X : Type 0} (test : X → Bool) (xs ys : List X)
+    → filter test (xs ++ ys) ≡ filter test xs ++ filter test ys
 left_append test [] ys = refl
 left_append test (x ∷ xs) ys = by (test x) (left_append test xs ys)
   where
     by : (b : Bool) → filter test (xs ++ ys) ≡ filter test xs ++ filter test ys
-        → cond b (x ∷ filter test (xs ++ ys)) (filter test (xs ++ ys)) ≡ cond b (x ∷ filter test xs) (filter test xs) ++ filter test ys
+        → cond b (x ∷ filter test (xs ++ ys)) (filter test (xs ++ ys))
+        ≡ cond b (x ∷ filter test xs) (filter test xs) ++ filter test ys
     by true e = ap (λ l. x ∷ l) e
     by false e = e
 
 pub all_left : {X : Type 0} (test : X → Bool) (xs : List X) → Each (λ x. test x ≡ true) xs → filter test xs ≡ xs
 all_left test [] h = refl
-all_left test (x ∷ xs) h = ap (λ b. cond b (x ∷ filter test xs) (filter test xs)) h.0 ∙ ap (λ l. x ∷ l) (all_left test xs h.1)
+all_left test (x ∷ xs) h = ap (λ b. cond b (x ∷ filter test xs) (filter test xs)) h.0
+    ∙ ap (λ l. x ∷ l) (all_left test xs h.1)
 
 pub none_left : {X : Type 0} (test : X → Bool) (xs : List X) → Each (λ x. test x ≡ false) xs → filter test xs ≡ []
 none_left test [] h = refl
 none_left test (x ∷ xs) h = ap (λ b. cond b (x ∷ filter test xs) (filter test xs)) h.0 ∙ none_left test xs h.1
 
 pub at_slot : {X : Type 0} (slot_of : X → ℕ) (has : ℕ → Slot → List X)
-    → ((i : ℕ) (slot : Slot) → Each (λ x. slot_of x ≡ i) (has i slot)) → (i : ℕ) (slots : List Slot) (k : ℕ) (slot : Slot)
-    → slice_get slots k ≡ Some slot → (n : ℕ) → n ≡ i + k → filter (λ x. slot_of x == n) (by_slot has i slots) ≡ has n slot
+    → ((i : ℕ) (slot : Slot) → Each (λ x. slot_of x ≡ i) (has i slot))
+    → (i : ℕ) (slots : List Slot) (k : ℕ) (slot : Slot)
+    → slice_get slots k ≡ Some slot → (n : ℕ) → n ≡ i + k
+    → filter (λ x. slot_of x == n) (by_slot has i slots) ≡ has n slot
 at_slot slot_of has own i [] k slot e n is = absurd (cc)
 at_slot slot_of has own i (s ∷ slots) zero slot e n is =
     let same : s ≡ slot = cc in
@@ -36,7 +41,8 @@ at_slot slot_of has own i (s ∷ slots) zero slot e n is =
     left_append (λ x. slot_of x == n) (has i s) (by_slot has (suc i) slots)
     ∙ ap (λ l. l ++ filter (λ x. slot_of x == n) (by_slot has (suc i) slots))
     (all_left (λ x. slot_of x == n) (has i s)
-    (each_more (λ x. slot_of x ≡ i) (λ x. (slot_of x == n) ≡ true) (λ x h. eq-eqb (slot_of x) n (h ∙ here)) (has i s) (own i s)))
+    (each_more (λ x. slot_of x ≡ i) (λ x. (slot_of x == n) ≡ true) (λ x h. eq-eqb (slot_of x) n (h ∙ here)) (has i s)
+    (own i s)))
     ∙ ap (λ l. has i s ++ l) (none_left (λ x. slot_of x == n) (by_slot has (suc i) slots)
     (each_by_slot (λ x. (slot_of x == n) ≡ false) has (suc i) slots
     (λ j t f. each_more (λ x. slot_of x ≡ suc i + j) (λ x. (slot_of x == n) ≡ false)
@@ -46,7 +52,8 @@ at_slot slot_of has own i (s ∷ slots) (suc k) slot e n is =
     left_append (λ x. slot_of x == n) (has i s) (by_slot has (suc i) slots)
     ∙ ap (λ l. l ++ filter (λ x. slot_of x == n) (by_slot has (suc i) slots))
     (none_left (λ x. slot_of x == n) (has i s)
-    (each_more (λ x. slot_of x ≡ i) (λ x. (slot_of x == n) ≡ false) (λ x h. ne_eqb (slot_of x) n (λ g. omega (arith, g, h, is)))
+    (each_more (λ x. slot_of x ≡ i) (λ x. (slot_of x == n) ≡ false)
+    (λ x h. ne_eqb (slot_of x) n (λ g. omega (arith, g, h, is)))
     (has i s) (own i s)))
     ∙ at_slot slot_of has own (suc i) slots k slot e n (omega (arith, is))
 
@@ -60,9 +67,11 @@ left_numbered brings make test earlier of c t (d ∷ drafts) =
     (left_numbered brings make test earlier of (c + length (brings.conditions d)) (t + length (brings.terms d)) drafts)
   where
     by : (a b : Bool) → a ≡ b
-        → length (filter test (numbered brings make (c + length (brings.conditions d)) (t + length (brings.terms d)) drafts))
+        → length (filter test
+        (numbered brings make (c + length (brings.conditions d)) (t + length (brings.terms d)) drafts))
         ≡ length (filter earlier drafts)
-        → length (cond a (make c t d ∷ filter test (numbered brings make (c + length (brings.conditions d)) (t + length (brings.terms d)) drafts))
+        → length (cond a (make c t d
+        ∷ filter test (numbered brings make (c + length (brings.conditions d)) (t + length (brings.terms d)) drafts))
         (filter test (numbered brings make (c + length (brings.conditions d)) (t + length (brings.terms d)) drafts)))
         ≡ length (cond b (d ∷ filter earlier drafts) (filter earlier drafts))
     by true true same e = ap suc e

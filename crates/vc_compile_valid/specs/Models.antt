@@ -19,9 +19,11 @@ abbrev pub is_plain : List Object → Component → Bool
 is_plain objects (components.Object o) = true
 is_plain objects (components.Plain material) = not (list_any (λ object. same_bytes object.material material) objects)
 
--- no line's material is an object's, but of a line that has the object; and there are no more levels of slots than may be
+-- no line's material is an object's, but of a line that has the object; and there are no more levels of slots than may
+-- be
 pub record KeepsParts (model : Model) : Type 0 where
-  pub plain : list_all (λ object. list_all (λ item. is_plain model.objects item.component) object.bill) model.objects ≡ true
+  pub plain : list_all (λ object. list_all (λ item. is_plain model.objects item.component) object.bill) model.objects
+      ≡ true
   pub levels : is_too_deep model ≡ false
 
 -- all values of a characteristic, how many there are, and whether each has few uses
@@ -39,7 +41,8 @@ have_few_uses (Numbers decimals unit values) = list_all (λ value. nat_le (lengt
 
 -- a characteristic's domain has all of its values, of which there is one
 pub record KeepsValues (model : Model) : Type 0 where
-  pub domains : (k : ℕ) (c : Characteristic) → slice_get model.characteristics k ≡ Some c → domain_of c.values ≡ all_values c.values
+  pub domains : (k : ℕ) (c : Characteristic) → slice_get model.characteristics k ≡ Some c
+      → domain_of c.values ≡ all_values c.values
   pub some_values : list_all (λ c. nat_lt 0 (count_of c.values)) model.characteristics ≡ true
 
 -- few dependencies are used at a characteristic, at a value and in a profile

@@ -6,4 +6,5 @@ use Rattle.vc_table.specs.declared.table.VariantTable.{VariantTable}
 use Rattle.vc_compile_plan.specs.PlanOf.{IsPlanOf}
 
 abbrev pub PlansKeep : (Model → Plan → Type 0) → Type 0
-PlansKeep Keeps = (model : Model) (tables : List VariantTable) (plan : Plan) → IsPlanOf model tables plan → Keeps model plan
+PlansKeep Keeps = (model : Model) (tables : List VariantTable) (plan : Plan) → IsPlanOf model tables plan
+    → Keeps model plan

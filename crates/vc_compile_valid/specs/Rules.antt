@@ -2,7 +2,8 @@
 use Rattle.std.specs.Prelude.{◌≡◌, true}
 use Rattle.std.specs.List.{list_all}
 use Rattle.vc_plan.specs.Orders.{are_apart}
-use Rattle.vc_plan.specs.RuleShapes.{are_one_line, are_one_rule, are_with_and_without, asks_by_right, has_its_lines, has_one_last, is_not_among, is_numbered}
+use Rattle.vc_plan.specs.RuleShapes.{are_one_line, are_one_rule, are_with_and_without, asks_by_right, has_its_lines}
+use Rattle.vc_plan.specs.RuleShapes.{has_one_last, is_not_among, is_numbered}
 use Rattle.vc_plan.specs.Valid.{each_slot, each_var}
 use Rattle.vc_plan.specs.declared.plans.Plan.{Plan}
 

@@ -14,7 +14,8 @@ pub record HasPreorder (plan : Plan) : Type 0 where
   pub items : are_in_order is_item_before plan.slots ≡ true
 
 pub record HasLineSlots (plan : Plan) : Type 0 where
-  pub line_slots : list_all (λ l. has_its_slots plan l (slice_get plan.lines l)) (numbers_below (length plan.lines)) ≡ true
+  pub line_slots : list_all (λ l. has_its_slots plan l (slice_get plan.lines l)) (numbers_below (length plan.lines))
+      ≡ true
   pub line_selections : list_all (leaves_selections plan) plan.lines ≡ true
 
 pub record HasOneBill (plan : Plan) : Type 0 where

@@ -19,7 +19,8 @@ pub record Spells (text : List ℕ) (model : SeenModel) : Type 0 where
 -- the text isn't UTF-8, or this is its first faulty line with the least kind there
 pub data IsFault (text : List ℕ) : ModelFaultKind → ℕ → Type 0 where
   not_text : ¬ IsUtf8 text → IsFault text NotText 0
-  at_line : {kind : ModelFaultKind} {number : ℕ} → IsUtf8 text → IsFirstFault (lines_of text) kind number → IsFault text kind number
+  at_line : {kind : ModelFaultKind} {number : ℕ} → IsUtf8 text → IsFirstFault (lines_of text) kind number
+      → IsFault text kind number
 
 -- what the call answers is what there is, unless memory ran out
 abbrev pub Answers : Result Model ModelFault → Result SeenModel ModelFault → Type 0

@@ -7,6 +7,3 @@ pub mod reader;
 pub use reader::read_model;
 pub use vc_model_faults::{ModelFault, ModelFaultKind};
 pub use vc_model_parts::{Model, header, table_count, table_file};
-
-#[cfg(test)]
-mod tests;

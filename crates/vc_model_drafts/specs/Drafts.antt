@@ -18,8 +18,12 @@ use Rattle.vc_model_parts.specs.declared.parts.Table.{Table}
 use Rattle.vc_model_parts.specs.declared.parts.Net.{Net}
 use Rattle.vc_model_drafts.specs.declared.drafts.Below.{Below}
 use Rattle.vc_model_drafts.specs.declared.drafts.Draft.{Draft}
-use Rattle.vc_model_drafts.specs.Seen.{SeenDependency, SeenItem, SeenOperation, SeenObject, SeenModel, seen_dependency, seen_item, seen_operation, seen_object}
-use Rattle.vc_model_drafts.specs.Models.{until, throughout, first_said, number_of, uses_below, nets_below, component_or, text_at, number_at, member_at, column_at, item_at, operation_at, characteristic_at, class_at, table_at, dependency_at, net_at, object_at, name_at, version_at, root_at}
+use Rattle.vc_model_drafts.specs.Seen.{SeenDependency, SeenItem, SeenOperation, SeenObject, SeenModel, seen_dependency}
+use Rattle.vc_model_drafts.specs.Seen.{seen_item, seen_operation, seen_object}
+use Rattle.vc_model_drafts.specs.Models.{until, throughout, first_said, number_of, uses_below, nets_below, component_or}
+use Rattle.vc_model_drafts.specs.Models.{text_at, number_at, member_at, column_at, item_at, operation_at}
+use Rattle.vc_model_drafts.specs.Models.{characteristic_at, class_at, table_at, dependency_at, net_at, object_at}
+use Rattle.vc_model_drafts.specs.Models.{name_at, version_at, root_at}
 
 -- what belongs to a line that is still to come
 pub record SeenBelow : Type 0 where
@@ -121,23 +125,36 @@ with_front scope number read (lines.Inner text) d = d
 with_front scope number read lines.LongInner d = d
 with_front scope number read lines.End d = d
 with_front scope number read (lines.Uses name) d =
-    record d { uses = cons_option (place_of scope.dependencies.all name) d.uses; used_nets = cons_option (place_of scope.dependencies.nets name) d.used_nets }
+    record d {
+      uses = cons_option (place_of scope.dependencies.all name) d.uses;
+      used_nets =
+          cons_option (place_of scope.dependencies.nets name) d.used_nets;
+    }
 with_front scope number read (lines.Text text) d =
-    record (without_uses d) { below = record d.below { texts = (record { text = number_of scope.declared.texts text; uses = d.uses }) ∷ d.below.texts } }
+    record (without_uses d) {
+      below = record d.below
+          { texts = (record { text = number_of scope.declared.texts text; uses = d.uses }) ∷ d.below.texts };
+    }
 with_front scope number read (lines.Interval interval) d =
     record (without_uses d) {
       below = record d.below {
         numbers = cons_option
-            (option_map (λ entry. record { low = entry.low; high = entry.high; uses = d.uses }) (entry_within interval.low interval.high)) d.below.numbers;
+            (option_map (λ entry. record { low = entry.low; high = entry.high; uses = d.uses })
+            (entry_within interval.low interval.high)) d.below.numbers;
       };
     }
 with_front scope number read (lines.Has name) d =
-    record (without_uses d) { below = record d.below { members = number_of scope.declared.characteristics name ∷ d.below.members } }
+    record (without_uses d)
+    { below = record d.below { members = number_of scope.declared.characteristics name ∷ d.below.members } }
 with_front scope number read (lines.Column column) d =
     record (without_uses d) {
       below = record d.below {
         columns =
-            (record { characteristic = number_of scope.declared.characteristics column.characteristic; key = column.key }) ∷ d.below.columns;
+            (record {
+              characteristic = number_of scope.declared.characteristics column.characteristic;
+              key =
+                  column.key;
+            }) ∷ d.below.columns;
       };
     }
 with_front scope number read (lines.Bill bill) d =
@@ -186,9 +203,13 @@ with_front scope number read (lines.Num num) d =
         values = values.Numbers (unwrap_or num.decimals 0) num.unit d.below.numbers;
       }) ∷ d.characteristics;
     }
-with_front scope number read (lines.Class name) d = record (closed d) { classes = (record { name = name; members = d.below.members }) ∷ d.classes }
+with_front scope number read (lines.Class name) d =
+    record (closed d) { classes = (record { name = name; members = d.below.members }) ∷ d.classes }
 with_front scope number read (lines.Table table) d =
-    record (closed d) { tables = (record { name = table.name; file = table.file; columns = d.below.columns }) ∷ d.tables }
+    record (closed d) {
+      tables = (record { name = table.name; file = table.file; columns = d.below.columns })
+          ∷ d.tables;
+    }
 with_front scope number read (lines.Block block) d =
     record (closed d) {
       dependencies = cons_option (option_map (λ tree. record {
@@ -197,7 +218,8 @@ with_front scope number read (lines.Block block) d =
         line = number;
       }) (dependency_read read)) d.dependencies;
     }
-with_front scope number read (lines.Net name) d = record (closed d) { nets = (record { name = name; constraints = d.uses }) ∷ d.nets }
+with_front scope number read (lines.Net name) d =
+    record (closed d) { nets = (record { name = name; constraints = d.uses }) ∷ d.nets }
 with_front scope number read (lines.Object object) d =
     record (closed d) {
       objects = (record {
@@ -209,8 +231,10 @@ with_front scope number read (lines.Object object) d =
         operations = d.below.operations;
       }) ∷ d.objects;
     }
-with_front scope number read (lines.Head head) d = record (closed d) { name = head.name; version = unwrap_or head.version 0 }
-with_front scope number read (lines.Root material) d = record (closed d) { root = number_of scope.declared.objects material }
+with_front scope number read (lines.Head head) d =
+    record (closed d) { name = head.name; version = unwrap_or head.version 0 }
+with_front scope number read (lines.Root material) d =
+    record (closed d) { root = number_of scope.declared.objects material }
 with_front scope number read line d = closed d
 
 -- in the draft that is kept in memory a line is put in front, whose number is given and what it reads

@@ -1,5 +1,6 @@
 -- The model that the lines of a text without fault describe.
-use Rattle.std.specs.Prelude.{ℕ, ◌+◌, Bool, false, List, [], ◌∷◌, Option, Some, None, option_map, unwrap_or, if◌then◌else◌}
+use Rattle.std.specs.Prelude.{ℕ, ◌+◌, Bool, false, List, [], ◌∷◌, Option, Some, None, option_map, unwrap_or}
+use Rattle.std.specs.Prelude.{if◌then◌else◌}
 use Rattle.std.specs.List.{cons_option}
 use Rattle.vc_model_lines.specs.declared.line.Line.{Line}
 use Rattle.vc_model_lines.specs.declared.line.Line.TheVariants as lines
@@ -25,7 +26,8 @@ use Rattle.vc_model_drafts.specs.Seen.{SeenDependency, SeenItem, SeenOperation, 
 -- what lines say, each with its number and the lines below it, up to one that ends this; the first has the number given
 abbrev pub until : {X : Type 0} → (Line → Bool) → (ℕ → Line → List Line → Option X) → ℕ → List Line → List X
 until ends say number [] = []
-until ends say number (line ∷ below) = if ends line then [] else cons_option (say number line below) (until ends say (number + 1) below)
+until ends say number (line ∷ below) = if ends line
+    then [] else cons_option (say number line below) (until ends say (number + 1) below)
 
 abbrev pub never : Line → Bool
 never line = false
@@ -64,13 +66,15 @@ nets_below scope number below = until ends_uses (net_use_at scope) number below
 
 -- the text that a line lists as a value
 abbrev pub text_at : Scope → ℕ → Line → List Line → Option TextValue
-text_at scope number (lines.Text text) below = Some record { text = number_of scope.declared.texts text; uses = uses_below scope (number + 1) below }
+text_at scope number (lines.Text text) below =
+    Some record { text = number_of scope.declared.texts text; uses = uses_below scope (number + 1) below }
 text_at scope number line below = None
 
 -- the numbers that a line lists as a value
 abbrev pub number_at : Scope → ℕ → Line → List Line → Option NumberValue
 number_at scope number (lines.Interval interval) below =
-    option_map (λ entry. record { low = entry.low; high = entry.high; uses = uses_below scope (number + 1) below }) (entry_within interval.low interval.high)
+    option_map (λ entry. record { low = entry.low; high = entry.high; uses = uses_below scope (number + 1) below })
+    (entry_within interval.low interval.high)
 number_at scope number line below = None
 
 -- the characteristic that a line gives to a class
@@ -133,7 +137,8 @@ characteristic_at scope number line below = None
 
 -- the class that a line declares
 abbrev pub class_at : Scope → ℕ → Line → List Line → Option Class
-class_at scope number (lines.Class name) below = Some record { name = name; members = until opens (member_at scope) (number + 1) below }
+class_at scope number (lines.Class name) below =
+    Some record { name = name; members = until opens (member_at scope) (number + 1) below }
 class_at scope number line below = None
 
 -- the table that a line declares
@@ -153,7 +158,8 @@ dependency_at scope number line below = None
 
 -- the net that a line declares
 abbrev pub net_at : Scope → ℕ → Line → List Line → Option Net
-net_at scope number (lines.Net name) below = Some record { name = name; constraints = uses_below scope (number + 1) below }
+net_at scope number (lines.Net name) below =
+    Some record { name = name; constraints = uses_below scope (number + 1) below }
 net_at scope number line below = None
 
 -- the object that a line declares

@@ -3,7 +3,5 @@
 
 pub mod drafts;
 mod stack;
-#[cfg(test)]
-mod tests;
 
 pub use drafts::{Draft, draft_lines};

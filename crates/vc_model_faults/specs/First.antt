@@ -1,5 +1,6 @@
 -- The first fault of a text, by its lines.
-use Rattle.std.specs.Prelude.{◌≡◌, ℕ, ◌+◌, ◌<◌, ◌≤◌, List, [], ◌∷◌, ◌++◌, length, take, drop, option_to_list, Option, Some, None, if◌then◌else◌}
+use Rattle.std.specs.Prelude.{◌≡◌, ℕ, ◌+◌, ◌<◌, ◌≤◌, List, [], ◌∷◌, ◌++◌, length, take, drop, option_to_list, Option}
+use Rattle.std.specs.Prelude.{Some, None, if◌then◌else◌}
 use Rattle.vc_model_lines.specs.declared.line.Line.{Line}
 use Rattle.vc_model_scope.specs.Scope.{scope_of}
 use Rattle.vc_model_faults.specs.declared.fault.ModelFaultKind.{ModelFaultKind}

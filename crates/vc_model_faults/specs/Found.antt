@@ -15,11 +15,13 @@ use Rattle.vc_model_faults.specs.declared.all_lines.Step.TheVariants.{Fault, Goe
 -- the first faulty line; or no line is faulty, and the scope, the readings and the places are those of all lines
 abbrev pub Finds : List Line → Option FaultyLine → Scope → List Reading → List Numbered → Type 0
 Finds lines None scope readings places =
-    HasNoFault lines × (scope ≡ scope_of (backwards [] lines)) × (readings ≡ readings_of (backwards [] lines) []) × Kept (backwards [] lines) places
+    HasNoFault lines × (scope ≡ scope_of (backwards [] lines)) × (readings ≡ readings_of (backwards [] lines) [])
+    × Kept (backwards [] lines) places
 Finds lines (Some faulty) scope readings places = IsFirstFault lines faulty.kind faulty.line
 
 -- a line without a fault, below which these stand, is added to the scope, the readings and the places before it
-pub record Adds (line : Line) (number : ℕ) (below : List Line) (scope : Scope) (readings : List Reading) (places : List Numbered)
+pub record Adds (line : Line) (number : ℕ) (below : List Line) (scope : Scope) (readings : List Reading)
+    (places : List Numbered)
     (scope' : Scope) (readings' : List Reading) (places' : List Numbered) (next : Bool) : Type 0 where
   pub next_is : next ≡ is_in_block line
   pub sound : kind_at scope line below ≡ None
@@ -28,8 +30,10 @@ pub record Adds (line : Line) (number : ℕ) (below : List Line) (scope : Scope)
   pub places_are : Follows line number places places'
 
 -- what comes of a raw line, behind which these bytes stand
-abbrev pub Steps : Bool → ℕ → List ℕ → List ℕ → Scope → List Reading → List Numbered → Scope → List Reading → List Numbered → Step → Type 0
+abbrev pub Steps : Bool → ℕ → List ℕ → List ℕ → Scope → List Reading → List Numbered → Scope → List Reading
+    → List Numbered → Step → Type 0
 Steps inside number raw after scope readings places scope' readings' places' (Fault kind) =
     kind_at scope (line_of inside raw) (lines_below (line_of inside raw) after) ≡ Some kind
 Steps inside number raw after scope readings places scope' readings' places' (Goes next) =
-    Adds (line_of inside raw) number (lines_below (line_of inside raw) after) scope readings places scope' readings' places' next
+    Adds (line_of inside raw) number (lines_below (line_of inside raw) after) scope readings places scope' readings'
+    places' next

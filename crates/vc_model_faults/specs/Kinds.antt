@@ -61,8 +61,10 @@ stands scope line after kind.MultipleRestrictable = is_mixed line
 -- all kinds, the least first
 abbrev pub kinds : List ModelFaultKind
 kinds =
-    kind.NotText ∷ kind.LineTooLong ∷ kind.NotALine ∷ kind.Misplaced ∷ kind.BadName ∷ kind.Twice ∷ kind.Unknown ∷ kind.BadValue
-    ∷ kind.Syntax ∷ kind.WrongDependency ∷ kind.Action ∷ kind.NoValues ∷ kind.TooMany ∷ kind.NoRoot ∷ kind.MultipleRestrictable ∷ []
+    kind.NotText ∷ kind.LineTooLong ∷ kind.NotALine ∷ kind.Misplaced ∷ kind.BadName ∷ kind.Twice ∷ kind.Unknown
+    ∷ kind.BadValue
+    ∷ kind.Syntax ∷ kind.WrongDependency ∷ kind.Action ∷ kind.NoValues ∷ kind.TooMany ∷ kind.NoRoot
+    ∷ kind.MultipleRestrictable ∷ []
 
 -- those that are found without reading a block or a term, and the others
 abbrev pub early_kinds : List ModelFaultKind

@@ -41,7 +41,8 @@ abbrev pub takes_uses : UsesPlace → Bool
 takes_uses places.Nowhere = false
 takes_uses place = true
 
--- the head comes first and the root last; all else comes after the head, and what belongs to another line under it; a block is closed
+-- the head comes first and the root last; all else comes after the head, and what belongs to another line under it; a
+-- block is closed
 unfoldable pub is_misplaced : Scope → Line → List Line → Bool
 is_misplaced scope (lines.Head head) after = scope.counted
 is_misplaced scope (lines.Char char) after = not scope.head

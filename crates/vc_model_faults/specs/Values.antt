@@ -1,5 +1,6 @@
 -- Whether a value, length, decimals, version, item or interval breaks its rule.
-use Rattle.std.specs.Prelude.{ℕ, ◌-◌, Bool, true, false, not, ◌&&◌, nat_lt, List, length, slice_get, Option, Some, None, is_none}
+use Rattle.std.specs.Prelude.{ℕ, ◌-◌, Bool, true, false, not, ◌&&◌, nat_lt, List, length, slice_get, Option, Some, None}
+use Rattle.std.specs.Prelude.{is_none}
 use Rattle.std.specs.Int.Signed.{lt_z, le_z}
 use Rattle.vc_value.specs.declared.decimal.Dec.{Dec}
 use Rattle.vc_value.specs.Grains.{has_decimals}
@@ -55,7 +56,8 @@ abbrev pub follows : List ℕ → Option ℕ → Bool
 follows numbers None = false
 follows numbers (Some number) = exceeds (last_of numbers) number
 
--- a version, length or decimals that is none; a value that doesn't fit; a column with MULTIPLE; an item or operation that doesn't ascend
+-- a version, length or decimals that is none; a value that doesn't fit; a column with MULTIPLE; an item or operation
+-- that doesn't ascend
 unfoldable pub is_bad : Scope → Line → Bool
 is_bad scope (lines.Head head) = is_none head.version
 is_bad scope (lines.Char char) = is_none char.length

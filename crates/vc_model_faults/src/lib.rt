@@ -5,15 +5,11 @@ pub mod all_lines;
 pub mod fault;
 pub mod kinds;
 pub mod limits;
-#[cfg(test)]
-mod line_tests;
 pub mod misplaced;
 pub mod misspelled;
 pub mod one_line;
 pub mod places;
 pub mod readings;
-#[cfg(test)]
-mod tests;
 pub mod twice;
 pub mod unknown;
 pub mod values;

@@ -1,22 +1,26 @@
 -- Words and the spaces round them.
-use Rattle.std.proofs.Common.{◌≡◌, ℕ, zero, suc, ◌-◌, ◌<◌, ◌≤◌, ◌==◌, true, false, List, [], ◌∷◌, length, take, get_or, sym, ap, ◌∙◌, arith, if◌then◌else◌}
+use Rattle.std.proofs.Common.{◌≡◌, ℕ, zero, suc, ◌-◌, ◌<◌, ◌≤◌, ◌==◌, true, false, List, [], ◌∷◌, length, take, get_or}
+use Rattle.std.proofs.Common.{sym, ap, ◌∙◌, arith, if◌then◌else◌}
 use Rattle.std.proofs.lemmas.Bool.{ne_eqb, eq-eqb}
 use Rattle.vc_model_lines.specs.LineWords.{without_spaces_behind, with_byte}
 
 -- a byte that is no space ends what is kept
-kept : (bytes : List ℕ) (n : ℕ) → suc n ≤ length bytes → (get_or bytes n 0 == 32) ≡ false → without_spaces_behind (take (suc n) bytes) ≡ take (suc n) bytes
+kept : (bytes : List ℕ) (n : ℕ) → suc n ≤ length bytes → (get_or bytes n 0 == 32) ≡ false
+    → without_spaces_behind (take (suc n) bytes) ≡ take (suc n) bytes
 kept [] n within is = absurd (omega arith)
 kept (x ∷ xs) zero within is = ap (λ b. if b then [] else x ∷ []) is
 kept (x ∷ []) (suc n) within is = absurd (omega arith)
 kept (x ∷ y ∷ ys) (suc n) within is = ap (with_byte x) (kept (y ∷ ys) n (omega arith) is)
 
 -- a space at the end isn't kept
-left_out : (bytes : List ℕ) (n : ℕ) → suc n ≤ length bytes → (get_or bytes n 0 == 32) ≡ true → without_spaces_behind (take (suc n) bytes) ≡ without_spaces_behind (take n bytes)
+left_out : (bytes : List ℕ) (n : ℕ) → suc n ≤ length bytes → (get_or bytes n 0 == 32) ≡ true
+    → without_spaces_behind (take (suc n) bytes) ≡ without_spaces_behind (take n bytes)
 left_out [] n within is = absurd (omega arith)
 left_out (x ∷ xs) zero within is = ap (λ b. if b then [] else x ∷ []) is
 left_out (x ∷ xs) (suc n) within is = ap (with_byte x) (left_out xs n (omega arith) is)
 
-pub kept_up_to : (bytes : List ℕ) (n : ℕ) → 0 < n → n ≤ length bytes → (get_or bytes (n - 1) 0 ≡ 32 → ⊥) → without_spaces_behind (take n bytes) ≡ take n bytes
+pub kept_up_to : (bytes : List ℕ) (n : ℕ) → 0 < n → n ≤ length bytes → (get_or bytes (n - 1) 0 ≡ 32 → ⊥)
+    → without_spaces_behind (take n bytes) ≡ take n bytes
 kept_up_to bytes zero some within is = absurd (omega arith)
 kept_up_to bytes (suc n) some within is =
     let before : suc n - 1 ≡ n = omega arith in

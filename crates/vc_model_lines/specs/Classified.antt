@@ -1,5 +1,6 @@
 -- The lines of a model text: each raw line as a line of its form.
-use Rattle.std.specs.Prelude.{ℕ, Bool, true, false, ◌==◌, nat_lt, List, [], ◌∷◌, length, codes, Option, Some, None, unwrap_or, drop, if◌then◌else◌}
+use Rattle.std.specs.Prelude.{ℕ, Bool, true, false, ◌==◌, nat_lt, List, [], ◌∷◌, length, codes, Option, Some, None}
+use Rattle.std.specs.Prelude.{unwrap_or, drop, if◌then◌else◌}
 use Rattle.std.specs.Str.Lines.{lines}
 use Rattle.vc_value.specs.Words.{same_ignoring_case}
 use Rattle.vc_model_lines.specs.declared.line.Keyword.{Keyword}

@@ -1,5 +1,6 @@
 -- The forms of lines: what the words after the keyword make of a line, if they have the shape of its form.
-use Rattle.std.specs.Prelude.{ℕ, ◌+◌, Bool, true, false, ◌==◌, List, [], ◌∷◌, length, take, drop, codes, Option, Some, None, option_map, if◌then◌else◌}
+use Rattle.std.specs.Prelude.{ℕ, ◌+◌, Bool, true, false, ◌==◌, List, [], ◌∷◌, length, take, drop, codes, Option, Some}
+use Rattle.std.specs.Prelude.{None, option_map, if◌then◌else◌}
 use Rattle.std.specs.List.{position_from}
 use Rattle.std.specs.Result.{result_ok}
 use Rattle.vc_value.specs.declared.decimal.Dec.{Dec}
@@ -47,7 +48,8 @@ flagged_char name size flags restrictable required multiple =
 
 abbrev pub char_with_flags : List ℕ → List ℕ → List (List ℕ) → Option Line
 char_with_flags name size flags =
-    flagged_char name size (length flags) (has_word (codes "RESTRICTABLE") flags) (has_word (codes "REQUIRED") flags) (has_word (codes "MULTIPLE") flags)
+    flagged_char name size (length flags) (has_word (codes "RESTRICTABLE") flags) (has_word (codes "REQUIRED") flags)
+    (has_word (codes "MULTIPLE") flags)
 
 abbrev pub char_line : List (List ℕ) → Option Line
 char_line (name ∷ size ∷ flags) = char_with_flags name size flags
@@ -72,7 +74,8 @@ flagged_num name decimals flags restrictable required unit =
 
 abbrev pub num_with_flags : List ℕ → List ℕ → List (List ℕ) → Option (List ℕ) → Option Line
 num_with_flags name decimals flags unit =
-    flagged_num name decimals (length flags) (has_word (codes "RESTRICTABLE") flags) (has_word (codes "REQUIRED") flags) unit
+    flagged_num name decimals (length flags) (has_word (codes "RESTRICTABLE") flags) (has_word (codes "REQUIRED") flags)
+    unit
 
 -- `UNIT` is followed by one word
 abbrev pub num_with_unit : List ℕ → List ℕ → List (List ℕ) → List (List ℕ) → Option Line
@@ -102,7 +105,8 @@ number_in word = result_ok (read_number word)
 -- `n .. n`
 abbrev pub ends_line : List ℕ → List ℕ → List ℕ → Option Line
 ends_line low dots high =
-    if is_word (codes "..") dots then Some (line.Interval (record { low = number_in low; high = number_in high })) else None
+    if is_word (codes "..") dots
+    then Some (line.Interval (record { low = number_in low; high = number_in high })) else None
 
 abbrev pub between_line : List (List ℕ) → Option Line
 between_line (low ∷ dots ∷ high ∷ []) = ends_line low dots high
@@ -155,14 +159,16 @@ column_line words = None
 -- `material CLASS class`
 abbrev pub object_line : List (List ℕ) → Option Line
 object_line (material ∷ fixed ∷ class ∷ []) =
-    if is_word (codes "CLASS") fixed then Some (line.Object (record { material = upper material; class = upper class })) else None
+    if is_word (codes "CLASS") fixed
+    then Some (line.Object (record { material = upper material; class = upper class })) else None
 object_line words = None
 
 -- `item material unit :`, and the term after it
 abbrev pub bill_line : List ℕ → List (List ℕ) → Option Line
 bill_line term (item ∷ material ∷ unit ∷ colon ∷ words) =
     if is_word (codes ":") colon
-    then Some (line.Bill (record { item = item_number item; material = upper material; unit = upper unit; quantity = term }))
+    then Some (line.Bill
+    (record { item = item_number item; material = upper material; unit = upper unit; quantity = term }))
     else None
 bill_line term words = None
 
@@ -170,7 +176,8 @@ bill_line term words = None
 abbrev pub operation_line : List ℕ → List (List ℕ) → Option Line
 operation_line term (number ∷ centre ∷ unit ∷ colon ∷ words) =
     if is_word (codes ":") colon
-    then Some (line.Operation (record { number = item_number number; centre = upper centre; unit = upper unit; time = term }))
+    then Some (line.Operation
+    (record { number = item_number number; centre = upper centre; unit = upper unit; time = term }))
     else None
 operation_line term words = None
 

@@ -29,7 +29,8 @@ keyword_spelling keyword.Action = codes "ACTION"
 -- all of them
 abbrev pub keywords : List Keyword
 keywords =
-    keyword.Model ∷ keyword.Char ∷ keyword.Num ∷ keyword.Value ∷ keyword.Uses ∷ keyword.Class ∷ keyword.Has ∷ keyword.Table
+    keyword.Model ∷ keyword.Char ∷ keyword.Num ∷ keyword.Value ∷ keyword.Uses ∷ keyword.Class ∷ keyword.Has
+    ∷ keyword.Table
     ∷ keyword.Column ∷ keyword.Net ∷ keyword.Object ∷ keyword.Line ∷ keyword.Operation ∷ keyword.Precondition
     ∷ keyword.Selection ∷ keyword.Procedure ∷ keyword.Constraint ∷ keyword.Root ∷ keyword.Action ∷ []
 

@@ -16,6 +16,3 @@ pub use line::{
     BillLine, BlockLine, CharLine, ColumnLine, HeadLine, IntervalLine, Keyword, Line, NumLine,
     ObjectLine, OperationLine, TableLine,
 };
-
-#[cfg(test)]
-mod tests;

@@ -55,7 +55,8 @@ column_from texts key characteristic = record {
 }
 
 abbrev pub column_of : List (List ℕ) → List Characteristic → TableColumn → Option Column
-column_of texts characteristics column = option_map (column_from texts column.key) (slice_get characteristics column.characteristic)
+column_of texts characteristics column =
+    option_map (column_from texts column.key) (slice_get characteristics column.characteristic)
 
 abbrev pub columns_of : List (List ℕ) → List Characteristic → List TableColumn → List Column
 columns_of texts characteristics [] = []
@@ -64,4 +65,5 @@ columns_of texts characteristics (column ∷ columns) =
 
 -- a table's name and columns
 abbrev pub header_of : List (List ℕ) → List Characteristic → Table → TableHeader
-header_of texts characteristics table = record { name = table.name; columns = columns_of texts characteristics table.columns }
+header_of texts characteristics table =
+    record { name = table.name; columns = columns_of texts characteristics table.columns }

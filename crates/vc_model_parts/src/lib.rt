@@ -9,6 +9,3 @@ pub use parts::{
     BillItem, Characteristic, Class, Component, Model, NamedDependency, Net, NumberValue, Object,
     Operation, Table, TableColumn, TextValue, Values,
 };
-
-#[cfg(test)]
-mod tests;

@@ -6,7 +6,8 @@ use Rattle.vc_model_scope.specs.declared.naming.Declared.{Declared}
 use Rattle.vc_model_scope.specs.declared.naming.Dependencies.{Dependencies}
 use Rattle.vc_model_scope.specs.Names.{with_name}
 use Rattle.vc_model_scope.specs.Recursions.{declared, with_option}
-use Rattle.vc_model_scope.specs.Contents.{characteristic_of, multiple_of, class_of, table_of, object_of, component_of, text_of, net_of, dependency_of, dependency_as}
+use Rattle.vc_model_scope.specs.Contents.{characteristic_of, multiple_of, class_of, table_of, object_of, component_of}
+use Rattle.vc_model_scope.specs.Contents.{text_of, net_of, dependency_of, dependency_as}
 
 -- the names of things
 abbrev pub declared_in : List Line → Declared

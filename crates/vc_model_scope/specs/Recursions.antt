@@ -30,4 +30,5 @@ declared name (line ∷ earlier) = with_option with_name (declared name earlier)
 -- what is listed since the nearest line that ends the list, in the order of the text
 abbrev pub listed : {X : Type 0} → (List X → X → List X) → (Line → Bool) → (Line → Option X) → List Line → List X
 listed add ends item [] = []
-listed add ends item (line ∷ earlier) = if ends line then [] else with_option add (listed add ends item earlier) (item line)
+listed add ends item (line ∷ earlier) = if ends line
+    then [] else with_option add (listed add ends item earlier) (item line)

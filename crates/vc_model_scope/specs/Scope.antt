@@ -64,7 +64,8 @@ scope_of earlier = record {
 }
 
 abbrev pub with_marks : Scope → Line → Scope
-with_marks a line = record a { counted = counts line || a.counted; head = is_head line || a.head; root = is_root line || a.root }
+with_marks a line = record a
+    { counted = counts line || a.counted; head = is_head line || a.head; root = is_root line || a.root }
 
 -- the same with one line more
 unfoldable pub with_line : Scope → Line → Scope

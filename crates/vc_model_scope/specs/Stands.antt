@@ -7,7 +7,8 @@ use Rattle.vc_model_scope.specs.declared.stands.Under.TheVariants as unders
 use Rattle.vc_model_scope.specs.declared.stands.UsesPlace.{UsesPlace}
 use Rattle.vc_model_scope.specs.declared.stands.UsesPlace.TheVariants as places
 
--- what lines below belong to from a line on: lines that don't count, USES, VALUE, HAS, COLUMN, LINE and OPERATION leave it as it was
+-- what lines below belong to from a line on: lines that don't count, USES, VALUE, HAS, COLUMN, LINE and OPERATION leave
+-- it as it was
 abbrev pub under_at : Line → Option Under
 under_at lines.Skipped = None
 under_at (lines.Inner text) = None

@@ -10,5 +10,3 @@ pub mod naming;
 pub mod scope;
 pub mod stands;
 pub mod tables;
-#[cfg(test)]
-mod tests;

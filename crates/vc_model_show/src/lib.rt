@@ -7,6 +7,3 @@ mod pieces;
 mod values;
 
 pub use model_text::{Shown, show};
-
-#[cfg(test)]
-mod tests;

@@ -1,17 +1,20 @@
 -- How the turns of givers end, and how the work begins and ends.
 use Rattle.std.proofs.Common.{◌≡◌, ℕ, zero, suc, ◌+◌, ◌<◌, ◌≤◌, true, List, [], ◌∷◌, ◌++◌, length, refl, sym, ◌∙◌}
 use Rattle.std.proofs.Common.{ap, subst, inl, inr, arith, append-nil, append_assoc, add-one, length-append}
-use Rattle.std.specs.Prelude.{Option, None, Some, option_map, slice_get}
+use Rattle.std.specs.Prelude.{Option, None, Some, ◌&&◌, option_map, slice_get}
+use Rattle.std.specs.List.{list_all}
+use Rattle.std.proofs.lemmas.Bool.{and_from}
 use Rattle.vc_base.specs.Sets.{has, Within}
 use Rattle.vc_base.proofs.SetLaws.{has_cases, has_either, has_first}
 use Rattle.vc_plan.specs.declared.atoms.Atom.{Atom}
 use Rattle.vc_plan.specs.declared.atoms.Step.{Step}
 use Rattle.vc_plan.specs.declared.plans.Plan.{Plan}
-use Rattle.vc_plan.specs.Gives.{Giver}
+use Rattle.vc_plan.specs.Clear.{is_clear}
+use Rattle.vc_plan.specs.Gives.{Giver, givers_of}
 use Rattle.vc_plan.specs.Seen.{says}
 use Rattle.vc_plan.specs.Sources.{Sources}
 use Rattle.vc_plan.specs.Valid.{IsValid}
-use Rattle.vc_plan_reasons.specs.Checking.{is_accepted, is_silent}
+use Rattle.vc_plan_reasons.specs.Checking.{is_accepted, is_silent, is_whole}
 use Rattle.vc_rule_premises.specs.Saying.{concluding, given_of}
 use Rattle.vc_rule_yield.specs.Yielding.{Conclusion}
 use Rattle.vc_net_agenda.specs.Agendas.{Awaited, added}
@@ -192,15 +195,33 @@ work_restarts plan sources work valid of =
       clashes = of.clashes;
     }) refl (beginners_suffice plan sources work.agenda of.sizes (base_clear plan valid))
 
--- and ends where nobody is left
+-- where nobody has more to say the log is whole
+all_quiet : (plan : Plan) (sources : Sources) (set : List Atom) (givers : List Giver)
+    → ((giver : Giver) → is_quiet plan sources set giver ≡ true) → list_all (is_quiet plan sources set) givers ≡ true
+all_quiet plan sources set [] quiet = refl
+all_quiet plan sources set (giver ∷ givers) quiet =
+    and_from (is_quiet plan sources set giver) (list_all (is_quiet plan sources set) givers) (quiet giver)
+    (all_quiet plan sources set givers quiet)
+
+log_is_whole : (plan : Plan) (sources : Sources) (work : Work) → is_accepted plan sources work.log.steps ≡ true
+    → IsWorking plan sources [] (set_of work.log) → is_whole plan sources work.log.steps ≡ true
+log_is_whole plan sources work accepted working =
+    let set = set_of work.log in
+    and_from (is_accepted plan sources work.log.steps)
+    (is_clear plan set && list_all (is_quiet plan sources set) (givers_of plan)) accepted
+    (and_from (is_clear plan set) (list_all (is_quiet plan sources set) (givers_of plan)) working.sound.clear
+    (all_quiet plan sources set (givers_of plan) (λ giver. working.quiet giver refl)))
+
+-- and the work ends where nobody is left
 pub work_is_done : (plan : Plan) (sources : Sources) (work : Work) → IsGoing plan sources work []
     → work.breaker.culprit ≡ None → work.agenda.givers ≡ [] → IsSettled plan sources work
 work_is_done plan sources work going calm nobody = record {
   going = going;
   ends = subst (λ c. EndsAs plan sources work c) (sym (ap (λ c. clash_from
       (steps_with work.log.steps work.breaker.fact work.breaker.reasons.items) work.breaker.premises.items c) calm))
-      (work_ends plan sources (set_of work.log)
-      (subst (λ givers. IsWorking plan sources (givers ++ []) (set_of work.log)) nobody going.working));
+      (let calm = subst (λ givers. IsWorking plan sources (givers ++ []) (set_of work.log)) nobody going.working in
+      let end = work_ends plan sources (set_of work.log) calm in
+      (end.0, end.1, end.2, log_is_whole plan sources work going.accepted calm));
 }
 
 -- or where something contradicts: then the giver at hand is asked again

@@ -1,7 +1,7 @@
 -- The numbers by which atoms are cited, of the steps that a search finds.
 use Rattle.std.proofs.Common.{◌≡◌, ℕ, suc, ◌+◌, ◌<◌, ◌≤◌, Bool, true, false, cond, not, ◌||◌, List, [], ◌∷◌, ◌++◌}
 use Rattle.std.proofs.Common.{length, map, refl, sym, ◌∙◌, ap, inl, inr, arith, append-nil}
-use Rattle.std.specs.Prelude.{Option, None, Some, position}
+use Rattle.std.specs.Prelude.{Option, None, Some, option_map, position}
 use Rattle.std.specs.List.{list_any, position_or_len}
 use Rattle.std.proofs.lemmas.Bool.{leb-true}
 use Rattle.std.proofs.lemmas.Bool.Decides.{nat_tests}
@@ -15,6 +15,9 @@ use Rattle.vc_plan.specs.Seen.{same_atom}
 use Rattle.vc_plan.proofs.PlanLaws.Bound.{clear_sets_are_small}
 use Rattle.vc_plan_blame.specs.Blame.{clash_by, clash_of, number_of}
 use Rattle.vc_plan_reasons.specs.Checking.{concluded, step_form}
+use Rattle.vc_plan_reasons.specs.Trimming.{trimmed_clash}
+use Rattle.vc_net_chains.specs.Telling.{trimmed_for}
+use Rattle.vc_net_chains.specs.declared.chains.Trimmed.{Trimmed}
 use Rattle.vc_net_log.specs.Logs.{cited_by, fact_of, facts_of, set_of, step_from}
 use Rattle.vc_net_standing.specs.declared.standing.Fact.{Fact}
 use Rattle.vc_net.specs.declared.breaker.Breaker.{Breaker}
@@ -53,10 +56,10 @@ module _ {X : Type 0} (p : X → Bool) where
       by true h next = absurd (cc)
       by false h next = let same = next h in omega (arith, same)
 
-  first_at : (xs : List X) → list_any p xs ≡ true → position p xs ≡ Some (position_or_len p xs)
+  pub first_at : (xs : List X) → list_any p xs ≡ true → position p xs ≡ Some (position_or_len p xs)
   first_at xs h = let low = inside xs h in grind (arith, nat_tests)
 
-  none_at : (xs : List X) → list_any p xs ≡ false → position p xs ≡ None
+  pub none_at : (xs : List X) → list_any p xs ≡ false → position p xs ≡ None
   none_at xs h =
       let same = ap (λ ys. position_or_len p ys) (append-nil xs) in
       let all = past xs [] h in
@@ -132,3 +135,16 @@ clash_told log steps kept culprit premises atoms blamed told numbers same =
     ap (λ s. Some (clash_of s premises culprit)) told
     ∙ (ap (λ ns. Some (clash_of whole ns culprit)) cites
     ∙ sym (ap (clash_by whole (cited_by whole kept.premises.items)) blamed))
+
+-- so is what is left of it
+pub clash_left : (log : List Step) (kept : Breaker) (culprit : Culprit) (left : Trimmed)
+    → kept.culprit ≡ Some culprit
+    → left ≡ trimmed_for (map (number_of (stand_with log kept.fact)) kept.premises.items)
+    (steps_with log kept.fact kept.reasons.items)
+    → Some (clash_of left.steps left.ending culprit) ≡ option_map trimmed_clash (clash_in log kept)
+clash_left log kept culprit left blamed is =
+    let whole = steps_with log kept.fact kept.reasons.items in
+    let premises = map (number_of (stand_with log kept.fact)) kept.premises.items in
+    ap (λ (l : Trimmed). Some (clash_of l.steps l.ending culprit)) is
+    ∙ ap (option_map trimmed_clash)
+    (clash_told log whole kept culprit premises kept.premises.items blamed refl refl refl)

@@ -1,50 +1,75 @@
 //! What broke a net, as steps that are cited by their numbers.
 
-ghost use Rattle.std.specs.Prelude.{◌≡◌, ◌+◌, ◌^◌, ◌<◌, suc, length, map, IfOk};
+ghost use Rattle.std.specs.Prelude.{◌≡◌, ◌+◌, ◌^◌, ◌<◌, suc, length, map, option_map, IfOk};
 ghost use Rattle.std.specs.List.{position_or_len};
 ghost use Rattle.vc_plan.specs.Seen.{same_atom};
 ghost use Rattle.vc_plan_blame.specs.Blame.{number_of};
+ghost use Rattle.vc_plan_reasons.specs.Trimming.{trimmed_clash};
 ghost use Rattle.vc_net_log.specs.Logs.{step_from};
+ghost use Rattle.vc_net_chains.specs.Telling.{trimmed_for};
 ghost use Rattle.vc_net.specs.Breaking.{clash_in, last_atoms, stand_with, steps_with};
 
 use crate::breaker::Breaker;
 use std::alloc::{AllocError, Global};
+use vc_net_chains::{Trimmed, trim, trim_with};
 use vc_net_log::Log;
 use vc_net_standing::Fact;
 use vc_plan::{Atom, Clash, Step};
 use vc_rule_yield::same_atom;
 use vc_value::Listed;
 
-/// The clash that broke the net, if anything did: the steps of the log, and that of the fact that couldn't come, with
-/// whom to blame and the numbers of the premises that contradict.
+/// The clash that broke the net, if anything did: of the steps of the log and that of the fact that couldn't come those
+/// that lead to it, with whom to blame and the numbers of the premises that contradict.
 pub fn clash(alloc: Global, log: &Log, breaker: &Breaker) -> Result<Option<Clash>, AllocError>
     requires { length log.now.steps < 2 ^ 31 }
-    ensures { IfOk result (λ clash. clash ≡ clash_in log.now.steps breaker.now) }
+    ensures { IfOk result (λ clash. clash ≡ option_map trimmed_clash (clash_in log.now.steps breaker.now)) }
 {
     match breaker.culprit {
         Some(culprit) => {
-            let steps = steps_told(alloc, log, breaker)?;
-            let premises = numbers_of(alloc, log, breaker.fact, breaker.premises.as_slice())?;
+            let Trimmed { steps, ending } = contradicting(alloc, log, breaker)?;
             Ok(Some(Clash {
                 steps,
                 culprit,
-                premises,
+                premises: ending,
             }))
         }
         None => Ok(None),
     }
 }
 
-// The steps of the log, and that of the fact that couldn't come, if there is one.
-fn steps_told(alloc: Global, log: &Log, breaker: &Breaker) -> Result<Listed<Step>, AllocError>
+// The steps that lead to what contradicts, and the numbers of that.
+fn contradicting(alloc: Global, log: &Log, breaker: &Breaker) -> Result<Trimmed, AllocError>
     requires { length log.now.steps < 2 ^ 31 }
-    ensures { IfOk result (λ steps. steps ≡ steps_with log.now.steps breaker.now.fact breaker.now.reasons.items) }
+    ensures { IfOk result (λ left. left ≡ trimmed_for
+        (map (number_of (stand_with log.now.steps breaker.now.fact)) breaker.now.premises.items)
+        (steps_with log.now.steps breaker.now.fact breaker.now.reasons.items)) }
 {
-    let mut steps = log.steps(alloc)?;
-    if let Some(fact) = breaker.fact {
-        steps.push(step_from(alloc, log, fact, breaker.reasons.as_slice())?)?;
+    let premises = numbers_of(alloc, log, breaker.fact, breaker.premises.as_slice())?;
+    let left = leading_to(alloc, log, breaker, premises.as_slice());
+    drop(premises);
+    left
+}
+
+// The steps that these need, of those of the log and that of the fact that couldn't come, if there is one.
+fn leading_to(
+    alloc: Global,
+    log: &Log,
+    breaker: &Breaker,
+    premises: &[u32],
+) -> Result<Trimmed, AllocError>
+    requires { length log.now.steps < 2 ^ 31 }
+    ensures { IfOk result (λ left. left ≡ trimmed_for premises.now
+        (steps_with log.now.steps breaker.now.fact breaker.now.reasons.items)) }
+{
+    match breaker.fact {
+        Some(fact) => {
+            let last = step_from(alloc, log, fact, breaker.reasons.as_slice())?;
+            let left = trim_with(alloc, log, &last, premises);
+            drop(last);
+            left
+        }
+        None => trim(alloc, log, log.count(), premises),
     }
-    Ok(steps)
 }
 
 // The step that would conclude the fact from these.

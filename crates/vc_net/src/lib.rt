@@ -11,6 +11,3 @@ pub mod turn;
 pub mod work;
 
 pub use net::Net;
-
-#[cfg(test)]
-mod tests;

@@ -13,7 +13,8 @@ use std::alloc::{AllocError, Global};
 use std::marker::Model;
 use std::sync::ledger::Ledger;
 use vc_net_bounds::{Bounds, Counted, bounds_of};
-use vc_plan::{Clash, Outcome, Plan, Step, View};
+use vc_net_chains::chain_of;
+use vc_plan::{Atom, Clash, Outcome, Plan, Step, View};
 use vc_plan_sources::Sources;
 use vc_rule::new_yield;
 use vc_rule_yield::Yield;
@@ -38,9 +39,11 @@ impl Model for Net {
 }
 
 impl Net {
-    ghost use Rattle.std.specs.Prelude.{◌≡◌, ◌^◌, ◌<◌, true, length, IfOk};
+    ghost use Rattle.std.specs.Prelude.{◌≡◌, ◌^◌, ◌<◌, true, length, option_map, IfOk};
     ghost use Rattle.vc_plan.specs.Valid.{IsValid};
     ghost use Rattle.vc_plan_reasons.specs.Fitting.{sources_fit};
+    ghost use Rattle.vc_plan_reasons.specs.Trimming.{trimmed_clash};
+    ghost use Rattle.vc_net_chains.specs.Telling.{chain_in};
     ghost use Rattle.vc_net.specs.Ending.{IsSettled, clash_of};
     ghost use Rattle.vc_net.specs.Nets.{AreFor, IsNetOf, outcome_by};
 
@@ -76,11 +79,20 @@ impl Net {
         self.work.log.steps(alloc)
     }
 
+    /// The chain of reasons for an atom, if it is a conclusion: the steps that lead to it, and that which concludes it.
+    /// That it may be asked `logs_are_short` shows, and that the chain explains the atom `nets_explain`.
+    pub fn chain_of(&self, alloc: Global, atom: Atom) -> Result<Option<Listed<Step>>, AllocError>
+        requires { length self.now.work.log.steps < 2 ^ 31 }
+        ensures { IfOk result (λ chain. chain ≡ chain_in self.now.work.log.steps atom) }
+    {
+        chain_of(alloc, &self.work.log, atom)
+    }
+
     /// What contradicts, if anything does: the steps that lead to it, whom to blame, and which contradict. That it
-    /// may be asked `logs_are_short` shows.
+    /// may be asked `logs_are_short` shows, and that it explains `nets_explain`.
     pub fn clash(&self, alloc: Global) -> Result<Option<Clash>, AllocError>
         requires { length self.now.work.log.steps < 2 ^ 31 }
-        ensures { IfOk result (λ clash. clash ≡ clash_of self.now.work) }
+        ensures { IfOk result (λ clash. clash ≡ option_map trimmed_clash (clash_of self.now.work)) }
     {
         clash(alloc, &self.work.log, &self.work.breaker)
     }

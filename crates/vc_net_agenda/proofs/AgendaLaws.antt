@@ -1,5 +1,6 @@
 -- Givers and their numbers.
-use Rattle.std.proofs.Common.{◌≡◌, ℕ, ◌+◌, ◌-◌, ◌<◌, ◌≤◌, Bool, true, false, cond, not, ◌&&◌, ◌||◌, List, [], ◌∷◌, ◌++◌, map, refl, sym, ◌∙◌, ap, inl, inr, arith, length, length-append}
+use Rattle.std.proofs.Common.{◌≡◌, ℕ, ◌+◌, ◌-◌, ◌<◌, ◌≤◌, Bool, true, false, cond, not, ◌&&◌, ◌||◌, List, [], ◌∷◌, ◌++◌}
+use Rattle.std.proofs.Common.{map, refl, sym, ◌∙◌, ap, inl, inr, arith, length, length-append}
 use Rattle.std.specs.Prelude.{nat_eq, nat_lt, if◌then◌else◌, None, Some}
 use Rattle.std.specs.List.{list_all}
 use Rattle.std.proofs.lemmas.Bool.{and_parts, cases_lt, lt-ltb, ltb-true}
@@ -13,7 +14,8 @@ use Rattle.vc_plan.specs.Gives.{Giver, by_entry, by_rule, by_user}
 use Rattle.vc_rule_yield.specs.Filling.{Filled}
 use Rattle.vc_net_laws.specs.Working.{same_giver}
 use Rattle.vc_net_laws.proofs.NetLaws.Working.{giver_exact, giver_itself}
-use Rattle.vc_net_agenda.specs.Agendas.{Awaited, GiversAreThere, IsNumbered, added, awaited_in, giver_at, is_of, number_of, with_next}
+use Rattle.vc_net_agenda.specs.Agendas.{Awaited, GiversAreThere, IsNumbered, added, awaited_in, giver_at, is_of}
+use Rattle.vc_net_agenda.specs.Agendas.{number_of, with_next}
 use Rattle.vc_net_agenda.specs.Pending.{pushed, with_last}
 
 -- a test of numbers that fails
@@ -88,7 +90,8 @@ is_of_giver rules vars k (by_user v) e =
           let same : rules + v ≡ k = cc in
           record {
             giver_is =
-                user_at rules vars k (omega (arith, same)) (omega (arith, low, same)) ∙ ap by_user (omega (arith, same));
+                user_at rules vars k (omega (arith, same)) (omega (arith, low, same))
+                ∙ ap by_user (omega (arith, same));
             below = omega (arith, low, same);
             there = λ givers. t;
           }
@@ -114,14 +117,16 @@ pub has_number : (rules vars k : ℕ) (giver : Giver) (numbers : List ℕ) → n
     → has same_giver (map (giver_at rules vars) numbers) giver ≡ has nat_eq numbers k
 has_number rules vars k giver [] e all = refl
 has_number rules vars k giver (n ∷ numbers) e all =
-    let p = and_parts (nat_lt n (rules + (vars + vars))) (list_all (λ m. nat_lt m (rules + (vars + vars))) numbers) all in
+    let p
+    = and_parts (nat_lt n (rules + (vars + vars))) (list_all (λ m. nat_lt m (rules + (vars + vars))) numbers) all in
     let low : n < rules + (vars + vars) = ltb-true n (rules + (vars + vars)) p.0 in
     let o : IsOf rules vars k giver = is_of_giver rules vars k giver e in
     let same : same_giver giver (giver_at rules vars n) ≡ nat_eq k n
     = same_test (same_giver giver (giver_at rules vars n)) (nat_eq k n)
     (λ h.
     let is : Some k ≡ Some n
-    = sym e ∙ (ap (number_of rules vars) (giver_exact giver (giver_at rules vars n) h) ∙ number_again rules vars n low) in
+    = sym e ∙ (ap (number_of rules vars) (giver_exact giver (giver_at rules vars n) h)
+    ∙ number_again rules vars n low) in
     let number : k ≡ n = cc in
     ap (nat_eq k) (sym number) ∙ number_itself k)
     (λ h. ap (λ m. same_giver giver (giver_at rules vars m)) (sym (number_exact k n h))
@@ -134,15 +139,18 @@ pub has_nobody : (rules vars : ℕ) (giver : Giver) (numbers : List ℕ) → num
     → has same_giver (map (giver_at rules vars) numbers) giver ≡ false
 has_nobody rules vars giver [] e all = refl
 has_nobody rules vars giver (n ∷ numbers) e all =
-    let p = and_parts (nat_lt n (rules + (vars + vars))) (list_all (λ m. nat_lt m (rules + (vars + vars))) numbers) all in
+    let p
+    = and_parts (nat_lt n (rules + (vars + vars))) (list_all (λ m. nat_lt m (rules + (vars + vars))) numbers) all in
     let low : n < rules + (vars + vars) = ltb-true n (rules + (vars + vars)) p.0 in
     elim (told (same_giver giver (giver_at rules vars n))) [
       | inl h ↦
           let is : None ≡ Some n
-          = sym e ∙ (ap (number_of rules vars) (giver_exact giver (giver_at rules vars n) h) ∙ number_again rules vars n low) in
+          = sym e ∙ (ap (number_of rules vars) (giver_exact giver (giver_at rules vars n) h)
+          ∙ number_again rules vars n low) in
           absurd (cc)
       | inr h ↦
-          ap (λ b. b || has same_giver (map (giver_at rules vars) numbers) giver) h ∙ has_nobody rules vars giver numbers e p.1
+          ap (λ b. b || has same_giver (map (giver_at rules vars) numbers) giver) h
+          ∙ has_nobody rules vars giver numbers e p.1
     ]
 
 pub is_added : (rules vars k : ℕ) (stack next : Filled ℕ) (giver : Giver) → IsNumbered rules vars stack
@@ -157,7 +165,8 @@ is_added rules vars k stack next giver m e f =
     ap (λ (list : Filled ℕ). awaited_in rules vars list.items)
     (f ∙ ap (λ b. cond (b && not (has nat_eq stack.items k)) (with_last stack k) stack) lower)
     ∙ (by (has nat_eq stack.items k) o
-    ∙ sym (ap (λ b. cond (b && not (has same_giver agenda.givers giver)) (with_next agenda giver) agenda) (o.there agenda.givers)
+    ∙ sym (ap (λ b. cond (b && not (has same_giver agenda.givers giver)) (with_next agenda giver) agenda)
+    (o.there agenda.givers)
     ∙ ap (λ b. cond (not b) (with_next agenda giver) agenda) same))
   where
     by : (b : Bool) → IsOf rules vars k giver
@@ -174,18 +183,21 @@ module _ (agenda : Awaited) (giver : Giver) where
   pub others_still_wait : Within same_giver agenda.givers (added agenda giver).givers
   others_still_wait other h = by (is_of agenda giver && not (has same_giver agenda.givers giver))
     where
-      by : (b : Bool) → (let next : Awaited = cond b (with_next agenda giver) agenda in has same_giver next.givers other) ≡ true
+      by : (b : Bool) → (let next : Awaited = cond b (with_next agenda giver) agenda in
+          has same_giver next.givers other) ≡ true
       by true = has_front same_giver giver_exact giver_itself agenda.givers (giver ∷ []) other h
       by false = h
 
   pub who_comes_waits : is_of agenda giver ≡ true → has same_giver (added agenda giver).givers giver ≡ true
   who_comes_waits there =
-      ap (λ b. let next : Awaited = cond (b && not (has same_giver agenda.givers giver)) (with_next agenda giver) agenda in
+      ap (λ b. let next : Awaited =
+      cond (b && not (has same_giver agenda.givers giver)) (with_next agenda giver) agenda in
       has same_giver next.givers giver) there
       ∙ by (has same_giver agenda.givers giver) refl
     where
       by : (b : Bool) → has same_giver agenda.givers giver ≡ b
-          → (let next : Awaited = cond (not b) (with_next agenda giver) agenda in has same_giver next.givers giver) ≡ true
+          → (let next : Awaited = cond (not b) (with_next agenda giver) agenda in has same_giver next.givers giver)
+          ≡ true
       by true e = e
       by false e =
           has_back same_giver giver_exact giver_itself agenda.givers (giver ∷ []) giver
@@ -194,7 +206,8 @@ module _ (agenda : Awaited) (giver : Giver) where
   pub one_more_waits : length (added agenda giver).givers ≤ length agenda.givers + 1
   one_more_waits = by (is_of agenda giver && not (has same_giver agenda.givers giver))
     where
-      by : (b : Bool) → (let next : Awaited = cond b (with_next agenda giver) agenda in length next.givers) ≤ length agenda.givers + 1
+      by : (b : Bool) → (let next : Awaited = cond b (with_next agenda giver) agenda in length next.givers) ≤ length
+          agenda.givers + 1
       by true = omega (arith, length-append agenda.givers (giver ∷ []))
       by false = omega arith
 
@@ -224,25 +237,31 @@ agenda_of plan waiting = record { rules = length plan.rules; vars = length plan.
 
 pub givers_are_there : GiversAreThere
 givers_are_there plan waiting giver h =
-    elim (has_either same_giver giver_exact giver_itself (map by_rule (rules_of plan)) (map by_user (vars_of plan) ++ map by_entry (vars_of plan)) giver h) [
+    elim (has_either same_giver giver_exact giver_itself (map by_rule (rules_of plan))
+    (map by_user (vars_of plan) ++ map by_entry (vars_of plan)) giver h) [
       | inl p ↦ by_rules giver p
-      | inr p ↦ elim (has_either same_giver giver_exact giver_itself (map by_user (vars_of plan)) (map by_entry (vars_of plan)) giver p) [
-        | inl q ↦ by_users giver q
-        | inr q ↦ by_entries giver q
-      ]
+      | inr p ↦ elim (has_either same_giver giver_exact giver_itself (map by_user (vars_of plan))
+          (map by_entry (vars_of plan)) giver p) [
+            | inl q ↦ by_users giver q
+            | inr q ↦ by_entries giver q
+          ]
     ]
   where
-    by_rules : (g : Giver) → has same_giver (map by_rule (rules_of plan)) g ≡ true → is_of (agenda_of plan waiting) g ≡ true
+    by_rules : (g : Giver) → has same_giver (map by_rule (rules_of plan)) g ≡ true
+        → is_of (agenda_of plan waiting) g ≡ true
     by_rules (by_rule r) p = below_count (length plan.rules) r (sym (one_of by_rule r (λ n. refl) (rules_of plan)) ∙ p)
     by_rules (by_user v) p = absurd (both p (none_of by_rule (by_user v) (λ n. refl) (rules_of plan)))
     by_rules (by_entry v) p = absurd (both p (none_of by_rule (by_entry v) (λ n. refl) (rules_of plan)))
 
-    by_users : (g : Giver) → has same_giver (map by_user (vars_of plan)) g ≡ true → is_of (agenda_of plan waiting) g ≡ true
+    by_users : (g : Giver) → has same_giver (map by_user (vars_of plan)) g ≡ true
+        → is_of (agenda_of plan waiting) g ≡ true
     by_users (by_rule r) p = absurd (both p (none_of by_user (by_rule r) (λ n. refl) (vars_of plan)))
     by_users (by_user v) p = below_count (length plan.vars) v (sym (one_of by_user v (λ n. refl) (vars_of plan)) ∙ p)
     by_users (by_entry v) p = absurd (both p (none_of by_user (by_entry v) (λ n. refl) (vars_of plan)))
 
-    by_entries : (g : Giver) → has same_giver (map by_entry (vars_of plan)) g ≡ true → is_of (agenda_of plan waiting) g ≡ true
+    by_entries : (g : Giver) → has same_giver (map by_entry (vars_of plan)) g ≡ true
+        → is_of (agenda_of plan waiting) g ≡ true
     by_entries (by_rule r) p = absurd (both p (none_of by_entry (by_rule r) (λ n. refl) (vars_of plan)))
     by_entries (by_user v) p = absurd (both p (none_of by_entry (by_user v) (λ n. refl) (vars_of plan)))
-    by_entries (by_entry v) p = below_count (length plan.vars) v (sym (one_of by_entry v (λ n. refl) (vars_of plan)) ∙ p)
+    by_entries (by_entry v) p =
+        below_count (length plan.vars) v (sym (one_of by_entry v (λ n. refl) (vars_of plan)) ∙ p)

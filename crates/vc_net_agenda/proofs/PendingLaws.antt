@@ -1,5 +1,6 @@
 -- The flags mark just the numbers that wait, also after one came or went.
-use Rattle.std.proofs.Common.{◌≡◌, ℕ, zero, suc, ◌+◌, ◌-◌, ◌<◌, ◌≤◌, Bool, true, false, not, ◌||◌, List, [], ◌∷◌, ◌++◌, length, take, refl, sym, ◌∙◌, ap, subst, inl, inr, arith, length-append}
+use Rattle.std.proofs.Common.{◌≡◌, ℕ, zero, suc, ◌+◌, ◌-◌, ◌<◌, ◌≤◌, Bool, true, false, not, ◌||◌, List, [], ◌∷◌, ◌++◌}
+use Rattle.std.proofs.Common.{length, take, refl, sym, ◌∙◌, ap, subst, inl, inr, arith, length-append}
 use Rattle.std.specs.Prelude.{nat_eq, nat_lt, replicate, slice_index_or, slice_set, if◌then◌else◌}
 use Rattle.std.specs.List.{AllByRecursion, IsDistinct}
 use Rattle.std.proofs.lemmas.Bool.{and_from, cases_lt, le-leb, lt-ltb, not_from_false}
@@ -58,7 +59,8 @@ apart n m e same = both (ap (λ k. nat_eq k n) same ∙ number_itself n) e
 last_has : (xs : List ℕ) (n m : ℕ) → nat_eq m n ≡ true → has nat_eq (xs ++ n ∷ []) m ≡ true
 last_has xs n m e =
     has_back nat_eq number_exact number_itself xs (n ∷ []) m
-    (subst (λ k. has nat_eq (n ∷ []) k ≡ true) (sym (number_exact m n e)) (has_first nat_eq number_exact number_itself n []))
+    (subst (λ k. has nat_eq (n ∷ []) k ≡ true) (sym (number_exact m n e))
+    (has_first nat_eq number_exact number_itself n []))
 
 -- a number that comes
 pub comes : (flags : List Bool) (stack : Filled ℕ) (n : ℕ) → IsMarked flags stack → n < stack.room
@@ -94,7 +96,8 @@ put : (stack : Filled ℕ) (n : ℕ) → length stack.items + 1 ≤ stack.room �
 put stack n room =
     ap (λ b. if b then with_last stack n else stack) (le-leb (length stack.items + 1) stack.room room)
 
-may_push : (stack : Filled ℕ) (n : ℕ) → n < stack.room → has nat_eq stack.items n ≡ false → pushed stack n ≡ with_last stack n
+may_push : (stack : Filled ℕ) (n : ℕ) → n < stack.room → has nat_eq stack.items n ≡ false
+    → pushed stack n ≡ with_last stack n
 may_push stack n below new =
     ap (λ b. if b then with_last stack n else stack)
     (and_from (nat_lt n stack.room) (not (has nat_eq stack.items n)) (lt-ltb n stack.room below)
@@ -105,7 +108,8 @@ pub is_pushed : (flags later : List Bool) (stack next : Filled ℕ) (n : ℕ) �
     → IsMarked later next × (next ≡ pushed stack n)
 is_pushed flags later stack next n m below new e f =
     let is : next ≡ with_last stack n = f ∙ put stack n (room_left flags stack n m below new) in (
-      subst (λ fs. IsMarked fs next) (sym e) (subst (IsMarked (slice_set flags n true)) (sym is) (comes flags stack n m below new)),
+      subst (λ fs. IsMarked fs next) (sym e)
+          (subst (IsMarked (slice_set flags n true)) (sym is) (comes flags stack n m below new)),
       is ∙ sym (may_push stack n below new),
     )
 

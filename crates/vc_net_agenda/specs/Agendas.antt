@@ -1,5 +1,6 @@
 -- Agendas: givers that are to be asked, and their numbers.
-use Rattle.std.specs.Prelude.{◌≡◌, ℕ, ◌+◌, ◌-◌, ◌≤◌, Bool, true, not, ◌&&◌, nat_lt, if◌then◌else◌, List, [], ◌∷◌, ◌++◌, length, map, Option, None, Some}
+use Rattle.std.specs.Prelude.{◌≡◌, ℕ, ◌+◌, ◌-◌, ◌≤◌, Bool, true, not, ◌&&◌, nat_lt, if◌then◌else◌, List, [], ◌∷◌, ◌++◌}
+use Rattle.std.specs.Prelude.{length, map, Option, None, Some}
 use Rattle.std.specs.List.{list_all}
 use Rattle.vc_base.specs.Sets.{has, Within}
 use Rattle.vc_plan.specs.declared.plans.Plan.{Plan}
@@ -36,7 +37,8 @@ is_of agenda (by_entry v) = nat_lt v agenda.vars
 
 -- the same, where it is there and isn't to be asked already
 abbrev pub added : Awaited → Giver → Awaited
-added agenda giver = if is_of agenda giver && not (has same_giver agenda.givers giver) then with_next agenda giver else agenda
+added agenda giver = if is_of agenda giver
+    && not (has same_giver agenda.givers giver) then with_next agenda giver else agenda
 
 -- numbers of givers: first the rules, then the users' values, then the entries
 abbrev pub giver_at : ℕ → ℕ → ℕ → Giver

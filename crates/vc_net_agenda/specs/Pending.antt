@@ -1,5 +1,6 @@
 -- Numbers that wait, each once, with a flag for each number.
-use Rattle.std.specs.Prelude.{◌≡◌, ℕ, Bool, false, not, ◌&&◌, nat_eq, nat_lt, if◌then◌else◌, List, [], ◌∷◌, ◌++◌, length, slice_index_or}
+use Rattle.std.specs.Prelude.{◌≡◌, ℕ, Bool, false, not, ◌&&◌, nat_eq, nat_lt, if◌then◌else◌, List, [], ◌∷◌, ◌++◌}
+use Rattle.std.specs.Prelude.{length, slice_index_or}
 use Rattle.std.specs.List.{IsDistinct}
 use Rattle.vc_base.specs.Sets.{has}
 use Rattle.vc_rule_yield.specs.Filling.{Filled}

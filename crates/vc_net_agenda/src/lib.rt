@@ -9,6 +9,3 @@ pub mod pending;
 pub use agenda::Agenda;
 pub use givers::Giver;
 pub use pending::Pending;
-
-#[cfg(test)]
-mod tests;

@@ -8,6 +8,3 @@ pub mod odds;
 pub mod running_out;
 
 pub use colliding::{blame, collision_bound};
-
-#[cfg(test)]
-mod tests;

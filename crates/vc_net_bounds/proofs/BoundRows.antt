@@ -24,7 +24,8 @@ raised = refl
 as_stated : raised_by_rules pump pump.rules (map source_bound (all_places pump)) ≡ bounds_of pump
 as_stated = refl
 
--- of its table one row has the first size, two the second and one the third; counted for a column alone, and for a variable
+-- of its table one row has the first size, two the second and one the third; counted for a column alone, and for a
+-- variable
 counted : column_counts pump (record { table = 0; column = 0; domain = 0 }) ≡ 1 ∷ 2 ∷ 1 ∷ []
 counted = refl
 

@@ -1,5 +1,6 @@
 -- Sums of numbers that are told as far as they count.
-use Rattle.std.proofs.Common.{◌≡◌, ℕ, ◌+◌, ◌≤◌, max, Bool, true, false, List, [], ◌∷◌, length, map, refl, sym, ◌∙◌, ap, arith}
+use Rattle.std.proofs.Common.{◌≡◌, ℕ, ◌+◌, ◌≤◌, max, Bool, true, false, List, [], ◌∷◌, length, map, refl, sym, ◌∙◌, ap}
+use Rattle.std.proofs.Common.{arith}
 use Rattle.std.specs.List.{filter}
 use Rattle.vc_plan.specs.Bounds.{greatest, only_if}
 use Rattle.vc_net_places.specs.Cells.{total}
@@ -19,7 +20,8 @@ pub one_more : (n : ℕ) → capped (1 + capped n) ≡ capped (1 + n)
 one_more n = omega arith
 
 -- one number more, and none left
-pub sum_next : (all sum n : ℕ) (ns : List ℕ) → capped (sum + total (n ∷ ns)) ≡ all → capped (capped (sum + n) + total ns) ≡ all
+pub sum_next : (all sum n : ℕ) (ns : List ℕ) → capped (sum + total (n ∷ ns)) ≡ all
+    → capped (capped (sum + n) + total ns) ≡ all
 sum_next all sum n ns e = omega (arith, e)
 
 pub sum_done : (all sum : ℕ) → sum ≤ 500_001 → capped (sum + 0) ≡ all → sum ≡ all

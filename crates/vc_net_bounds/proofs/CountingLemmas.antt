@@ -1,12 +1,14 @@
 -- What is raised by all rules is what each place needs, as far as that is told.
-use Rattle.std.proofs.Common.{◌≡◌, ℕ, ◌+◌, ◌<◌, ◌≤◌, max, Bool, true, false, cond, ◌==◌, List, [], ◌∷◌, ◌++◌, length, map, replicate, refl, sym, ◌∙◌, ap, arith, append-nil, append_assoc}
+use Rattle.std.proofs.Common.{◌≡◌, ℕ, ◌+◌, ◌<◌, ◌≤◌, max, Bool, true, false, cond, ◌==◌, List, [], ◌∷◌, ◌++◌, length}
+use Rattle.std.proofs.Common.{map, replicate, refl, sym, ◌∙◌, ap, arith, append-nil, append_assoc}
 use Rattle.std.specs.List.{flat_map}
 use Rattle.std.proofs.lemmas.Grind.{flat_map-append}
 use Rattle.std.proofs.lemmas.List.{map-append}
 use Rattle.vc_base.proofs.ListLaws.{range_split}
 use Rattle.vc_plan.specs.declared.plans.Plan.{Plan}
 use Rattle.vc_plan.specs.declared.rules.Rule.{Rule}
-use Rattle.vc_plan.specs.Bounds.{Place, cell_bound, clash_bound, greatest, here_at, here_bound, is_at, is_bound, out_at, out_bound, place_bound, source_bound}
+use Rattle.vc_plan.specs.Bounds.{Place, cell_bound, clash_bound, greatest, here_at, here_bound, is_at, is_bound, out_at}
+use Rattle.vc_plan.specs.Bounds.{out_bound, place_bound, source_bound}
 use Rattle.vc_plan.specs.Domains.{count_of, numbers_below}
 use Rattle.vc_net_places.specs.Cells.{all_places, bounds_of, own_bound, places_of_var, total}
 use Rattle.vc_net_places.proofs.PlaceLaws.Cells.{cells_suffice}
@@ -16,7 +18,8 @@ use Rattle.vc_net_bounds.specs.declared.bounds.Counted.TheVariants.{Within, TooM
 use Rattle.vc_net_bounds.specs.Capping.{capped}
 use Rattle.vc_net_bounds.specs.Counting.{IsCounted, clash_cells, sources_before, sources_of_var}
 use Rattle.vc_net_bounds.specs.Raising.{capped_bound, raised_by_rules}
-use Rattle.vc_net_bounds.proofs.CappingLemmas.{capped_greatest, capped_max, capped_total, exact_list, exactly, sum_of_capped}
+use Rattle.vc_net_bounds.proofs.CappingLemmas.{capped_greatest, capped_max, capped_total, exact_list, exactly}
+use Rattle.vc_net_bounds.proofs.CappingLemmas.{sum_of_capped}
 use Rattle.vc_net_bounds.proofs.RaisingLemmas.{map_same, raised_map}
 
 -- all rules, one after another
@@ -42,7 +45,8 @@ none_greatest f none (x ∷ xs) =
 
 greatest_same : {X : Type 0} (f g : X → ℕ) → ((x : X) → f x ≡ g x) → (xs : List X) → greatest f xs ≡ greatest g xs
 greatest_same f g same [] = refl
-greatest_same f g same (x ∷ xs) = ap (λ n. max n (greatest f xs)) (same x) ∙ ap (λ n. max (g x) n) (greatest_same f g same xs)
+greatest_same f g same (x ∷ xs) = ap (λ n. max n (greatest f xs)) (same x)
+    ∙ ap (λ n. max (g x) n) (greatest_same f g same xs)
 
 own : (plan : Plan) (p : Place) → needed plan plan.rules source_bound p ≡ capped (own_bound plan p)
 own plan (here_at i) = by (i == 0) refl
@@ -50,16 +54,20 @@ own plan (here_at i) = by (i == 0) refl
     h : Rule → ℕ
     h rule = here_bound plan rule rule.kind i
 
-    inner : (b : Bool) → (i == 0) ≡ b → (rule : Rule) → capped_bound plan rule rule.kind (here_at i) ≡ capped (cond b 0 (h rule))
+    inner : (b : Bool) → (i == 0) ≡ b → (rule : Rule)
+        → capped_bound plan rule rule.kind (here_at i) ≡ capped (cond b 0 (h rule))
     inner b e rule = ap (λ t. capped (cond t 0 (h rule))) e
 
     by : (b : Bool) → (i == 0) ≡ b
-        → max 0 (greatest (λ rule. capped_bound plan rule rule.kind (here_at i)) plan.rules) ≡ capped (cond b 0 (place_bound plan (here_at i)))
+        → max 0 (greatest (λ rule. capped_bound plan rule rule.kind (here_at i)) plan.rules)
+        ≡ capped (cond b 0 (place_bound plan (here_at i)))
     by true e =
         let none = none_greatest (λ rule. capped_bound plan rule rule.kind (here_at i)) (inner true e) plan.rules in
         omega (arith, none)
     by false e =
-        let same = greatest_same (λ rule. capped_bound plan rule rule.kind (here_at i)) (λ rule. capped (h rule)) (inner false e) plan.rules in
+        let same
+        = greatest_same (λ rule. capped_bound plan rule rule.kind (here_at i)) (λ rule. capped (h rule))
+        (inner false e) plan.rules in
         let all = capped_greatest h plan.rules in
         let most = capped_max 0 (greatest h plan.rules) in
         omega (arith, same, all, most)
@@ -78,7 +86,8 @@ map_twice : {X Y Z : Type 0} (f : X → Y) (g : Y → Z) (xs : List X) → map (
 map_twice f g [] = refl
 map_twice f g (x ∷ xs) = ap (λ zs. g (f x) ∷ zs) (map_twice f g xs)
 
-pub all_needed : (plan : Plan) → raised_by_rules plan plan.rules (map source_bound (all_places plan)) ≡ map capped (bounds_of plan)
+pub all_needed : (plan : Plan)
+    → raised_by_rules plan plan.rules (map source_bound (all_places plan)) ≡ map capped (bounds_of plan)
 all_needed plan =
     rules_raised plan plan.rules source_bound
     ∙ (map_same (needed plan plan.rules source_bound) (λ p. capped (own_bound plan p)) (own plan) (all_places plan)
@@ -95,7 +104,8 @@ pub clash_all : (plan : Plan) → max 1 (capped (greatest (clash_bound plan) pla
 clash_all plan = let most = capped_max 1 (greatest (clash_bound plan) plan.rules) in omega (arith, most)
 
 -- all cells
-pub all_cells : (plan : Plan) → capped (capped (total (map capped (bounds_of plan))) + capped (clash_cells plan)) ≡ capped (cell_bound plan)
+pub all_cells : (plan : Plan)
+    → capped (capped (total (map capped (bounds_of plan))) + capped (clash_cells plan)) ≡ capped (cell_bound plan)
 all_cells plan =
     ap (λ n. capped (n + capped (clash_cells plan))) (capped_total (bounds_of plan))
     ∙ (sum_of_capped (total (bounds_of plan)) (clash_cells plan) ∙ ap capped (cells_suffice plan))
@@ -114,8 +124,10 @@ too_many plan bounds clash sum all is cells s a more =
     let e = told plan bounds clash sum all is cells s a in omega (arith, e, more)
 
 pub within : (plan : Plan) (found : Bounds) (sum all : ℕ)
-    → found.places ≡ raised_by_rules plan plan.rules (map source_bound (all_places plan)) → found.clash ≡ capped (clash_cells plan)
-    → sum ≡ capped (total found.places) → all ≡ capped (sum + found.clash) → all ≤ 500_000 → IsCounted plan (Within found)
+    → found.places ≡ raised_by_rules plan plan.rules (map source_bound (all_places plan))
+    → found.clash ≡ capped (clash_cells plan)
+    → sum ≡ capped (total found.places) → all ≡ capped (sum + found.clash) → all ≤ 500_000
+    → IsCounted plan (Within found)
 within plan found sum all is cells s a few =
     let e = told plan found.places found.clash sum all is cells s a in
     let most : cell_bound plan ≤ 500_000 = omega (arith, e, few) in
@@ -139,7 +151,8 @@ var_sources plan v =
     ap (λ ns. 1 ∷ ns)
     (none_else v (numbers_below (count_of plan v)) ∙ ap (λ n. replicate n 0) (length_range 0 (count_of plan v)))
 
-flat_sources : (plan : Plan) (vs : List ℕ) → map source_bound (flat_map (places_of_var plan) vs) ≡ flat_map (sources_of_var plan) vs
+flat_sources : (plan : Plan) (vs : List ℕ)
+    → map source_bound (flat_map (places_of_var plan) vs) ≡ flat_map (sources_of_var plan) vs
 flat_sources plan [] = refl
 flat_sources plan (v ∷ vs) =
     map-append source_bound (places_of_var plan v) (flat_map (places_of_var plan) vs)
@@ -161,7 +174,8 @@ sources_next plan v =
     let before = flat_map (sources_of_var plan) (numbers_below v) in
     let split : flat_map (sources_of_var plan) (numbers_below (v + 1)) ≡ before ++ sources_of_var plan v
     = ap (flat_map (sources_of_var plan)) (range_split 0 v 1 (v + 1) v refl (omega arith))
-    ∙ (flat_map-append (sources_of_var plan) (numbers_below v) (v ∷ []) ∙ ap (λ xs. before ++ xs) (append-nil (sources_of_var plan v))) in
+    ∙ (flat_map-append (sources_of_var plan) (numbers_below v) (v ∷ [])
+    ∙ ap (λ xs. before ++ xs) (append-nil (sources_of_var plan v))) in
     append_assoc slots before (sources_of_var plan v) ∙ ap (λ xs. slots ++ xs) (sym split)
 
 pub slots_first : (plan : Plan) → replicate (length plan.slots) 0 ≡ sources_before plan 0

@@ -1,5 +1,6 @@
 -- What is counted of a column's cells is what is counted of the rows for a variable that is given to it alone.
-use Rattle.std.proofs.Common.{◌≡◌, ℕ, zero, suc, ◌+◌, ◌<◌, Bool, true, false, cond, not, ◌&&◌, ◌==◌, List, [], ◌∷◌, ◌++◌, length, map, refl, sym, ◌∙◌, ap, arith}
+use Rattle.std.proofs.Common.{◌≡◌, ℕ, zero, suc, ◌+◌, ◌<◌, Bool, true, false, cond, not, ◌&&◌, ◌==◌, List, [], ◌∷◌}
+use Rattle.std.proofs.Common.{◌++◌, length, map, refl, sym, ◌∙◌, ap, arith}
 use Rattle.std.specs.Prelude.{slice_get, slice_index_or, Option, Some}
 use Rattle.std.specs.List.{filter, range_with_len}
 use Rattle.std.proofs.lemmas.Bool.{and_parts, eqb-true}
@@ -17,7 +18,8 @@ use Rattle.vc_net_places.specs.Cells.{all_places}
 use Rattle.vc_net_places.proofs.PlaceLaws.Things.{length_range, mapped_next}
 use Rattle.vc_net_bounds.specs.declared.keeping.Column.{Column}
 use Rattle.vc_net_bounds.specs.Capping.{capped}
-use Rattle.vc_net_bounds.specs.Keeping.{cell_of, cells_by_grain, cells_of, column_counts, if_met, lies_in_grain, lies_in_piece, own_columns, row_counts, rows_by_grain, with_counts}
+use Rattle.vc_net_bounds.specs.Keeping.{cell_of, cells_by_grain, cells_of, column_counts, if_met, lies_in_grain}
+use Rattle.vc_net_bounds.specs.Keeping.{lies_in_piece, own_columns, row_counts, rows_by_grain, with_counts}
 use Rattle.vc_net_bounds.specs.Raising.{at_grains, raised_by, with_rows}
 use Rattle.vc_net_bounds.proofs.CappingLemmas.{sum_second}
 use Rattle.vc_net_bounds.proofs.PlaceLemmas.{grains_there}
@@ -26,7 +28,8 @@ use Rattle.vc_net_bounds.proofs.RaisingLemmas.{map_same}
 filter_same : {X : Type 0} (p q : X → Bool) → ((x : X) → p x ≡ q x) → (xs : List X) → filter p xs ≡ filter q xs
 filter_same p q same [] = refl
 filter_same p q same (x ∷ xs) =
-    ap (λ b. cond b (x ∷ filter p xs) (filter p xs)) (same x) ∙ ap (λ ys. cond (q x) (x ∷ ys) ys) (filter_same p q same xs)
+    ap (λ b. cond b (x ∷ filter p xs) (filter p xs)) (same x)
+    ∙ ap (λ ys. cond (q x) (x ∷ ys) ys) (filter_same p q same xs)
 
 and_alone : (b : Bool) → (b && true) ≡ b
 and_alone true = refl
@@ -40,10 +43,12 @@ one_cell plan v [] column x g row e at is = absurd (cc)
 one_cell plan v (c ∷ d ∷ own) column x g row e at is = absurd (cc)
 one_cell plan v (c ∷ []) column x g row e at is =
     let same : c.column ≡ column.column = cc in
-    and_alone (cell_passes (λ a. grain_holds (grains_in (domain_of plan (slice_get plan.vars v))) a g) (slice_get row c.column))
+    and_alone (cell_passes (λ a. grain_holds (grains_in (domain_of plan (slice_get plan.vars v))) a g)
+    (slice_get row c.column))
     ∙ (ap (λ y. cell_passes (λ a. grain_holds (grains_in (domain_of plan y)) a g) (slice_get row c.column)) at
     ∙ (ap (λ d. cell_passes (λ a. grain_holds (grains_in (slice_get plan.domains d)) a g) (slice_get row c.column)) is
-    ∙ ap (λ n. cell_passes (λ a. grain_holds (grains_in (slice_get plan.domains column.domain)) a g) (slice_get row n)) same))
+    ∙ ap (λ n. cell_passes (λ a. grain_holds (grains_in (slice_get plan.domains column.domain)) a g) (slice_get row n))
+    same))
 
 pub one_column : (plan : Plan) (v : ℕ) (columns : List Binding) (column : Column) (x : variable.Var)
     → own_columns v columns ≡ column.column ∷ [] → slice_get plan.vars v ≡ Some x → x.domain ≡ column.domain
@@ -64,7 +69,8 @@ read_at f a (suc n) zero below = ap f (omega arith)
 read_at f a (suc n) (suc i) below = read_at f (a + 1) n i (omega (arith, below)) ∙ ap f (omega arith)
 
 -- columns are one where the test says so
-pub same_column : (a b : Column) → ((a.table == b.table) && ((a.column == b.column) && (a.domain == b.domain))) ≡ true → a ≡ b
+pub same_column : (a b : Column) → ((a.table == b.table) && ((a.column == b.column) && (a.domain == b.domain))) ≡ true
+    → a ≡ b
 same_column a b e =
     let p = and_parts (a.table == b.table) ((a.column == b.column) && (a.domain == b.domain)) e in
     let q = and_parts (a.column == b.column) (a.domain == b.domain) p.1 in
@@ -99,13 +105,15 @@ counts_rows plan table columns v b counts ns are =
     same i below =
         ap (λ xs. capped (b + slice_index_or xs i 0)) are
         ∙ (ap (λ n. capped (b + n)) (read_at (rows_by_grain plan table columns v) 0 (count_of plan v) i below)
-        ∙ (sum_second b (rows_with plan table columns v (0 + i)) ∙ ap (λ k. capped (b + rows_with plan table columns v k)) (omega arith)))
+        ∙ (sum_second b (rows_with plan table columns v (0 + i))
+        ∙ ap (λ k. capped (b + rows_with plan table columns v k)) (omega arith)))
 
 pub counts_length : (plan : Plan) (table : ℕ) (columns : List Binding) (v : ℕ) (counts : List ℕ)
     → counts ≡ row_counts plan table columns v → length counts ≡ count_of plan v
 counts_length plan table columns v counts are =
     ap length are
-    ∙ (length-map (numbers_below (count_of plan v)) (rows_by_grain plan table columns v) ∙ length_range 0 (count_of plan v))
+    ∙ (length-map (numbers_below (count_of plan v)) (rows_by_grain plan table columns v)
+    ∙ length_range 0 (count_of plan v))
 
 -- the first column of a variable's own, and another's
 pub own_next : (v : ℕ) (column : Binding) (rest : List Binding) (all : List ℕ) → is_column_of v column ≡ true
@@ -114,7 +122,8 @@ own_next v column rest all own is =
     is ∙ ap (λ b. map (λ c. c.column) (cond b (column ∷ columns_of v rest) (columns_of v rest))) own
 
 pub other_next : (v : ℕ) (column : Binding) (rest : List Binding) (met : Option ℕ) (all : List ℕ)
-    → is_column_of v column ≡ false → all ≡ if_met met ++ own_columns v (column ∷ rest) → all ≡ if_met met ++ own_columns v rest
+    → is_column_of v column ≡ false → all ≡ if_met met ++ own_columns v (column ∷ rest)
+    → all ≡ if_met met ++ own_columns v rest
 other_next v column rest met all other is =
     is ∙ ap (λ b. if_met met ++ map (λ c. c.column) (cond b (column ∷ columns_of v rest) (columns_of v rest))) other
 
@@ -124,7 +133,8 @@ pub kept_more : (plan : Plan) (column : Column) (columns : List Column) (counts 
     → counts ++ own ∷ [] ≡ map (column_counts plan) (columns ++ column ∷ [])
 kept_more plan column columns counts own kept is =
     ap (λ xs. xs ++ own ∷ []) kept
-    ∙ (ap (λ x. map (column_counts plan) columns ++ x ∷ []) is ∙ sym (map-append (column_counts plan) columns (column ∷ [])))
+    ∙ (ap (λ x. map (column_counts plan) columns ++ x ∷ []) is
+    ∙ sym (map-append (column_counts plan) columns (column ∷ [])))
 
 pub columns_more : (there : Bool) (columns new : List Column) (column : Column)
     → new ≡ cond there columns (columns ++ column ∷ []) → not there ≡ true → new ≡ columns ++ column ∷ []
@@ -143,7 +153,8 @@ filter_mapped f q (x ∷ xs) = by (q (f x)) (filter_mapped f q xs)
     by true rest = omega (arith, rest)
     by false rest = rest
 
-pub counted_next : (plan : Plan) (v g n : ℕ) (column : Column) (piece : Option Piece) (cells : List (Option Value)) (counts next : List ℕ)
+pub counted_next : (plan : Plan) (v g n : ℕ) (column : Column) (piece : Option Piece) (cells : List (Option Value))
+    (counts next : List ℕ)
     → grains_of plan v ≡ grains_in (slice_get plan.domains column.domain) → piece ≡ slice_get (grains_of plan v) g
     → cells ≡ cells_of plan column → n ≡ capped (length (filter (lies_in_piece piece) cells))
     → counts ≡ map (cells_by_grain plan column) (numbers_below g) → next ≡ counts ++ n ∷ []
@@ -151,14 +162,17 @@ pub counted_next : (plan : Plan) (v g n : ℕ) (column : Column) (piece : Option
 counted_next plan v g n column piece cells counts next grains p c count are pushed =
     pushed
     ∙ (ap (λ xs. xs ++ n ∷ []) are
-    ∙ (ap (λ k. map (cells_by_grain plan column) (numbers_below g) ++ k ∷ []) own ∙ sym (mapped_next (cells_by_grain plan column) g)))
+    ∙ (ap (λ k. map (cells_by_grain plan column) (numbers_below g) ++ k ∷ []) own
+    ∙ sym (mapped_next (cells_by_grain plan column) g)))
   where
     own : n ≡ cells_by_grain plan column g
     own =
         count
         ∙ (ap (λ q. capped (length (filter (lies_in_piece q) cells))) (p ∙ ap (λ gs. slice_get gs g) grains)
-        ∙ (ap (λ xs. capped (length (filter (lies_in_piece (slice_get (grains_in (slice_get plan.domains column.domain)) g)) xs))) c
-        ∙ ap capped (filter_mapped (cell_of column) (lies_in_piece (slice_get (grains_in (slice_get plan.domains column.domain)) g))
+        ∙ (ap (λ xs. capped (length
+        (filter (lies_in_piece (slice_get (grains_in (slice_get plan.domains column.domain)) g)) xs))) c
+        ∙ ap capped (filter_mapped (cell_of column)
+        (lies_in_piece (slice_get (grains_in (slice_get plan.domains column.domain)) g))
         (rows_of plan column.table))))
 
 pub counted_all : (plan : Plan) (v g : ℕ) (column : Column) (counts : List ℕ)

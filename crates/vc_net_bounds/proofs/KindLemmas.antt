@@ -1,5 +1,6 @@
 -- What the raised places of each kind of rule are, and by how much.
-use Rattle.std.proofs.Common.{◌≡◌, ℕ, ◌+◌, max, Bool, true, false, cond, not, ◌&&◌, ◌||◌, ◌==◌, List, [], ◌∷◌, length, refl, sym, ◌∙◌, ap, arith}
+use Rattle.std.proofs.Common.{◌≡◌, ℕ, ◌+◌, max, Bool, true, false, cond, not, ◌&&◌, ◌||◌, ◌==◌, List, [], ◌∷◌, length}
+use Rattle.std.proofs.Common.{refl, sym, ◌∙◌, ap, arith}
 use Rattle.std.specs.Prelude.{Option, None, Some}
 use Rattle.std.specs.List.{list_any}
 use Rattle.std.proofs.lemmas.Bool.{eqb-true}
@@ -10,13 +11,15 @@ use Rattle.vc_plan.specs.declared.rules.Binding.{Binding}
 use Rattle.vc_plan.specs.declared.rules.Kind.TheVariants.{Among, Compare, Equate, ByTable, Never, Last, Line}
 use Rattle.vc_plan.specs.declared.rules.Restriction.{Restriction}
 use Rattle.vc_plan.specs.declared.rules.Rule.{Rule}
-use Rattle.vc_plan.specs.Bounds.{Place, here_at, is_at, out_at, acting_size, compare_bound, condition_size, equate_bound, is_this, only_if, rows_with}
+use Rattle.vc_plan.specs.Bounds.{Place, here_at, is_at, out_at, acting_size, compare_bound, condition_size}
+use Rattle.vc_plan.specs.Bounds.{equate_bound, is_this, only_if, rows_with}
 use Rattle.vc_plan.specs.Domains.{count_of, is_grain_with, is_restrictable}
 use Rattle.vc_plan.specs.Restrictions.{allows, is_inferred, lone_inferred}
 use Rattle.vc_plan.specs.TableRows.{is_column_of, rows_of}
 use Rattle.vc_net_places.specs.Cells.{all_places}
 use Rattle.vc_net_bounds.specs.Capping.{capped}
-use Rattle.vc_net_bounds.specs.Raising.{at_equal, at_grains, at_line, at_narrowed, at_place, at_side, at_variable, capped_bound, raised_by, raised_narrowed, where_failing, with_rows}
+use Rattle.vc_net_bounds.specs.Raising.{at_equal, at_grains, at_line, at_narrowed, at_place, at_side, at_variable}
+use Rattle.vc_net_bounds.specs.Raising.{capped_bound, raised_by, raised_narrowed, where_failing, with_rows}
 use Rattle.vc_net_bounds.proofs.CappingLemmas.{capped_if, sum_first, sum_of_capped}
 use Rattle.vc_net_bounds.proofs.RaisingLemmas.{raised_none, raised_same, raised_twice}
 
@@ -47,14 +50,16 @@ pub among_excluded : (plan : Plan) (rule : Rule) (v b : ℕ) (r : Restriction) (
     → raised_by (at_grains v (where_failing plan v (allows plan v r) b)) (all_places plan) ns
     ≡ raised_by (capped_bound plan rule (Among v r)) (all_places plan) ns
 among_excluded plan rule v b r ns inferred may is =
-    raised_same (at_grains v (where_failing plan v (allows plan v r) b)) (capped_bound plan rule (Among v r)) same (all_places plan) ns
+    raised_same (at_grains v (where_failing plan v (allows plan v r) b)) (capped_bound plan rule (Among v r)) same
+    (all_places plan) ns
   where
     n : ℕ
     n = acting_size plan rule
 
     same : (p : Place) → at_grains v (where_failing plan v (allows plan v r) b) p ≡ capped_bound plan rule (Among v r) p
     same (here_at i) = no_slot i
-    same (out_at w g) = by (v == w) (is_inferred rule v) (is_restrictable plan v) (is_grain_with plan v (allows plan v r) g) inferred may
+    same (out_at w g) = by (v == w) (is_inferred rule v) (is_restrictable plan v)
+        (is_grain_with plan v (allows plan v r) g) inferred may
       where
         by : (s i m x : Bool) → i ≡ true → m ≡ true
             → only_if s (only_if (not x) b) ≡ capped (only_if ((s && i) && (m && not x)) n)
@@ -73,7 +78,8 @@ among_excluded plan rule v b r ns inferred may is =
 
 pub among_valued : (plan : Plan) (rule : Rule) (v b : ℕ) (r : Restriction) (ns : List ℕ)
     → is_inferred rule v ≡ true → is_restrictable plan v ≡ false → b ≡ capped (acting_size plan rule + count_of plan v)
-    → raised_by (at_place (is_at v) b) (all_places plan) ns ≡ raised_by (capped_bound plan rule (Among v r)) (all_places plan) ns
+    → raised_by (at_place (is_at v) b) (all_places plan) ns
+    ≡ raised_by (capped_bound plan rule (Among v r)) (all_places plan) ns
 among_valued plan rule v b r ns inferred may is =
     raised_same (at_place (is_at v) b) (capped_bound plan rule (Among v r)) same (all_places plan) ns
   where
@@ -82,7 +88,8 @@ among_valued plan rule v b r ns inferred may is =
 
     same : (p : Place) → at_place (is_at v) b p ≡ capped_bound plan rule (Among v r) p
     same (here_at i) = no_slot i
-    same (out_at w g) = by (v == w) (is_inferred rule v) (is_restrictable plan v) (is_grain_with plan v (allows plan v r) g) inferred may
+    same (out_at w g) = by (v == w) (is_inferred rule v) (is_restrictable plan v)
+        (is_grain_with plan v (allows plan v r) g) inferred may
       where
         by : (s i m x : Bool) → i ≡ true → m ≡ false → 0 ≡ capped (only_if ((s && i) && (m && not x)) n)
         by true true true x e h = absurd (cc)
@@ -91,7 +98,8 @@ among_valued plan rule v b r ns inferred may is =
         by false i m x e h = refl
     same (is_at w) = by (v == w) (is_inferred rule v) (is_restrictable plan v) inferred may
       where
-        by : (s i m : Bool) → i ≡ true → m ≡ false → only_if s b ≡ capped (only_if ((s && i) && not m) (n + count_of plan v))
+        by : (s i m : Bool) → i ≡ true → m ≡ false
+            → only_if s b ≡ capped (only_if ((s && i) && not m) (n + count_of plan v))
         by true true true e h = absurd (cc)
         by true true false e h = is
         by true false m e h = absurd (cc)
@@ -110,13 +118,15 @@ among_alone plan rule v r ns inferred =
     none (out_at w g) = by (v == w) (is_inferred rule v) inferred
       where
         by : (s i : Bool) → i ≡ false
-            → capped (only_if ((s && i) && (is_restrictable plan v && not (is_grain_with plan v (allows plan v r) g))) n) ≡ 0
+            → capped (only_if ((s && i) && (is_restrictable plan v && not (is_grain_with plan v (allows plan v r) g)))
+            n) ≡ 0
         by true true e = absurd (cc)
         by true false e = refl
         by false i e = refl
     none (is_at w) = by (v == w) (is_inferred rule v) inferred
       where
-        by : (s i : Bool) → i ≡ false → capped (only_if ((s && i) && not (is_restrictable plan v)) (n + count_of plan v)) ≡ 0
+        by : (s i : Bool) → i ≡ false
+            → capped (only_if ((s && i) && not (is_restrictable plan v)) (n + count_of plan v)) ≡ 0
         by true true e = absurd (cc)
         by true false e = refl
         by false i e = refl
@@ -142,7 +152,8 @@ side_out : (plan : Plan) (o : Option ℕ) (b w g : ℕ)
 side_out plan None b w g = refl
 side_out plan (Some v) b w g = ap (λ t. only_if t b) (swapped v w (is_restrictable plan))
 
-side_is : (plan : Plan) (o : Option ℕ) (b w : ℕ) → at_side plan o b (is_at w) ≡ only_if (is_this w o && not (is_restrictable plan w)) b
+side_is : (plan : Plan) (o : Option ℕ) (b w : ℕ)
+    → at_side plan o b (is_at w) ≡ only_if (is_this w o && not (is_restrictable plan w)) b
 side_is plan None b w = refl
 side_is plan (Some v) b w = ap (λ t. only_if t b) (swapped v w (λ x. not (is_restrictable plan x)))
 
@@ -167,7 +178,8 @@ pub compare_raised : (plan : Plan) (rule : Rule) (r : Relation) (x y b : ℕ) (n
     (raised_by (at_side plan (lone_inferred plan rule x) b) (all_places plan) ns)
     ≡ raised_by (capped_bound plan rule (Compare r x y)) (all_places plan) ns
 compare_raised plan rule r x y b ns is =
-    raised_twice (at_side plan o b) (at_side plan q b) (capped_bound plan rule (Compare r x y)) both (all_places plan) ns
+    raised_twice (at_side plan o b) (at_side plan q b) (capped_bound plan rule (Compare r x y)) both (all_places plan)
+    ns
   where
     o : Option ℕ
     o = lone_inferred plan rule x
@@ -243,14 +255,16 @@ pub narrowed_grains : (plan : Plan) (table b v : ℕ) (columns : List Binding) (
     → raised_by (at_grains v (with_rows plan table columns v b)) (all_places plan) ns
     ≡ raised_by (at_narrowed plan table columns b v) (all_places plan) ns
 narrowed_grains plan table b v columns ns given may =
-    raised_same (at_grains v (with_rows plan table columns v b)) (at_narrowed plan table columns b v) same (all_places plan) ns
+    raised_same (at_grains v (with_rows plan table columns v b)) (at_narrowed plan table columns b v) same
+    (all_places plan) ns
   where
     same : (p : Place) → at_grains v (with_rows plan table columns v b) p ≡ at_narrowed plan table columns b v p
     same (here_at i) = refl
     same (out_at w g) = by (v == w) (list_any (is_column_of v) columns) (is_restrictable plan v) given may
       where
         by : (s c m : Bool) → c ≡ true → m ≡ true
-            → only_if s (with_rows plan table columns v b g) ≡ only_if (s && (c && m)) (with_rows plan table columns v b g)
+            → only_if s (with_rows plan table columns v b g)
+            ≡ only_if (s && (c && m)) (with_rows plan table columns v b g)
         by true true true e h = refl
         by true true false e h = absurd (cc)
         by true false m e h = absurd (cc)
@@ -292,7 +306,8 @@ narrowed_value plan table b v columns ns given may =
         by false c m e h = refl
 
 pub narrowed_not : (plan : Plan) (table b v : ℕ) (columns : List Binding) (ns : List ℕ)
-    → list_any (is_column_of v) columns ≡ false → ns ≡ raised_by (at_narrowed plan table columns b v) (all_places plan) ns
+    → list_any (is_column_of v) columns ≡ false
+    → ns ≡ raised_by (at_narrowed plan table columns b v) (all_places plan) ns
 narrowed_not plan table b v columns ns given =
     sym (raised_none (at_narrowed plan table columns b v) (all_places plan) (λ i p e. none p) ns)
   where
@@ -300,7 +315,8 @@ narrowed_not plan table b v columns ns given =
     none (here_at i) = refl
     none (out_at w g) = by (v == w) (list_any (is_column_of v) columns) given
       where
-        by : (s c : Bool) → c ≡ false → only_if (s && (c && is_restrictable plan v)) (with_rows plan table columns v b g) ≡ 0
+        by : (s c : Bool) → c ≡ false
+            → only_if (s && (c && is_restrictable plan v)) (with_rows plan table columns v b g) ≡ 0
         by true true e = absurd (cc)
         by true false e = refl
         by false c e = refl
@@ -334,7 +350,8 @@ one_narrowed plan table b v columns vs (out_at w g) =
   where
     by : (s t c d : Bool) → (s ≡ true → c ≡ d)
         → (s ≡ true → with_rows plan table columns v b g ≡ with_rows plan table columns w b g)
-        → max (only_if (s && c) (with_rows plan table columns v b g)) (only_if (t && d) (with_rows plan table columns w b g))
+        → max (only_if (s && c) (with_rows plan table columns v b g))
+        (only_if (t && d) (with_rows plan table columns w b g))
         ≡ only_if ((s || t) && d) (with_rows plan table columns w b g)
     by true true true true e h = let is = h refl in omega (arith, is)
     by true false true true e h = let is = h refl in omega (arith, is)
@@ -366,7 +383,8 @@ one_narrowed plan table b v columns vs (is_at w) =
     by false false c d e = refl
 
 list_narrowed : (plan : Plan) (table b : ℕ) (columns : List Binding) (vs : List ℕ) (ns : List ℕ)
-    → raised_narrowed plan table columns b vs ns ≡ raised_by (at_all_narrowed plan table columns b vs) (all_places plan) ns
+    → raised_narrowed plan table columns b vs ns
+    ≡ raised_by (at_all_narrowed plan table columns b vs) (all_places plan) ns
 list_narrowed plan table b columns [] ns =
     sym (raised_none (at_all_narrowed plan table columns b []) (all_places plan) (λ i p e. none p) ns)
   where
@@ -401,12 +419,15 @@ table_raised plan rule table b columns ns is =
         → at_all_narrowed plan table columns b rule.inferred p ≡ capped_bound plan rule (ByTable table columns) p
     same (here_at i) = no_slot i
     same (out_at w g) =
-        by (is_inferred rule w) (list_any (is_column_of w) columns) (is_restrictable plan w) (rows_with plan table columns w g)
+        by (is_inferred rule w) (list_any (is_column_of w) columns) (is_restrictable plan w)
+        (rows_with plan table columns w g)
     same (is_at w) =
-        by (is_inferred rule w) (list_any (is_column_of w) columns) (not (is_restrictable plan w)) (length (rows_of plan table))
+        by (is_inferred rule w) (list_any (is_column_of w) columns) (not (is_restrictable plan w))
+        (length (rows_of plan table))
 
 -- Never, Last and Line
-pub never_raised : (plan : Plan) (rule : Rule) (ns : List ℕ) → ns ≡ raised_by (capped_bound plan rule Never) (all_places plan) ns
+pub never_raised : (plan : Plan) (rule : Rule) (ns : List ℕ)
+    → ns ≡ raised_by (capped_bound plan rule Never) (all_places plan) ns
 never_raised plan rule ns =
     sym (raised_none (capped_bound plan rule Never) (all_places plan) (λ i p e. none p) ns)
   where
@@ -419,7 +440,8 @@ pub last_raised : (plan : Plan) (rule : Rule) (v : ℕ) (ns : List ℕ)
     → raised_by (at_place (is_at v) (capped (count_of plan v))) (all_places plan) ns
     ≡ raised_by (capped_bound plan rule (Last v)) (all_places plan) ns
 last_raised plan rule v ns =
-    raised_same (at_place (is_at v) (capped (count_of plan v))) (capped_bound plan rule (Last v)) same (all_places plan) ns
+    raised_same (at_place (is_at v) (capped (count_of plan v))) (capped_bound plan rule (Last v)) same (all_places plan)
+    ns
   where
     same : (p : Place) → at_place (is_at v) (capped (count_of plan v)) p ≡ capped_bound plan rule (Last v) p
     same (here_at i) = no_slot i

@@ -1,5 +1,6 @@
 -- Bounds raised at the places of a plan: at one place, at the grains of a variable.
-use Rattle.std.proofs.Common.{◌≡◌, ℕ, zero, suc, ◌+◌, ◌-◌, ◌<◌, ◌≤◌, max, Bool, true, false, cond, ◌&&◌, ◌||◌, ◌==◌, not, List, [], ◌∷◌, length, refl, sym, ◌∙◌, ap, subst, arith}
+use Rattle.std.proofs.Common.{◌≡◌, ℕ, zero, suc, ◌+◌, ◌-◌, ◌<◌, ◌≤◌, max, Bool, true, false, cond, ◌&&◌, ◌||◌, ◌==◌}
+use Rattle.std.proofs.Common.{not, List, [], ◌∷◌, length, refl, sym, ◌∙◌, ap, subst, arith}
 use Rattle.std.specs.Prelude.{Some, nat_lt, slice_get}
 use Rattle.std.specs.List.{list_any, range_with_len}
 use Rattle.std.proofs.lemmas.Bool.{and_from, and_parts, eq-eqb, eqb-true, false_from_ne_true, lt-ltb, ltb-true}
@@ -13,7 +14,8 @@ use Rattle.vc_net_places.specs.Places.{first_in, index_of, is_place, number_of}
 use Rattle.vc_net_places.proofs.PlaceLaws.Cells.{places_are_in_order, places_length}
 use Rattle.vc_net_places.proofs.PlaceLaws.Numbering.{has_grain, numbers_are_taken}
 use Rattle.vc_net_places.proofs.PlaceLaws.Things.{first_is}
-use Rattle.vc_net_bounds.specs.Raising.{at_grains, at_line, at_place, at_variable, raised_at, raised_by, raised_grains, same_place}
+use Rattle.vc_net_bounds.specs.Raising.{at_grains, at_line, at_place, at_variable, raised_at, raised_by, raised_grains}
+use Rattle.vc_net_bounds.specs.Raising.{same_place}
 use Rattle.vc_net_bounds.proofs.RaisingLemmas.{raised_each, raised_none, raised_one, raised_same, raised_twice}
 
 -- two places are one where the test says so
@@ -54,7 +56,8 @@ numbered plan i p e =
     }
 
 -- at one place of the plan
-pub place_raised : (plan : Plan) (q : Place) (b : ℕ) (ns : List ℕ) → is_place plan q ≡ true → length ns ≡ length (all_places plan)
+pub place_raised : (plan : Plan) (q : Place) (b : ℕ) (ns : List ℕ) → is_place plan q ≡ true
+    → length ns ≡ length (all_places plan)
     → raised_at (number_of plan q) b ns ≡ raised_by (at_place q b) (all_places plan) ns
 place_raised plan q b ns there len =
     raised_one (at_place q b) b (all_places plan) (number_of plan q) here apart ns len
@@ -65,7 +68,8 @@ place_raised plan q b ns there len =
         let is : q ≡ p = cc in
         ap (λ t. only_if t b) (ap (same_place q) (sym is) ∙ same_itself q)
 
-    apart : (j : ℕ) (p : Place) → slice_get (all_places plan) j ≡ Some p → (j ≡ number_of plan q → ⊥) → at_place q b p ≡ 0
+    apart : (j : ℕ) (p : Place) → slice_get (all_places plan) j ≡ Some p → (j ≡ number_of plan q → ⊥)
+        → at_place q b p ≡ 0
     apart j p e other =
         let n : Numbered plan j p = numbered plan j p e in
         ap (λ t. only_if t b)
@@ -80,7 +84,8 @@ place_absent plan q b ns absent = sym (raised_none (at_place q b) (all_places pl
     none i p e =
         let n : Numbered plan i p = numbered plan i p e in
         ap (λ t. only_if t b)
-        (false_from_ne_true (same_place q p) (λ s. absent (subst (λ z. is_place plan z ≡ true) (sym (same_is q p s)) n.there)))
+        (false_from_ne_true (same_place q p)
+        (λ s. absent (subst (λ z. is_place plan z ≡ true) (sym (same_is q p s)) n.there)))
 
 pub slot_raised : (plan : Plan) (i b : ℕ) (ns : List ℕ) → i < length plan.slots → length ns ≡ length (all_places plan)
     → raised_at i b ns ≡ raised_by (at_place (here_at i) b) (all_places plan) ns
@@ -227,7 +232,8 @@ pub line_raised : (plan : Plan) (i b : ℕ) (ns : List ℕ) → (i ≡ 0 → ⊥
     → raised_by (at_place (here_at i) b) (all_places plan) ns ≡ raised_by (at_line i b) (all_places plan) ns
 line_raised plan i b ns below =
     raised_same (at_place (here_at i) b) (at_line i b)
-    (λ p. ap (λ t. cond t 0 (at_place (here_at i) b p)) (sym (false_from_ne_true (i == 0) (λ e. below (eqb-true i 0 e)))))
+    (λ p. ap (λ t. cond t 0 (at_place (here_at i) b p))
+    (sym (false_from_ne_true (i == 0) (λ e. below (eqb-true i 0 e)))))
     (all_places plan) ns
 
 pub root_stays : (plan : Plan) (i b : ℕ) (ns : List ℕ) → i ≡ 0 → ns ≡ raised_by (at_line i b) (all_places plan) ns
@@ -248,7 +254,8 @@ grain_next plan v g count b need ns ms below own is =
 
 -- and where none is left
 pub grains_done : (plan : Plan) (v g count : ℕ) (need : ℕ → ℕ) (ns ms : List ℕ) → count ≤ g
-    → raised_grains plan v need (range_with_len g (count - g)) ms ≡ raised_grains plan v need (numbers_below (count_of plan v)) ns
+    → raised_grains plan v need (range_with_len g (count - g)) ms
+    ≡ raised_grains plan v need (numbers_below (count_of plan v)) ns
     → ms ≡ raised_by (at_grains v need) (all_places plan) ns
 grains_done plan v g count need ns ms done all =
     let none : 0 ≡ count - g = omega (arith, done) in

@@ -58,7 +58,8 @@ raised_one f b [] i here apart (n ∷ ns) e = absurd (omega (arith, e))
 raised_one f b (p ∷ ps) i here apart [] e = absurd (omega (arith, e))
 raised_one f b (p ∷ ps) zero here apart (n ∷ ns) e =
     ap (λ m. max n m ∷ ns) (sym (here p refl))
-    ∙ ap (λ ms. max n (f p) ∷ ms) (sym (raised_none f ps (λ j q h. apart (suc j) q h (λ k. absurd (omega (arith, k)))) ns))
+    ∙ ap (λ ms. max n (f p) ∷ ms)
+    (sym (raised_none f ps (λ j q h. apart (suc j) q h (λ k. absurd (omega (arith, k)))) ns))
 raised_one f b (p ∷ ps) (suc i) here apart (n ∷ ns) e =
     let none : f p ≡ 0 = apart 0 p refl (λ k. absurd (omega (arith, k))) in
     let head : n ≡ max n (f p) = omega (arith, none) in
@@ -76,7 +77,8 @@ map_same f g same [] = refl
 map_same f g same (x ∷ xs) = ap (λ y. y ∷ map f xs) (same x) ∙ ap (λ ys. g x ∷ ys) (map_same f g same xs)
 
 -- a number written over by the greater, and none past the end
-pub set_raised : (ns : List ℕ) (i b d m : ℕ) → i < length ns → m ≡ max (slice_index_or ns i d) b → slice_set ns i m ≡ raised_at i b ns
+pub set_raised : (ns : List ℕ) (i b d m : ℕ) → i < length ns → m ≡ max (slice_index_or ns i d) b
+    → slice_set ns i m ≡ raised_at i b ns
 set_raised [] i b d m below is = absurd (omega (arith, below))
 set_raised (x ∷ xs) zero b d m below is = ap (λ k. k ∷ xs) is
 set_raised (x ∷ xs) (suc i) b d m below is = ap (λ ys. x ∷ ys) (set_raised xs i b d m (omega (arith, below)) is)

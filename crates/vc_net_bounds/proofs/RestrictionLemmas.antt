@@ -14,7 +14,8 @@ unit_capped n = ap (λ k. 10 ^ k) (omega arith)
 pub literal_capped : (r : Relation) (n : ℕ) (a : Value) → literal_for r (min n 6) a ≡ literal_for r n a
 literal_capped Equal n (Text t) = refl
 literal_capped Equal n (Num a) =
-    ap (λ u. Num (record { millionths = with_sign a.millionths (nearest (unsigned_abs a.millionths) u * u) })) (unit_capped n)
+    ap (λ u. Num (record { millionths = with_sign a.millionths (nearest (unsigned_abs a.millionths) u * u) }))
+    (unit_capped n)
 literal_capped Unequal n a = refl
 literal_capped Less n a = refl
 literal_capped AtMost n a = refl

@@ -1,5 +1,6 @@
 -- How many rows of a table have each grain, and which of these counts are kept.
-use Rattle.std.specs.Prelude.{◌≡◌, ℕ, Bool, List, [], ◌∷◌, length, map, slice_get, slice_index_or, ◌+◌, Option, None, Some}
+use Rattle.std.specs.Prelude.{◌≡◌, ℕ, Bool, List, [], ◌∷◌, length, map, slice_get, slice_index_or, ◌+◌, Option, None}
+use Rattle.std.specs.Prelude.{Some}
 use Rattle.std.specs.List.{filter}
 use Rattle.vc_value.specs.declared.value.Value.{Value}
 use Rattle.vc_plan.specs.declared.conditions.Piece.{Piece}

@@ -1,5 +1,6 @@
 -- The bounds of places, raised rule by rule to what is needed there.
-use Rattle.std.specs.Prelude.{ℕ, zero, suc, ◌+◌, max, Bool, false, not, ◌&&◌, ◌==◌, if◌then◌else◌, List, [], ◌∷◌, length, Option, None, Some}
+use Rattle.std.specs.Prelude.{ℕ, zero, suc, ◌+◌, max, Bool, false, not, ◌&&◌, ◌==◌, if◌then◌else◌, List, [], ◌∷◌}
+use Rattle.std.specs.Prelude.{length, Option, None, Some}
 use Rattle.std.specs.List.{list_any}
 use Rattle.vc_plan.specs.declared.conditions.Piece.{Piece}
 use Rattle.vc_plan.specs.declared.plans.Plan.{Plan}
@@ -7,7 +8,8 @@ use Rattle.vc_plan.specs.declared.rules.Binding.{Binding}
 use Rattle.vc_plan.specs.declared.rules.Kind.{Kind}
 use Rattle.vc_plan.specs.declared.rules.Kind.TheVariants.{Among, Compare, Equate, ByTable, Never, Last, Line}
 use Rattle.vc_plan.specs.declared.rules.Rule.{Rule}
-use Rattle.vc_plan.specs.Bounds.{Place, here_at, out_at, is_at, acting_size, condition_size, compare_bound, equate_bound, here_bound, is_bound, only_if, out_bound, rows_with}
+use Rattle.vc_plan.specs.Bounds.{Place, here_at, out_at, is_at, acting_size, condition_size, compare_bound}
+use Rattle.vc_plan.specs.Bounds.{equate_bound, here_bound, is_bound, only_if, out_bound, rows_with}
 use Rattle.vc_plan.specs.Domains.{is_grain_with, is_restrictable}
 use Rattle.vc_plan.specs.TableRows.{is_column_of, rows_of}
 use Rattle.vc_net_places.specs.Cells.{all_places}
@@ -85,7 +87,8 @@ at_line i b place = if i == 0 then 0 else at_place (here_at i) b place
 abbrev pub at_narrowed : Plan → ℕ → List Binding → ℕ → ℕ → Place → ℕ
 at_narrowed plan table columns b v (here_at i) = 0
 at_narrowed plan table columns b v (out_at w g) =
-    only_if ((v == w) && (list_any (is_column_of v) columns && is_restrictable plan v)) (with_rows plan table columns v b g)
+    only_if ((v == w) && (list_any (is_column_of v) columns && is_restrictable plan v))
+    (with_rows plan table columns v b g)
 at_narrowed plan table columns b v (is_at w) =
     only_if ((v == w) && (list_any (is_column_of v) columns && not (is_restrictable plan v)))
     (capped (b + length (rows_of plan table)))

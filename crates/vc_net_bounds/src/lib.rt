@@ -12,6 +12,3 @@ pub mod sizes;
 pub mod tables;
 
 pub use bounds::{Bounds, Counted, bounds_of};
-
-#[cfg(test)]
-mod tests;

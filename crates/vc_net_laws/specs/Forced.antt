@@ -40,13 +40,15 @@ LogsAreForced = (plan : Plan) (sources : Sources) (log : List Step) → is_accep
 
 -- and each atom that a giver gives at a forced set
 abbrev pub GivenIsForced : Type 0
-GivenIsForced = (plan : Plan) (sources : Sources) (set : List Atom) (giver : Giver) (atom : Atom) → IsForced plan sources set
+GivenIsForced = (plan : Plan) (sources : Sources) (set : List Atom) (giver : Giver) (atom : Atom)
+    → IsForced plan sources set
     → has same_atom (atoms_of (gives plan sources giver (seen_of set))) atom ≡ true → IsForced plan sources (atom ∷ [])
 
 -- a sound set with one forced atom more is sound, where it is clear
 abbrev pub SoundSetsGrow : Type 0
 SoundSetsGrow = (plan : Plan) (sources : Sources) (set : List Atom) (atom : Atom) → IsSound plan sources set
-    → IsForced plan sources (atom ∷ []) → is_clear plan (set ++ atom ∷ []) ≡ true → IsSound plan sources (set ++ atom ∷ [])
+    → IsForced plan sources (atom ∷ []) → is_clear plan (set ++ atom ∷ []) ≡ true
+    → IsSound plan sources (set ++ atom ∷ [])
 
 -- where it isn't clear, settling is broken
 abbrev pub UnclearBreaks : Type 0

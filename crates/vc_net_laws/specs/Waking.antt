@@ -28,7 +28,8 @@ giver_differs old new (by_rule r) = false
 giver_differs old new (by_user v) = user_differs old new v
 giver_differs old new (by_entry v) = entry_differs old new v
 
--- whether the giver is to be asked when the atom has come to the set: it touches the atom's thing, and its trigger, where
+-- whether the giver is to be asked when the atom has come to the set: it touches the atom's thing, and its trigger,
+-- where
 -- it has one, stands then
 abbrev pub is_woken : Plan → List Atom → Atom → Giver → Bool
 is_woken plan set atom giver =
@@ -36,7 +37,8 @@ is_woken plan set atom giver =
 
 -- the first set has just the atoms of the other two
 abbrev pub IsSplit : List Atom → List Atom → List Atom → Type 0
-IsSplit set kept dropped = (atom : Atom) → has same_atom set atom ≡ (has same_atom kept atom || has same_atom dropped atom)
+IsSplit set kept dropped = (atom : Atom)
+    → has same_atom set atom ≡ (has same_atom kept atom || has same_atom dropped atom)
 
 -- a giver that doesn't touch the thing of an atom that comes to a clear set gives what it gave
 abbrev pub UntouchedGivesTheSame : Type 0
@@ -44,7 +46,8 @@ UntouchedGivesTheSame = (plan : Plan) (sources : Sources) (set : List Atom) (ato
     → is_clear plan set ≡ true → giver_touches plan giver (thing_of atom) ≡ false
     → gives plan sources giver (seen_of (set ++ atom ∷ [])) ≡ gives plan sources giver (seen_of set)
 
--- and so does, at what is kept of a clear set when sources change, a giver that touches nothing dropped and doesn't differ
+-- and so does, at what is kept of a clear set when sources change, a giver that touches nothing dropped and doesn't
+-- differ
 abbrev pub UnchangedGivesTheSame : Type 0
 UnchangedGivesTheSame = (plan : Plan) (old new : Sources) (set kept dropped : List Atom) (giver : Giver)
     → is_clear plan set ≡ true → IsSplit set kept dropped → touches_some plan dropped giver ≡ false

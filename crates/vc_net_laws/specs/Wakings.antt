@@ -44,12 +44,15 @@ WokenAreFew = (plan : Plan) (set : List Atom) (atom : Atom) → length (woken pl
 abbrev pub AtomsPayForTurns : Type 0
 AtomsPayForTurns = (plan : Plan) (set : List Atom) (atom : Atom) (agenda later : List Giver)
     → is_clear plan (set ++ atom ∷ []) ≡ true → IsDistinct same_atom (set ++ atom ∷ [])
-    → length later ≤ length agenda + givers_at plan atom → turns_left plan (set ++ atom ∷ []) later ≤ turns_left plan set agenda
+    → length later ≤ length agenda + givers_at plan atom
+    → turns_left plan (set ++ atom ∷ []) later ≤ turns_left plan set agenda
 
--- the rules that touch one of the things, and as often as distinct atoms of these things, which are clear, wake one, are
+-- the rules that touch one of the things, and as often as distinct atoms of these things, which are clear, wake one,
+-- are
 -- within the work on the things
 abbrev pub WorkIsEnough : Type 0
-WorkIsEnough = (plan : Plan) (atoms : List Atom) (things : List Thing) → is_clear plan atoms ≡ true → IsDistinct same_atom atoms
+WorkIsEnough = (plan : Plan) (atoms : List Atom) (things : List Thing) → is_clear plan atoms ≡ true
+    → IsDistinct same_atom atoms
     → ((atom : Atom) → has same_atom atoms atom ≡ true → has_thing things (thing_of atom) ≡ true)
     → length (filter (λ rule. list_any (touches plan rule) things) plan.rules) + sum_by (rules_at plan) atoms
     ≤ work_on plan things

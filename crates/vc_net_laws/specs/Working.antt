@@ -1,4 +1,5 @@
--- The work on the way to where settling ends: the atoms that stand, and an agenda of the givers that may have more to say.
+-- The work on the way to where settling ends: the atoms that stand, and an agenda of the givers that may have more to
+-- say.
 use Rattle.std.specs.Prelude.{◌≡◌, Bool, true, false, ◌&&◌, ◌||◌, ◌==◌, List, [], ◌∷◌, ◌++◌}
 use Rattle.std.specs.List.{IsDistinct, filter}
 use Rattle.vc_base.specs.Rounds.{settled}
@@ -49,15 +50,18 @@ disturbed plan old new kept dropped = filter (is_disturbed plan old new kept dro
 
 -- the work may begin with any log, also with none, where all givers are on the agenda
 abbrev pub WorkBegins : Type 0
-WorkBegins = (plan : Plan) (sources : Sources) (log : List Step) (agenda : List Giver) → is_accepted plan sources log ≡ true
+WorkBegins = (plan : Plan) (sources : Sources) (log : List Step) (agenda : List Giver)
+    → is_accepted plan sources log ≡ true
     → is_clear plan (set_with (concluded log)) ≡ true → IsDistinct same_atom (set_with (concluded log))
     → Within same_giver (givers_of plan) agenda → IsWorking plan sources agenda (set_with (concluded log))
 
--- it goes on with one atom more, which is forced and with which the atoms are clear, where those woken come on the agenda
+-- it goes on with one atom more, which is forced and with which the atoms are clear, where those woken come on the
+-- agenda
 abbrev pub AtomsCome : Type 0
 AtomsCome = (plan : Plan) (sources : Sources) (agenda later : List Giver) (set : List Atom) (atom : Atom)
     → IsWorking plan sources agenda set → IsForced plan sources (atom ∷ []) → has same_atom set atom ≡ false
-    → is_clear plan (set ++ atom ∷ []) ≡ true → Within same_giver agenda later → Within same_giver (woken plan set atom) later
+    → is_clear plan (set ++ atom ∷ []) ≡ true → Within same_giver agenda later
+    → Within same_giver (woken plan set atom) later
     → IsWorking plan sources later (set ++ atom ∷ [])
 
 -- who is quiet may leave the agenda, and anybody may come on it

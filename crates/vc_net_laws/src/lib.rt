@@ -6,6 +6,3 @@ pub mod laws;
 pub mod triggers;
 
 pub use triggers::Trigger;
-
-#[cfg(test)]
-mod tests;

@@ -1,5 +1,6 @@
 -- What the counts of grains say of atoms that may come to a clear set.
-use Rattle.std.proofs.Common.{◌≡◌, ℕ, zero, suc, ◌+◌, ◌<◌, ◌⊎◌, Bool, true, false, not, ◌&&◌, ◌||◌, List, [], ◌∷◌, ◌++◌, length, refl, sym, ◌∙◌, ap, subst, inl, inr, arith}
+use Rattle.std.proofs.Common.{◌≡◌, ℕ, zero, suc, ◌+◌, ◌<◌, ◌⊎◌, Bool, true, false, not, ◌&&◌, ◌||◌, List, [], ◌∷◌, ◌++◌}
+use Rattle.std.proofs.Common.{length, refl, sym, ◌∙◌, ap, subst, inl, inr, arith}
 use Rattle.std.specs.Prelude.{◌==◌, if◌then◌else◌, nat_eq, nat_lt, slice_index_or}
 use Rattle.std.specs.List.{IsDistinct, list_all, list_any, range_with_len}
 use Rattle.std.proofs.lemmas.Bool.{cases_lt, ltb-true, or_left}
@@ -20,7 +21,8 @@ use Rattle.vc_net_places.proofs.PlaceLaws.Things.{firsts_are_counted}
 use Rattle.vc_net_standing.specs.Coming.{is_held_by, may_come}
 use Rattle.vc_net_standing.specs.Standing.{Stood, atoms_of, seen_by}
 use Rattle.vc_net_standing.proofs.ComingLaws.{who_may_come_stays_clear}
-use Rattle.vc_net_standing.proofs.CountLaws.{all_alike, all_apart, counted, filled, grains_out, once, out_there, outs_are_counted, outs_below}
+use Rattle.vc_net_standing.proofs.CountLaws.{all_alike, all_apart, counted, filled, grains_out, once, out_there}
+use Rattle.vc_net_standing.proofs.CountLaws.{outs_are_counted, outs_below}
 use Rattle.vc_net_log.specs.Coming.{has_full, is_full, is_full_with}
 use Rattle.vc_net_log.specs.Keeping.{IsCounted, IsKept, log_kept}
 use Rattle.vc_net_log.specs.Logs.{Logged, set_of}

@@ -1,5 +1,6 @@
 -- What is kept of a log says what stands; the cells of places don't overlap.
-use Rattle.std.proofs.Common.{◌≡◌, ℕ, zero, suc, ◌+◌, ◌-◌, ◌<◌, ◌≤◌, List, [], ◌∷◌, length, map, refl, sym, ◌∙◌, ap, subst, arith}
+use Rattle.std.proofs.Common.{◌≡◌, ℕ, zero, suc, ◌+◌, ◌-◌, ◌<◌, ◌≤◌, List, [], ◌∷◌, length, map, refl, sym, ◌∙◌, ap}
+use Rattle.std.proofs.Common.{subst, arith}
 use Rattle.std.specs.Prelude.{slice_index_or}
 use Rattle.vc_plan_reasons.specs.Checking.{concluded}
 use Rattle.vc_net_standing.specs.declared.standing.Fact.{Fact}

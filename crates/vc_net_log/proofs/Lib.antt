@@ -6,6 +6,7 @@ pub mod LogRows
 pub mod NewLaws
 pub mod NumberLaws
 pub mod OutLaws
+pub mod PremiseLaws
 pub mod PushLaws
 pub mod ScanLaws
 pub mod WritingLaws

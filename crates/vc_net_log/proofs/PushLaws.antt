@@ -1,5 +1,6 @@
 -- A step comes at the end of what is kept.
-use Rattle.std.proofs.Common.{◌≡◌, ℕ, zero, suc, ◌+◌, ◌-◌, ◌^◌, ◌<◌, ◌≤◌, ◌⊎◌, Bool, true, false, not, List, [], ◌∷◌, ◌++◌, length, map, take, drop, refl, sym, ◌∙◌, ap, subst, inl, inr, arith, length-append}
+use Rattle.std.proofs.Common.{◌≡◌, ℕ, zero, suc, ◌+◌, ◌-◌, ◌^◌, ◌<◌, ◌≤◌, ◌⊎◌, Bool, true, false, not, List, [], ◌∷◌}
+use Rattle.std.proofs.Common.{◌++◌, length, map, take, drop, refl, sym, ◌∙◌, ap, subst, inl, inr, arith, length-append}
 use Rattle.std.specs.Prelude.{Some, get_or, nat_eq, nat_lt, slice_get, slice_index_or, slice_set}
 use Rattle.std.specs.List.{IsDistinct, list_all}
 use Rattle.std.proofs.lemmas.Bool.{and_from, and_parts, cases_lt, lt-ltb, ltb-true}
@@ -24,7 +25,8 @@ use Rattle.vc_net_standing.proofs.StandingLaws.{distinct_more}
 use Rattle.vc_net_log.specs.Keeping.{IsCounted, IsKept, cells_at, log_kept, number_at, raised_at, step_kept, written}
 use Rattle.vc_net_log.specs.Logs.{Logged, room_at, step_from, stood_of, with_step}
 use Rattle.vc_net_log.proofs.KeptLaws.{concludes, room_before, room_inside, stands_by, used_before}
-use Rattle.vc_net_log.proofs.NumberLaws.{atom_placed, mapped_each, mapped_if, mapped_within, number_agrees, number_stays}
+use Rattle.vc_net_log.proofs.NumberLaws.{atom_placed, mapped_each, mapped_if, mapped_within, number_agrees}
+use Rattle.vc_net_log.proofs.NumberLaws.{number_stays}
 use Rattle.vc_net_log.proofs.OutLaws.{counted_few, raised_counts, raised_long}
 use Rattle.vc_net_log.proofs.WritingLaws.{written_elsewhere, written_long, written_there}
 

@@ -1,5 +1,7 @@
 -- How a net keeps the premises of its steps: as numbers of places, in cells of the conclusion's place.
-use Rattle.std.specs.Prelude.{◌≡◌, ◌<◌, ◌≤◌, ◌+◌, ◌-◌, ◌^◌, ℕ, suc, true, nat_eq, nat_lt, if◌then◌else◌, List, [], ◌∷◌, drop, length, map, position, slice_get, slice_index_or, slice_set, take, Option, None, Some}
+use Rattle.std.specs.Prelude.{◌≡◌, ◌<◌, ◌≤◌, ◌+◌, ◌-◌, ◌^◌, ℕ, suc, true, nat_eq, nat_lt, if◌then◌else◌, List, [], ◌∷◌}
+use Rattle.std.specs.Prelude.{drop, length, map, position, slice_get, slice_index_or, slice_set, take, Option, None}
+use Rattle.std.specs.Prelude.{Some}
 use Rattle.std.specs.List.{IsDistinct, list_all}
 use Rattle.vc_base.specs.Sets.{has}
 use Rattle.vc_plan.specs.declared.atoms.Atom.{Atom}

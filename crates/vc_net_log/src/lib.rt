@@ -9,6 +9,3 @@ pub mod log;
 pub mod steps;
 
 pub use log::Log;
-
-#[cfg(test)]
-mod tests;

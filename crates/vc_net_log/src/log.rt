@@ -1,9 +1,9 @@
 //! The log of a net.
 
-use crate::cells::write_places;
+use crate::cells::{premises_at, write_places};
 use crate::coming::{may_come_here, may_come_is, may_come_out};
 use crate::counting::{count_all_less, count_one_more};
-use crate::steps::steps_of;
+use crate::steps::{number_at, steps_of};
 use std::alloc::{AllocError, Global};
 use std::marker::Model;
 use vc_net_places::Cells;
@@ -37,7 +37,7 @@ impl Model for Log {
 }
 
 impl Log {
-    ghost use Rattle.std.specs.Prelude.{◌≡◌, ◌++◌, ◌^◌, ◌<◌, ◌≤◌, ◌∷◌, [], true, length, position, IfOk};
+    ghost use Rattle.std.specs.Prelude.{◌≡◌, ◌++◌, ◌^◌, ◌<◌, ◌≤◌, ◌∷◌, [], true, length, map, position, IfOk};
     ghost use Rattle.vc_base.specs.Sets.{has, Within};
     ghost use Rattle.vc_plan.specs.Clear.{is_clear};
     ghost use Rattle.vc_plan.specs.Domains.{atom_count};
@@ -48,6 +48,7 @@ impl Log {
     ghost use Rattle.vc_net_standing.specs.Standing.{is_free};
     ghost use Rattle.vc_net_log.specs.Coming.{are_by_slot};
     ghost use Rattle.vc_net_log.specs.Logs.{facts_of, nothing_logged, room_at, seen_by, set_of, stood_of, with_step};
+    ghost use Rattle.vc_net_log.specs.Numbers.{number_by_place, premises_of};
 
     /// The log without steps, with so many cells for the premises of each place.
     pub fn new(alloc: Global, plan: &Plan, bounds: &[u32]) -> Result<Log, AllocError>
@@ -89,6 +90,35 @@ impl Log {
         ensures { result ≡ position (same_atom atom) (concluded self.now.steps) }
     {
         self.standing.number_of(atom)
+    }
+
+    /// How many steps there are.
+    pub fn count(&self) -> usize
+        ensures { result ≡ length self.now.steps }
+    {
+        self.standing.facts().len()
+    }
+
+    /// The places of the atoms that a step follows from; steps are counted from 0.
+    pub fn premises(&self, step: usize) -> &[u32]
+        requires { step < length self.now.steps }
+        ensures { map (number_by_place self.now) result.now ≡ premises_of self.now.steps step }
+    {
+        let fact = self.standing.facts()[step];
+        let place = self.standing.places().place_of(fact.atom);
+        premises_at(
+            &self.cells,
+            self.counts.as_slice(),
+            self.premises.as_slice(),
+            place,
+        )
+    }
+
+    /// The number of the step that concludes what is at a place, counted from 1; 0 where none does.
+    pub fn number_by_place(&self, place: usize) -> u32
+        ensures { result ≡ number_by_place self.now place }
+    {
+        number_at(&self.standing, place)
     }
 
     /// Whether a step concludes the atom.

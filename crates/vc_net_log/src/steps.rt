@@ -12,8 +12,8 @@ use vc_net_standing::{Fact, Standing};
 use vc_plan::Step;
 use vc_value::Listed;
 
-// The number of the step that concludes what is at the place.
-fn number_at(standing: &Standing, place: usize) -> u32
+/// The number of the step that concludes what is at the place, counted from 1; 0 where none does.
+pub fn number_at(standing: &Standing, place: usize) -> u32
     ensures { result ≡ number_at (places_of standing.now.index standing.now.facts) place }
 {
     match standing.number_by_place(place) {

@@ -69,7 +69,8 @@ in_order : all_places pump
     ∷ is_at 2 ∷ out_at 2 0 ∷ []
 in_order = refl
 
--- a value by the last grain needs the variable's grains; a grain that the table takes needs the rule's slot and its rows;
+-- a value by the last grain needs the variable's grains; a grain that the table takes needs the rule's slot and its
+-- rows;
 -- a flow is by the user or by its last grain, which is its only one
 bounds : bounds_of pump ≡ 0 ∷ 3 ∷ 2 ∷ 3 ∷ 2 ∷ 3 ∷ 3 ∷ 2 ∷ 2 ∷ 1 ∷ 0 ∷ []
 bounds = refl

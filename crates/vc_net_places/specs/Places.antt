@@ -1,6 +1,7 @@
 -- The place of each atom that may stand in a net: the plan's slots first, then variable by variable one place for its
 -- value and one for each of its grains.
-use Rattle.std.specs.Prelude.{ℕ, ◌+◌, Bool, ◌&&◌, nat_lt, List, ◌++◌, length, map, replicate, slice_index_or, zero, suc, ◌-◌, slice_get, Option, None, Some}
+use Rattle.std.specs.Prelude.{ℕ, ◌+◌, Bool, ◌&&◌, nat_lt, List, ◌++◌, length, map, replicate, slice_index_or, zero, suc}
+use Rattle.std.specs.Prelude.{◌-◌, slice_get, Option, None, Some}
 use Rattle.std.specs.List.{flat_map, sum_by}
 use Rattle.vc_plan.specs.declared.atoms.Atom.{Atom}
 use Rattle.vc_plan.specs.declared.atoms.Atom.TheVariants.{Here, Out, Is}

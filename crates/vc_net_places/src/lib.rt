@@ -8,6 +8,3 @@ pub mod places;
 
 pub use cells::Cells;
 pub use places::{Places, Spot, Thing};
-
-#[cfg(test)]
-mod tests;

@@ -1,5 +1,6 @@
 -- Who is asked touches the thing, and no more are asked than touch it.
-use Rattle.std.proofs.Common.{◌≡◌, ℕ, ◌+◌, ◌<◌, ◌≤◌, ◌⊎◌, Bool, true, false, List, [], ◌∷◌, ◌++◌, length, map, refl, sym, ◌∙◌, ap, subst, inl, inr, arith, length-append}
+use Rattle.std.proofs.Common.{◌≡◌, ℕ, ◌+◌, ◌<◌, ◌≤◌, ◌⊎◌, Bool, true, false, List, [], ◌∷◌, ◌++◌, length, map, refl}
+use Rattle.std.proofs.Common.{sym, ◌∙◌, ap, subst, inl, inr, arith, length-append}
 use Rattle.std.specs.Prelude.{Option, None, Some, nat_eq, ◌==◌, ◌||◌, cond, not, slice_get}
 use Rattle.std.specs.List.{filter, list_any}
 use Rattle.std.specs.Option.{option_to_list}
@@ -12,7 +13,8 @@ use Rattle.vc_base.proofs.ListLaws.{number_itself}
 use Rattle.vc_base.proofs.SetLaws.{both}
 use Rattle.vc_plan.specs.declared.atoms.Atom.TheVariants.{Out}
 use Rattle.vc_plan.specs.declared.conditions.Condition.{Condition}
-use Rattle.vc_plan.specs.declared.conditions.Condition.TheVariants.{Always, Compared, IsIn, Specified, Holds, Filled, Not', And', Or'}
+use Rattle.vc_plan.specs.declared.conditions.Condition.TheVariants.{Always, Compared, IsIn, Specified, Holds, Filled}
+use Rattle.vc_plan.specs.declared.conditions.Condition.TheVariants.{Not', And', Or'}
 use Rattle.vc_plan.specs.declared.conditions.Relation.{Relation}
 use Rattle.vc_plan.specs.declared.conditions.Relation.TheVariants.{Equal, Unequal, Less, AtMost, Greater, AtLeast}
 use Rattle.vc_plan.specs.declared.plans.Plan.{Plan}
@@ -25,7 +27,8 @@ use Rattle.vc_plan.specs.Gives.{by_rule}
 use Rattle.vc_plan.specs.Reads.{vars_in, vars_of_condition, vars_read}
 use Rattle.vc_plan_reasons.specs.Things.{slot_at, var_at, vars_of_kind}
 use Rattle.vc_net_laws.specs.declared.triggers.Trigger.{Trigger}
-use Rattle.vc_net_laws.specs.Triggers.{first_trigger, trigger_by, trigger_in, trigger_in_rule, trigger_of_condition, trigger_of_relation, trigger_of_sides}
+use Rattle.vc_net_laws.specs.Triggers.{first_trigger, trigger_by, trigger_in, trigger_in_rule, trigger_of_condition}
+use Rattle.vc_net_laws.specs.Triggers.{trigger_of_relation, trigger_of_sides}
 use Rattle.vc_net_places.specs.Places.{index_of, is_place, place_in}
 use Rattle.vc_net_places.proofs.PlaceLaws.Numbering.{places_are_apart}
 use Rattle.vc_net_places.proofs.PlaceLaws.Things.{index_tells_places, length_range}
@@ -38,7 +41,8 @@ use Rattle.vc_net_readers.proofs.ReaderLaws.{grain_there, listed, or_true}
 use Rattle.vc_net_readers.proofs.TouchedLemmas.{any_kept, or_false, var_in_rule}
 
 -- a trigger's variable stands in the condition
-sides_read : (v : ℕ) (a b : Term) → is_own v (trigger_of_sides a b) ≡ true → list_any (nat_eq v) (vars_in a ++ vars_in b) ≡ true
+sides_read : (v : ℕ) (a b : Term) → is_own v (trigger_of_sides a b) ≡ true
+    → list_any (nat_eq v) (vars_in a ++ vars_in b) ≡ true
 sides_read v (Literal x) (Literal y) e = absurd (cc)
 sides_read v (Literal x) (Read w) e = or_false (v == w) ∙ e
 sides_read v (Literal x) (PartSum s c) e = absurd (cc)
@@ -65,7 +69,8 @@ relation_reads v AtMost a b e = absurd (cc)
 relation_reads v Greater a b e = absurd (cc)
 relation_reads v AtLeast a b e = absurd (cc)
 
-first_or_second : (v : ℕ) (o p : Option Trigger) → is_own v (first_trigger o p) ≡ true → (is_own v o ≡ true) ⊎ (is_own v p ≡ true)
+first_or_second : (v : ℕ) (o p : Option Trigger) → is_own v (first_trigger o p) ≡ true
+    → (is_own v o ≡ true) ⊎ (is_own v p ≡ true)
 first_or_second v None p e = inr e
 first_or_second v (Some t) p e = inl e
 
@@ -107,13 +112,15 @@ rule_has plan v (Some rule) e =
     any_first v (vars_of_condition (slice_get plan.conditions rule.condition)) (vars_of_kind plan rule.kind)
     (trigger_read v (slice_get plan.conditions rule.condition) e)
 
-own_touches : (plan : Plan) (v r : ℕ) → is_own v (trigger_by plan (by_rule r)) ≡ true → is_reader plan (var_at v) r ≡ true
+own_touches : (plan : Plan) (v r : ℕ) → is_own v (trigger_by plan (by_rule r)) ≡ true
+    → is_reader plan (var_at v) r ≡ true
 own_touches plan v r e =
     sym (var_in_rule plan (slice_get plan.rules r) v) ∙ rule_has plan v (slice_get plan.rules r) e
 
 -- who waits at a grain's place has a trigger of the variable
 waits_own : (plan : Plan) (v g : ℕ) → is_place plan (out_at v g) ≡ true → (o : Option Trigger)
-    → list_any (nat_eq (place_in (index_of plan) (Out v g))) (option_to_list (place_of_trigger plan o)) ≡ true → is_own v o ≡ true
+    → list_any (nat_eq (place_in (index_of plan) (Out v g))) (option_to_list (place_of_trigger plan o)) ≡ true
+    → is_own v o ≡ true
 waits_own plan v g there None e = absurd (cc)
 waits_own plan v g there (Some t) e = by (grain_with plan t.var t.value) refl e
   where
@@ -121,12 +128,14 @@ waits_own plan v g there (Some t) e = by (grain_with plan t.var t.value) refl e
     here = place_in (index_of plan) (Out v g)
 
     by : (h : Option ℕ) → grain_with plan t.var t.value ≡ h
-        → list_any (nat_eq here) (option_to_list (place_in_grain (index_of plan) t.var h)) ≡ true → is_own v (Some t) ≡ true
+        → list_any (nat_eq here) (option_to_list (place_in_grain (index_of plan) t.var h)) ≡ true
+        → is_own v (Some t) ≡ true
     by None is e = absurd (cc)
     by (Some h) is e =
         let other = grain_there plan t.var h t.value is in
         let same : here ≡ place_in (index_of plan) (Out t.var h)
-        = eqb-true here (place_in (index_of plan) (Out t.var h)) (sym (or_false (nat_eq here (place_in (index_of plan) (Out t.var h)))) ∙ e) in
+        = eqb-true here (place_in (index_of plan) (Out t.var h))
+        (sym (or_false (nat_eq here (place_in (index_of plan) (Out t.var h)))) ∙ e) in
         let one : out_at v g ≡ out_at t.var h
         = places_are_apart plan (out_at v g) (out_at t.var h) there other
         (sym (index_tells_places plan (Out v g) there) ∙ (same ∙ index_tells_places plan (Out t.var h) other)) in
@@ -138,7 +147,8 @@ waiting_own : (plan : Plan) (v g r : ℕ) → is_place plan (out_at v g) ≡ tru
 waiting_own plan v g r there e = waits_own plan v g there (trigger_by plan (by_rule r)) e
 
 -- a list of a mapped range is that of the number, or none
-listed_or : (f : ℕ → List ℕ) (n i : ℕ) → (list_at (map f (numbers_below n)) i ≡ f i) ⊎ (list_at (map f (numbers_below n)) i ≡ [])
+listed_or : (f : ℕ → List ℕ) (n i : ℕ)
+    → (list_at (map f (numbers_below n)) i ≡ f i) ⊎ (list_at (map f (numbers_below n)) i ≡ [])
 listed_or f n i = by (cases_lt i n)
   where
     count : length (map f (numbers_below n)) ≡ n
@@ -148,10 +158,12 @@ listed_or f n i = by (cases_lt i n)
     by (inl below) = inl (listed f n i below)
     by (inr past) = inr (ap list_or_none (slice_get_past (map f (numbers_below n)) i (omega (arith, past, count))))
 
-told_in : (f : ℕ → List ℕ) (n i r : ℕ) → has nat_eq (list_at (map f (numbers_below n)) i) r ≡ true → has nat_eq (f i) r ≡ true
+told_in : (f : ℕ → List ℕ) (n i r : ℕ) → has nat_eq (list_at (map f (numbers_below n)) i) r ≡ true
+    → has nat_eq (f i) r ≡ true
 told_in f n i r e = by (listed_or f n i)
   where
-    by : ((list_at (map f (numbers_below n)) i ≡ f i) ⊎ (list_at (map f (numbers_below n)) i ≡ [])) → has nat_eq (f i) r ≡ true
+    by : ((list_at (map f (numbers_below n)) i ≡ f i) ⊎ (list_at (map f (numbers_below n)) i ≡ []))
+        → has nat_eq (f i) r ≡ true
     by (inl is) = ap (λ xs. has nat_eq xs r) (sym is) ∙ e
     by (inr none) =
         let nothing_there : has nat_eq [] r ≡ true = ap (λ xs. has nat_eq xs r) (sym none) ∙ e in
@@ -183,17 +195,20 @@ asked_touch plan (var_at v) grain r ranged e =
     by grain ranged (inl rests_there) =
         let p = and_parts (is_reader plan (var_at v) r) (rests (trigger_by plan (by_rule r)) v)
         (passes_test (rests_at plan v) (length plan.rules) r
-        (told_in (λ n. filter (rests_at plan n) (numbers_below (length plan.rules))) (length plan.vars) v r rests_there)) in
+        (told_in (λ n. filter (rests_at plan n) (numbers_below (length plan.rules))) (length plan.vars) v r
+        rests_there)) in
         p.0
     by None ranged (inr waits) = absurd (cc)
     by (Some g) ranged (inr waits) =
         let place = place_in (index_of plan) (Out v g) in
         own_touches plan v r (waiting_own plan v g r ranged
         (passes_test (waits_at plan place) (length plan.rules) r
-        (told_in (λ n. filter (waits_at plan n) (numbers_below (length plan.rules))) (length (index_of plan).things) place r waits)))
+        (told_in (λ n. filter (waits_at plan n) (numbers_below (length plan.rules))) (length (index_of plan).things)
+        place r waits)))
 
 -- two parts that don't overlap are no more than what has both
-step : (a b c : Bool) (x : ℕ) (xs ys zs : List ℕ) → (a ≡ true → c ≡ true) → (b ≡ true → c ≡ true) → (a ≡ true → b ≡ true → ⊥)
+step : (a b c : Bool) (x : ℕ) (xs ys zs : List ℕ) → (a ≡ true → c ≡ true) → (b ≡ true → c ≡ true)
+    → (a ≡ true → b ≡ true → ⊥)
     → length xs + length ys ≤ length zs
     → length (cond a (x ∷ xs) xs) + length (cond b (x ∷ ys) ys) ≤ length (cond c (x ∷ zs) zs)
 step true true c x xs ys zs f g apart few = absurd (apart refl refl)
@@ -209,7 +224,8 @@ parts_few : (p q s : ℕ → Bool) → ((r : ℕ) → p r ≡ true → s r ≡ t
     → length (filter p xs) + length (filter q xs) ≤ length (filter s xs)
 parts_few p q s f g apart [] = omega arith
 parts_few p q s f g apart (x ∷ xs) =
-    step (p x) (q x) (s x) x (filter p xs) (filter q xs) (filter s xs) (f x) (g x) (apart x) (parts_few p q s f g apart xs)
+    step (p x) (q x) (s x) x (filter p xs) (filter q xs) (filter s xs) (f x) (g x) (apart x)
+    (parts_few p q s f g apart xs)
 
 listed_few : (f : ℕ → List ℕ) (n i : ℕ) → length (list_at (map f (numbers_below n)) i) ≤ length (f i)
 listed_few f n i = by (listed_or f n i)
@@ -243,10 +259,13 @@ asked_are_few plan (var_at v) grain ranged = by grain ranged
         let p = and_parts (is_reader plan (var_at v) r) (rests (trigger_by plan (by_rule r)) v) e in
         both p.1 (ap (λ b. not b) (waiting_own plan v g r there w))
 
-    by : (grain : Option ℕ) → IsGrain plan (var_at v) grain → length (asked plan (var_at v) grain) ≤ length (readers_at plan (var_at v))
+    by : (grain : Option ℕ) → IsGrain plan (var_at v) grain
+        → length (asked plan (var_at v) grain) ≤ length (readers_at plan (var_at v))
     by None ranged =
         let count = length-append resting [] in
-        let parts = parts_few (rests_at plan v) (λ r. false) (is_reader plan (var_at v)) touches (λ r e. absurd (cc)) (λ r e f. absurd (cc)) rules in
+        let parts
+        = parts_few (rests_at plan v) (λ r. false) (is_reader plan (var_at v)) touches (λ r e. absurd (cc))
+        (λ r e f. absurd (cc)) rules in
         omega (arith, count, rest_few, parts)
     by (Some g) ranged =
         let place = place_in (index_of plan) (Out v g) in

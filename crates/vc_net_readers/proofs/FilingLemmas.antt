@@ -1,5 +1,6 @@
 -- Lists of rules after each was put at its places: at each place stand those that have it, in their order.
-use Rattle.std.proofs.Common.{◌≡◌, ℕ, zero, suc, ◌+◌, ◌-◌, ◌<◌, Bool, true, false, cond, ◌⊎◌, List, [], ◌∷◌, ◌++◌, length, map, refl, sym, ◌∙◌, ap, subst, inl, inr, arith, append-nil, length-append}
+use Rattle.std.proofs.Common.{◌≡◌, ℕ, zero, suc, ◌+◌, ◌-◌, ◌<◌, Bool, true, false, cond, ◌⊎◌, List, [], ◌∷◌, ◌++◌}
+use Rattle.std.proofs.Common.{length, map, refl, sym, ◌∙◌, ap, subst, inl, inr, arith, append-nil, length-append}
 use Rattle.std.specs.Prelude.{Option, None, Some, nat_eq, ◌==◌, ◌||◌, if◌then◌else◌, replicate, slice_get, slice_set}
 use Rattle.std.specs.List.{filter, list_any, range_with_len}
 use Rattle.std.proofs.lemmas.Bool.{eqb-true, eqb-false}
@@ -12,7 +13,8 @@ use Rattle.vc_net_places.proofs.PlaceLaws.Things.{get_second}
 use Rattle.vc_net_readers.specs.Filing.{ends_with, filed_at, filed_at_all, filed_below, filed_in, is_told, put_once}
 
 -- an element of a list with one set anew, and how many there are
-get_set : {X : Type 0} (xs : List X) (i : ℕ) (x y : X) → slice_get xs i ≡ Some y → slice_get (slice_set xs i x) i ≡ Some x
+get_set : {X : Type 0} (xs : List X) (i : ℕ) (x y : X) → slice_get xs i ≡ Some y
+    → slice_get (slice_set xs i x) i ≡ Some x
 get_set [] i x y e = absurd (cc)
 get_set (z ∷ xs) zero x y e = refl
 get_set (z ∷ xs) (suc i) x y e = get_set xs i x y e
@@ -38,7 +40,8 @@ get_replicate (suc n) (suc i) x below = get_replicate n i x (omega (arith, below
 ends_last : (xs : List ℕ) (n : ℕ) → ends_with (xs ++ n ∷ []) n ≡ true
 ends_last xs n =
     let count = length-append xs (n ∷ []) in
-    ap (λ o. is_told o n) (get_second xs (n ∷ []) (length (xs ++ n ∷ []) - 1) 0 (omega (arith, count))) ∙ number_itself n
+    ap (λ o. is_told o n) (get_second xs (n ∷ []) (length (xs ++ n ∷ []) - 1) 0 (omega (arith, count)))
+    ∙ number_itself n
 
 put_seen : (base : List ℕ) (seen : Bool) (n : ℕ) → ends_with base n ≡ false
     → put_once (base ++ cond seen (n ∷ []) []) n ≡ base ++ n ∷ []
@@ -90,7 +93,8 @@ filed_one lists place t rule base seen new e = by (told (t == place))
 -- and after it was put at each of several
 filed_each : (places : List ℕ) (lists : List (List ℕ)) (t rule : ℕ) (base : List ℕ) (seen : Bool)
     → ends_with base rule ≡ false → slice_get lists t ≡ Some (base ++ cond seen (rule ∷ []) [])
-    → slice_get (filed_at_all lists places rule) t ≡ Some (base ++ cond (seen || list_any (nat_eq t) places) (rule ∷ []) [])
+    → slice_get (filed_at_all lists places rule) t
+    ≡ Some (base ++ cond (seen || list_any (nat_eq t) places) (rule ∷ []) [])
 filed_each [] lists t rule base seen new e = e ∙ ap (λ b. Some (base ++ cond b (rule ∷ []) [])) (sym (or_false seen))
 filed_each (place ∷ places) lists t rule base seen new e =
     filed_each places (filed_at lists place rule) t rule base (seen || (t == place)) new
@@ -104,11 +108,13 @@ told_has (x ∷ xs) zero n e =
     subst (λ z. has nat_eq (x ∷ xs) z ≡ true) (eqb-true x n e) (has_first nat_eq number_exact number_itself x xs)
 told_has (x ∷ xs) (suc k) n e = has_more nat_eq number_exact number_itself x xs n (told_has xs k n e)
 
-pub has_filter : {X : Type 0} (p test : X → Bool) (xs : List X) → list_any test (filter p xs) ≡ true → list_any test xs ≡ true
+pub has_filter : {X : Type 0} (p test : X → Bool) (xs : List X) → list_any test (filter p xs) ≡ true
+    → list_any test xs ≡ true
 has_filter p test [] h = h
 has_filter p test (x ∷ xs) h = by (p x) (has_filter p test xs) h
   where
-    first : (t : Bool) (before after : Bool) → (before ≡ true → after ≡ true) → (t || before) ≡ true → (t || after) ≡ true
+    first : (t : Bool) (before after : Bool) → (before ≡ true → after ≡ true) → (t || before) ≡ true
+        → (t || after) ≡ true
     first true before after more e = refl
     first false before after more e = more e
 
@@ -150,22 +156,26 @@ filed_get places m (suc n) t below =
     ∙ ap Some (sym (ap (λ k. filter (has_place places t) (numbers_below k)) more ∙ filter_next (has_place places t) n))
 
 -- as many lists as there were
-length_in : (o : Option (List ℕ)) (lists : List (List ℕ)) (place rule : ℕ) → length (filed_in o lists place rule) ≡ length lists
+length_in : (o : Option (List ℕ)) (lists : List (List ℕ)) (place rule : ℕ)
+    → length (filed_in o lists place rule) ≡ length lists
 length_in None lists place rule = refl
 length_in (Some list) lists place rule = length_set lists place (put_once list rule)
 
-length_each : (places : List ℕ) (lists : List (List ℕ)) (rule : ℕ) → length (filed_at_all lists places rule) ≡ length lists
+length_each : (places : List ℕ) (lists : List (List ℕ)) (rule : ℕ)
+    → length (filed_at_all lists places rule) ≡ length lists
 length_each [] lists rule = refl
 length_each (place ∷ places) lists rule =
     length_each places (filed_at lists place rule) rule ∙ length_in (slice_get lists place) lists place rule
 
-length_below : (places : ℕ → List ℕ) (n : ℕ) (lists : List (List ℕ)) → length (filed_below places n lists) ≡ length lists
+length_below : (places : ℕ → List ℕ) (n : ℕ) (lists : List (List ℕ))
+    → length (filed_below places n lists) ≡ length lists
 length_below places zero lists = refl
 length_below places (suc n) lists =
     length_each (places n) (filed_below places n lists) n ∙ length_below places n lists
 
 -- lists that have what is wanted at each place
-told_all : {X : Type 0} (f : ℕ → X) (a : ℕ) (xs : List X) → ((i : ℕ) → i < length xs → slice_get xs i ≡ Some (f (a + i)))
+told_all : {X : Type 0} (f : ℕ → X) (a : ℕ) (xs : List X)
+    → ((i : ℕ) → i < length xs → slice_get xs i ≡ Some (f (a + i)))
     → xs ≡ map f (range_with_len a (length xs))
 told_all f a [] each = refl
 told_all f a (x ∷ xs) each =
@@ -173,7 +183,8 @@ told_all f a (x ∷ xs) each =
     let zero_more : a + 0 ≡ a = omega arith in
     let first : x ≡ f (a + 0) = cc in
     ap (λ z. z ∷ xs) (first ∙ ap f zero_more)
-    ∙ ap (λ zs. f a ∷ zs) (told_all f (a + 1) xs (λ i below. each (suc i) (omega (arith, below)) ∙ ap (λ k. Some (f k)) (shift i)))
+    ∙ ap (λ zs. f a ∷ zs)
+    (told_all f (a + 1) xs (λ i below. each (suc i) (omega (arith, below)) ∙ ap (λ k. Some (f k)) (shift i)))
   where
     shift : (i : ℕ) → a + suc i ≡ (a + 1) + i
     shift i = omega arith
@@ -184,7 +195,8 @@ filed_all places m n =
     let lists = filed_below places n (replicate m []) in
     let count : length lists ≡ m = length_below places n (replicate m []) ∙ length-replicate m [] in
     let f : ℕ → List ℕ = λ t. filter (has_place places t) (numbers_below n) in
-    told_all f 0 lists (λ i below. filed_get places m n i (omega (arith, below, count)) ∙ ap (λ k. Some (f k)) (from_zero i))
+    told_all f 0 lists (λ i below. filed_get places m n i (omega (arith, below, count))
+    ∙ ap (λ k. Some (f k)) (from_zero i))
     ∙ ap (λ k. map f (numbers_below k)) count
   where
     from_zero : (i : ℕ) → i ≡ 0 + i

@@ -1,5 +1,6 @@
 -- Who is woken is asked, and who is asked touches the thing.
-use Rattle.std.proofs.Common.{◌≡◌, ℕ, zero, suc, ◌+◌, ◌<◌, ◌⊎◌, Bool, true, false, List, [], ◌∷◌, ◌++◌, length, map, refl, sym, ◌∙◌, ap, inl, inr, arith}
+use Rattle.std.proofs.Common.{◌≡◌, ℕ, zero, suc, ◌+◌, ◌<◌, ◌⊎◌, Bool, true, false, List, [], ◌∷◌, ◌++◌, length, map}
+use Rattle.std.proofs.Common.{refl, sym, ◌∙◌, ap, inl, inr, arith}
 use Rattle.std.specs.Prelude.{Option, None, Some, nat_eq, nat_lt, ◌||◌, ◌&&◌, cond, not, slice_get}
 use Rattle.std.specs.List.{filter, find, list_any, range_with_len}
 use Rattle.std.specs.Option.{option_to_list}
@@ -69,14 +70,17 @@ place_there : (plan : Plan) (v g : ℕ) → is_place plan (out_at v g) ≡ true
     → place_in (index_of plan) (Out v g) < length (index_of plan).things
 place_there plan v g e =
     slice_get_within (index_of plan).things (place_in (index_of plan) (Out v g)) (thing_at (out_at v g))
-    (ap (slice_get (index_of plan).things) (index_tells_places plan (Out v g) e) ∙ index_tells_things plan (out_at v g) e)
+    (ap (slice_get (index_of plan).things) (index_tells_places plan (Out v g) e)
+    ∙ index_tells_things plan (out_at v g) e)
 
 waits_told : (plan : Plan) (r v g : ℕ) (a : Value) (o : Option Trigger) → trigger_by plan (by_rule r) ≡ o
     → o ≡ Some (record { var = v; value = a }) → grain_with plan v a ≡ Some g
     → waits_at plan (place_in (index_of plan) (Out v g)) r ≡ true
 waits_told plan r v g a o is own e =
-    ap (λ t. list_any (nat_eq (place_in (index_of plan) (Out v g))) (option_to_list (place_of_trigger plan t))) (is ∙ own)
-    ∙ (ap (λ h. list_any (nat_eq (place_in (index_of plan) (Out v g))) (option_to_list (place_in_grain (index_of plan) v h))) e
+    ap (λ t. list_any (nat_eq (place_in (index_of plan) (Out v g))) (option_to_list (place_of_trigger plan t)))
+    (is ∙ own)
+    ∙ (ap (λ h. list_any (nat_eq (place_in (index_of plan) (Out v g)))
+    (option_to_list (place_in_grain (index_of plan) v h))) e
     ∙ ap (λ b. b || false) (number_itself (place_in (index_of plan) (Out v g))))
 
 waiting_found : (plan : Plan) (r v g : ℕ) (a : Value) → r < length plan.rules
@@ -86,7 +90,8 @@ waiting_found plan r v g a below own e =
     let place = place_in (index_of plan) (Out v g) in
     let there = place_there plan v g (grain_there plan v g a e) in
     ap (λ xs. has nat_eq xs r)
-    (listed (λ n. filter (waits_at plan n) (numbers_below (length plan.rules))) (length (index_of plan).things) place there)
+    (listed (λ n. filter (waits_at plan n) (numbers_below (length plan.rules))) (length (index_of plan).things) place
+    there)
     ∙ among (waits_at plan place) (length plan.rules) r below
     (waits_told plan r v g a (Some (record { var = v; value = a })) own refl e)
 
@@ -144,11 +149,17 @@ var_asked plan set v r grain below there valued touches o is stands = by o is st
 
 pub woken_are_asked : WokenAreAsked
 woken_are_asked plan set (Here i) grain r below there valued woken =
-    let p = and_parts (giver_touches plan (by_rule r) (slot_at i)) (stands_in (set ++ Here i ∷ []) (trigger_by plan (by_rule r))) woken in
+    let p
+    = and_parts (giver_touches plan (by_rule r) (slot_at i))
+    (stands_in (set ++ Here i ∷ []) (trigger_by plan (by_rule r))) woken in
     slot_asked plan i r grain below there p.0
 woken_are_asked plan set (Out v g) grain r below there valued woken =
-    let p = and_parts (giver_touches plan (by_rule r) (var_at v)) (stands_in (set ++ Out v g ∷ []) (trigger_by plan (by_rule r))) woken in
+    let p
+    = and_parts (giver_touches plan (by_rule r) (var_at v))
+    (stands_in (set ++ Out v g ∷ []) (trigger_by plan (by_rule r))) woken in
     var_asked plan (set ++ Out v g ∷ []) v r grain below there valued p.0 (trigger_by plan (by_rule r)) refl p.1
 woken_are_asked plan set (Is v a) grain r below there valued woken =
-    let p = and_parts (giver_touches plan (by_rule r) (var_at v)) (stands_in (set ++ Is v a ∷ []) (trigger_by plan (by_rule r))) woken in
+    let p
+    = and_parts (giver_touches plan (by_rule r) (var_at v))
+    (stands_in (set ++ Is v a ∷ []) (trigger_by plan (by_rule r))) woken in
     var_asked plan (set ++ Is v a ∷ []) v r grain below there valued p.0 (trigger_by plan (by_rule r)) refl p.1

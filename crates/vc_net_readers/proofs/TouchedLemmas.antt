@@ -1,5 +1,6 @@
 -- What stands in a rule is what it reads and writes.
-use Rattle.std.proofs.Common.{◌≡◌, ℕ, Bool, true, false, List, [], ◌∷◌, ◌++◌, length, map, refl, sym, ◌∙◌, ap, append_assoc}
+use Rattle.std.proofs.Common.{◌≡◌, ℕ, Bool, true, false, List, [], ◌∷◌, ◌++◌, length, map, refl, sym, ◌∙◌, ap}
+use Rattle.std.proofs.Common.{append_assoc}
 use Rattle.std.specs.Prelude.{Option, None, Some, nat_eq, ◌||◌, ◌&&◌, cond, replicate, slice_get}
 use Rattle.std.specs.List.{filter, list_any}
 use Rattle.std.proofs.lemmas.List.Folds.{list_any-append}
@@ -10,7 +11,8 @@ use Rattle.vc_plan.specs.declared.rules.Rule.{Rule}
 use Rattle.vc_plan.specs.Domains.{numbers_below}
 use Rattle.vc_plan.specs.Reads.{vars_of_condition}
 use Rattle.vc_plan.specs.Restrictions.{is_inferred}
-use Rattle.vc_plan_reasons.specs.Things.{has_thing, inferred_of, kind_writes, parents_of, reads_in, same_thing, slot_at, slots_of_kind, slots_of_var, var_at, vars_of_kind, writes_in}
+use Rattle.vc_plan_reasons.specs.Things.{has_thing, inferred_of, kind_writes, parents_of, reads_in, same_thing, slot_at}
+use Rattle.vc_plan_reasons.specs.Things.{slots_of_kind, slots_of_var, var_at, vars_of_kind, writes_in}
 use Rattle.vc_net_readers.specs.Filing.{filed_below}
 use Rattle.vc_net_readers.specs.Readers.{is_reader, readers_at, rests_at, slot_lists, var_lists}
 use Rattle.vc_net_readers.specs.Waiting.{resting_by, rests}
@@ -52,13 +54,15 @@ var_in_vars : (v : ℕ) (xs : List ℕ) → has_thing (map var_at xs) (var_at v)
 var_in_vars v xs = any_map (same_thing (var_at v)) var_at xs
 
 -- the slots
-slot_of_things : (i : ℕ) (slots vars : List ℕ) → has_thing (map slot_at slots ++ map var_at vars) (slot_at i) ≡ list_any (nat_eq i) slots
+slot_of_things : (i : ℕ) (slots vars : List ℕ)
+    → has_thing (map slot_at slots ++ map var_at vars) (slot_at i) ≡ list_any (nat_eq i) slots
 slot_of_things i slots vars =
     list_any-append (same_thing (slot_at i)) (map slot_at slots) (map var_at vars)
     ∙ (ap (λ b. has_thing (map slot_at slots) (slot_at i) || b) (slot_in_vars i vars)
     ∙ (or_false (has_thing (map slot_at slots) (slot_at i)) ∙ slot_in_slots i slots))
 
-var_of_things : (v : ℕ) (slots vars : List ℕ) → has_thing (map slot_at slots ++ map var_at vars) (var_at v) ≡ list_any (nat_eq v) vars
+var_of_things : (v : ℕ) (slots vars : List ℕ)
+    → has_thing (map slot_at slots ++ map var_at vars) (var_at v) ≡ list_any (nat_eq v) vars
 var_of_things v slots vars =
     list_any-append (same_thing (var_at v)) (map slot_at slots) (map var_at vars)
     ∙ (ap (λ b. b || has_thing (map var_at vars) (var_at v)) (var_in_slots v slots) ∙ var_in_vars v vars)
@@ -71,7 +75,8 @@ slot_by_kind plan rule kind i slots = by kind
     unwritten : (k : Kind) → list_any (nat_eq i) (slots ++ [])
         ≡ (list_any (nat_eq i) (slots ++ []) || has_thing (inferred_of plan rule k) (slot_at i))
     unwritten k =
-        sym (ap (λ b. list_any (nat_eq i) (slots ++ []) || b) (slot_in_vars i (filter (is_inferred rule) (vars_of_kind plan k)))
+        sym (ap (λ b. list_any (nat_eq i) (slots ++ []) || b)
+        (slot_in_vars i (filter (is_inferred rule) (vars_of_kind plan k)))
         ∙ or_false (list_any (nat_eq i) (slots ++ [])))
 
     by : (k : Kind) → list_any (nat_eq i) (slots ++ slots_told plan k)
@@ -87,7 +92,8 @@ slot_by_kind plan rule kind i slots = by kind
         ∙ list_any-append (nat_eq i) (slots ++ parents_of plan j) (j ∷ [])
 
 pub slot_in_rule : (plan : Plan) (o : Option Rule) (i : ℕ)
-    → list_any (nat_eq i) (slots_in_rule plan o) ≡ (has_thing (reads_in plan o) (slot_at i) || has_thing (writes_in plan o) (slot_at i))
+    → list_any (nat_eq i) (slots_in_rule plan o)
+    ≡ (has_thing (reads_in plan o) (slot_at i) || has_thing (writes_in plan o) (slot_at i))
 slot_in_rule plan None i = refl
 slot_in_rule plan (Some rule) i =
     let vars = vars_of_condition (slice_get plan.conditions rule.condition) ++ vars_of_kind plan rule.kind in
@@ -96,16 +102,19 @@ slot_in_rule plan (Some rule) i =
     (sym (slot_of_things i (rule.slots ++ slots_of_kind plan rule.kind) vars))
 
 -- the variables
-var_by_kind : (plan : Plan) (rule : Rule) (kind : Kind) (v : ℕ) → has_thing (kind_writes plan rule kind) (var_at v) ≡ true
+var_by_kind : (plan : Plan) (rule : Rule) (kind : Kind) (v : ℕ)
+    → has_thing (kind_writes plan rule kind) (var_at v) ≡ true
     → list_any (nat_eq v) (vars_of_kind plan kind) ≡ true
 var_by_kind plan rule kind v = by kind
   where
-    inferred : (k : Kind) → has_thing (inferred_of plan rule k) (var_at v) ≡ true → list_any (nat_eq v) (vars_of_kind plan k) ≡ true
+    inferred : (k : Kind) → has_thing (inferred_of plan rule k) (var_at v) ≡ true
+        → list_any (nat_eq v) (vars_of_kind plan k) ≡ true
     inferred k e =
         has_filter (is_inferred rule) (nat_eq v) (vars_of_kind plan k)
         (sym (var_in_vars v (filter (is_inferred rule) (vars_of_kind plan k))) ∙ e)
 
-    by : (k : Kind) → has_thing (kind_writes plan rule k) (var_at v) ≡ true → list_any (nat_eq v) (vars_of_kind plan k) ≡ true
+    by : (k : Kind) → has_thing (kind_writes plan rule k) (var_at v) ≡ true
+        → list_any (nat_eq v) (vars_of_kind plan k) ≡ true
     by (Among w restriction) e = inferred (Among w restriction) e
     by (Compare r a b) e = inferred (Compare r a b) e
     by (Equate a b) e = inferred (Equate a b) e
@@ -115,7 +124,8 @@ var_by_kind plan rule kind v = by kind
     by (Line j) e = absurd (cc)
 
 pub var_in_rule : (plan : Plan) (o : Option Rule) (v : ℕ)
-    → list_any (nat_eq v) (vars_in_rule plan o) ≡ (has_thing (reads_in plan o) (var_at v) || has_thing (writes_in plan o) (var_at v))
+    → list_any (nat_eq v) (vars_in_rule plan o)
+    ≡ (has_thing (reads_in plan o) (var_at v) || has_thing (writes_in plan o) (var_at v))
 var_in_rule plan None v = refl
 var_in_rule plan (Some rule) v =
     let condition = vars_of_condition (slice_get plan.conditions rule.condition) in
@@ -142,18 +152,23 @@ filter_same p q same (x ∷ xs) =
     ap (λ b. cond b (x ∷ filter p xs) (filter p xs)) (same x)
     ∙ ap (λ ys. cond (q x) (x ∷ ys) ys) (filter_same p q same xs)
 
-pub slots_filed : (plan : Plan) → filed_below (slots_by plan) (length plan.rules) (replicate (length plan.slots) []) ≡ slot_lists plan
+pub slots_filed : (plan : Plan)
+    → filed_below (slots_by plan) (length plan.rules) (replicate (length plan.slots) []) ≡ slot_lists plan
 slots_filed plan =
     filed_all (slots_by plan) (length plan.slots) (length plan.rules)
-    ∙ map_same (λ t. filter (has_place (slots_by plan) t) (numbers_below (length plan.rules))) (λ i. readers_at plan (slot_at i))
-    (λ i. filter_same (has_place (slots_by plan) i) (is_reader plan (slot_at i)) (λ r. slot_in_rule plan (slice_get plan.rules r) i)
+    ∙ map_same (λ t. filter (has_place (slots_by plan) t) (numbers_below (length plan.rules)))
+    (λ i. readers_at plan (slot_at i))
+    (λ i. filter_same (has_place (slots_by plan) i) (is_reader plan (slot_at i))
+    (λ r. slot_in_rule plan (slice_get plan.rules r) i)
     (numbers_below (length plan.rules)))
     (numbers_below (length plan.slots))
 
 -- what a filter keeps by its number alone
-pub any_kept : (p : ℕ → Bool) (v : ℕ) (xs : List ℕ) → list_any (nat_eq v) (filter p xs) ≡ (list_any (nat_eq v) xs && p v)
+pub any_kept : (p : ℕ → Bool) (v : ℕ) (xs : List ℕ)
+    → list_any (nat_eq v) (filter p xs) ≡ (list_any (nat_eq v) xs && p v)
 any_kept p v xs =
-    any-filter_same (nat_eq v) p (p v) (λ w same. ap p (sym (number_exact v w same))) xs ∙ and_comm (p v) (list_any (nat_eq v) xs)
+    any-filter_same (nat_eq v) p (p v) (λ w same. ap p (sym (number_exact v w same))) xs
+    ∙ and_comm (p v) (list_any (nat_eq v) xs)
   where
     and_comm : (a b : Bool) → (a && b) ≡ (b && a)
     and_comm true true = refl
@@ -161,15 +176,18 @@ any_kept p v xs =
     and_comm false true = refl
     and_comm false false = refl
 
-pub vars_filed : (plan : Plan) → filed_below (resting_by plan) (length plan.rules) (replicate (length plan.vars) []) ≡ var_lists plan
+pub vars_filed : (plan : Plan)
+    → filed_below (resting_by plan) (length plan.rules) (replicate (length plan.vars) []) ≡ var_lists plan
 vars_filed plan =
     filed_all (resting_by plan) (length plan.vars) (length plan.rules)
     ∙ map_same (λ t. filter (has_place (resting_by plan) t) (numbers_below (length plan.rules)))
     (λ v. filter (rests_at plan v) (numbers_below (length plan.rules)))
-    (λ v. filter_same (has_place (resting_by plan) v) (rests_at plan v) (λ r. resting v r) (numbers_below (length plan.rules)))
+    (λ v. filter_same (has_place (resting_by plan) v) (rests_at plan v) (λ r. resting v r)
+    (numbers_below (length plan.rules)))
     (numbers_below (length plan.vars))
   where
     resting : (v r : ℕ) → list_any (nat_eq v) (resting_by plan r) ≡ rests_at plan v r
     resting v r =
         let trigger = trigger_by plan (by_rule r) in
-        any_kept (rests trigger) v (vars_by plan r) ∙ ap (λ b. b && rests trigger v) (var_in_rule plan (slice_get plan.rules r) v)
+        any_kept (rests trigger) v (vars_by plan r)
+        ∙ ap (λ b. b && rests trigger v) (var_in_rule plan (slice_get plan.rules r) v)

@@ -3,7 +3,8 @@ use Rattle.std.proofs.Common.{◌≡◌, ℕ, suc, ◌+◌, ◌-◌, ◌<◌, �
 use Rattle.std.specs.Prelude.{None, Some, cond}
 use Rattle.std.specs.List.{find, range_with_len}
 
-find_from : (p : ℕ → Bool) (g n m : ℕ) → n - g ≡ suc m → find p (range_with_len g (n - g)) ≡ cond (p g) (Some g) (find p (range_with_len (g + 1) m))
+find_from : (p : ℕ → Bool) (g n m : ℕ) → n - g ≡ suc m
+    → find p (range_with_len g (n - g)) ≡ cond (p g) (Some g) (find p (range_with_len (g + 1) m))
 find_from p g n m e = ap (λ k. find p (range_with_len g k)) e
 
 pub find_next : (p : ℕ → Bool) (g n : ℕ) → g < n → p g ≡ false

@@ -8,6 +8,3 @@ pub mod touched;
 pub mod triggers;
 
 pub use readers::Readers;
-
-#[cfg(test)]
-mod tests;

@@ -8,6 +8,3 @@ pub mod telling;
 
 pub use asking::ask;
 pub use naming::{culprit_of, origin_of};
-
-#[cfg(test)]
-mod tests;

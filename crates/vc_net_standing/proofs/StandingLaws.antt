@@ -1,6 +1,8 @@
 -- Facts are found by their places.
-use Rattle.std.proofs.Common.{◌≡◌, ℕ, zero, suc, ◌+◌, ◌^◌, ◌<◌, ◌≤◌, Bool, true, false, not, ◌||◌, List, [], ◌∷◌, ◌++◌, length, map, take, refl, sym, ◌∙◌, ap, subst, inl, inr, arith, length-append}
-use Rattle.std.specs.Prelude.{None, Some, IfSome, Option, ◌-◌, option_map, get_or, ◌==◌, nat_eq, nat_lt, position, replicate, slice_get, slice_index_or, slice_set, if◌then◌else◌}
+use Rattle.std.proofs.Common.{◌≡◌, ℕ, zero, suc, ◌+◌, ◌^◌, ◌<◌, ◌≤◌, Bool, true, false, not, ◌||◌, List, [], ◌∷◌, ◌++◌}
+use Rattle.std.proofs.Common.{length, map, take, refl, sym, ◌∙◌, ap, subst, inl, inr, arith, length-append}
+use Rattle.std.specs.Prelude.{None, Some, IfSome, Option, ◌-◌, option_map, get_or, ◌==◌, nat_eq, nat_lt, position}
+use Rattle.std.specs.Prelude.{replicate, slice_get, slice_index_or, slice_set, if◌then◌else◌}
 use Rattle.std.specs.List.{AllByRecursion, IsDistinct, position_or_len}
 use Rattle.std.specs.Option.{is_some}
 use Rattle.std.proofs.lemmas.Bool.{and_parts, cases_lt, le-leb, ltb-true, or_cases, or_left, or_parts, or_right}
@@ -23,7 +25,8 @@ use Rattle.vc_net_places.specs.Places.{Index, first_in, place_in}
 use Rattle.vc_net_places.proofs.PlaceLaws.Things.{get_first, get_second}
 use Rattle.vc_net_standing.specs.declared.standing.Fact.{Fact}
 use Rattle.vc_net_standing.specs.Keeping.{IsNumbered}
-use Rattle.vc_net_standing.specs.Standing.{atoms_of, is_free, number_if_at, number_if_of, places_of, value_by, value_if_of}
+use Rattle.vc_net_standing.specs.Standing.{atoms_of, is_free, number_if_at, number_if_of, places_of, value_by}
+use Rattle.vc_net_standing.specs.Standing.{value_if_of}
 
 -- one element more that wasn't there
 module _ {A : Type 0} (same : A → A → Bool) (exact : (a b : A) → same a b ≡ true → a ≡ b)

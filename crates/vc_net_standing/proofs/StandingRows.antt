@@ -7,7 +7,8 @@ use Rattle.vc_plan.specs.Seen.{says}
 use Rattle.vc_net_places.specs.Places.{Index}
 use Rattle.vc_net_places.specs.declared.places.Thing.TheVariants.{Slot, Var}
 use Rattle.vc_net_standing.specs.declared.standing.Fact.{Fact}
-use Rattle.vc_net_standing.specs.Standing.{Stood, atoms_of, first_facts, is_free, nothing_at, number_if_at, places_of, seen_by, set_of, with_fact}
+use Rattle.vc_net_standing.specs.Standing.{Stood, atoms_of, first_facts, is_free, nothing_at, number_if_at, places_of}
+use Rattle.vc_net_standing.specs.Standing.{seen_by, set_of, with_fact}
 
 -- the slot, the variable's value and its two grains
 abbrev lamp : Index

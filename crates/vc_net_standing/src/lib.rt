@@ -5,6 +5,3 @@ pub mod laws;
 pub mod standing;
 
 pub use standing::{Fact, Standing, zeros};
-
-#[cfg(test)]
-mod tests;

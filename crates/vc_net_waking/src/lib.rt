@@ -7,6 +7,3 @@ pub mod waking;
 
 pub use beginning::{begin, untriggered};
 pub use waking::wake;
-
-#[cfg(test)]
-mod tests;

@@ -10,9 +10,11 @@ abbrev pub Written : Option (List ℕ) → Option (List ℕ) → List ℕ → Li
 Written old now bytes rest = (front : List ℕ) × (bytes ≡ front ++ rest) × Appends old now front
 
 -- a written front of the rest leaves less of it
-pub Written-more : (old now new : Option (List ℕ)) (bytes rest : List ℕ) (n : ℕ) → Written old now bytes rest → Appends now new (take n rest) → Written old new bytes (take (length rest - n) (drop n rest))
+pub Written-more : (old now new : Option (List ℕ)) (bytes rest : List ℕ) (n : ℕ) → Written old now bytes rest
+    → Appends now new (take n rest) → Written old new bytes (take (length rest - n) (drop n rest))
 Written-more old now new bytes rest n (front, is, so_far) more = (
   front ++ take n rest,
-  is ∙ ap (λ r. front ++ r) (sym (take-append-drop n rest)) ∙ sym (append_assoc front (take n rest) (drop n rest)) ∙ ap (λ r. (front ++ take n rest) ++ r) (sym (take_rest rest n)),
+  is ∙ ap (λ r. front ++ r) (sym (take-append-drop n rest)) ∙ sym (append_assoc front (take n rest) (drop n rest))
+      ∙ ap (λ r. (front ++ take n rest) ++ r) (sym (take_rest rest n)),
   Appends-trans old now new front (take n rest) so_far more,
 )

@@ -1,5 +1,6 @@
 -- Counts of faults, and calls in memory of which some are to fail.
-use Rattle.std.specs.Prelude.{◌≡◌, ℕ, ◌+◌, ◌-◌, ◌^◌, ◌≤◌, Bool, ◌&&◌, ◌==◌, min, List, [], ◌∷◌, Result, OnOk, OnErr, nat_le, nat_lt, if◌then◌else◌}
+use Rattle.std.specs.Prelude.{◌≡◌, ℕ, ◌+◌, ◌-◌, ◌^◌, ◌≤◌, Bool, ◌&&◌, ◌==◌, min, List, [], ◌∷◌, Result, OnOk, OnErr}
+use Rattle.std.specs.Prelude.{nat_le, nat_lt, if◌then◌else◌}
 use Rattle.std.specs.List.{list_any}
 
 -- the count is greater than before, or stands at the last value of a u64

@@ -1,5 +1,6 @@
 -- Files in memory.
-use Rattle.std.specs.Prelude.{ℕ, List, [], drop, length, min, Option, Some, None, unwrap_or, Result, Ok, Err, slice_index_or, if◌then◌else◌}
+use Rattle.std.specs.Prelude.{ℕ, List, [], drop, length, min, Option, Some, None, unwrap_or, Result, Ok, Err}
+use Rattle.std.specs.Prelude.{slice_index_or, if◌then◌else◌}
 use Rattle.vc_outside.specs.Shelves.{Files, content_of}
 use Rattle.vc_outside.specs.Faults.{Calls, next_fails, with_call}
 use Rattle.vc_outside.specs.declared.fault.Failed.{Failed}

@@ -1,5 +1,6 @@
 -- A sink in memory.
-use Rattle.std.specs.Prelude.{ℕ, ◌+◌, ◌-◌, ◌^◌, Bool, not, ◌&&◌, ◌||◌, ◌==◌, List, ◌++◌, length, min, take, Result, Ok, Err, if◌then◌else◌}
+use Rattle.std.specs.Prelude.{ℕ, ◌+◌, ◌-◌, ◌^◌, Bool, not, ◌&&◌, ◌||◌, ◌==◌, List, ◌++◌, length, min, take, Result, Ok}
+use Rattle.std.specs.Prelude.{Err, if◌then◌else◌}
 use Rattle.vc_outside.specs.Faults.{Calls, next_fails, with_call}
 use Rattle.vc_outside.specs.declared.fault.Failed.{Failed}
 
@@ -24,7 +25,8 @@ write_answer s bytes = if next_fails s.calls || finds_no_room s bytes then Err (
 
 abbrev pub with_written : SinkState → List ℕ → SinkState
 with_written s bytes = record {
-  written = if next_fails s.calls || finds_no_room s bytes then s.written else s.written ++ take (fitting s bytes) bytes;
+  written = if next_fails s.calls
+      || finds_no_room s bytes then s.written else s.written ++ take (fitting s bytes) bytes;
   room = s.room;
   refused = if not (next_fails s.calls) && finds_no_room s bytes then min (s.refused + 1) (2 ^ 64 - 1) else s.refused;
   calls = with_call s.calls;

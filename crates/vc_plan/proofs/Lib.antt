@@ -1,4 +1,3 @@
-pub mod FirstLaws
 pub mod PlanLaws
 pub mod PlanRows
 pub mod StageRows

@@ -26,7 +26,8 @@ sets_of_one_domain x y = not (x.characteristic == y.characteristic) || (x.domain
 abbrev pub is_proper : Domain → Bool
 is_proper (Texts texts) = are_apart (λ s t. s == t) texts
 is_proper (Nums decimals grains) =
-    is_ascending grains && list_all (λ grain. has_decimals decimals grain.low && has_decimals decimals grain.high) grains
+    is_ascending grains && list_all (λ grain. has_decimals decimals grain.low && has_decimals decimals grain.high)
+    grains
 
 -- whether two slots are of one object
 abbrev pub object_in : Option Slot → Option ℕ
@@ -63,4 +64,5 @@ abbrev pub have_one_bill : Plan → ℕ → ℕ → Bool
 have_one_bill plan i j = not (are_of_one_object plan i j) || same_lines (lines_at plan i) (lines_at plan j)
 
 abbrev pub have_one_routing : Plan → ℕ → ℕ → Bool
-have_one_routing plan i j = not (are_of_one_object plan i j) || same_operations (operations_at plan i) (operations_at plan j)
+have_one_routing plan i j = not (are_of_one_object plan i j)
+    || same_operations (operations_at plan i) (operations_at plan j)

@@ -13,14 +13,17 @@ use Rattle.vc_plan.specs.declared.plans.Selection.{Selection}
 use Rattle.vc_plan.specs.Ranges.{is_of, piece_there}
 
 abbrev pub selection_there : Plan → Selection → Bool
-selection_there plan selection = is_of plan.dependencies selection.dependency && is_of plan.conditions selection.condition
+selection_there plan selection = is_of plan.dependencies selection.dependency
+    && is_of plan.conditions selection.condition
 
 abbrev pub line_there : Plan → bill.Line → Bool
-line_there plan line = is_of plan.slots line.slot && (is_of plan.terms line.quantity && list_all (selection_there plan) line.selections)
+line_there plan line = is_of plan.slots line.slot
+    && (is_of plan.terms line.quantity && list_all (selection_there plan) line.selections)
 
 abbrev pub operation_there : Plan → Operation → Bool
 operation_there plan operation =
-    is_of plan.slots operation.slot && (is_of plan.terms operation.time && list_all (selection_there plan) operation.selections)
+    is_of plan.slots operation.slot
+    && (is_of plan.terms operation.time && list_all (selection_there plan) operation.selections)
 
 abbrev pub named_there : Plan → Named → Bool
 named_there plan (Var v) = is_of plan.vars v

@@ -1,5 +1,6 @@
 -- The bill of materials and the routing of an evaluation that is settled.
-use Rattle.std.specs.Prelude.{ℕ, zero, suc, ◌+◌, ℤ, Bool, true, false, ◌&&◌, ◌==◌, List, [], ◌∷◌, length, slice_get, Option, None, Some}
+use Rattle.std.specs.Prelude.{ℕ, zero, suc, ◌+◌, ℤ, Bool, true, false, ◌&&◌, ◌==◌, List, [], ◌∷◌, length, slice_get}
+use Rattle.std.specs.Prelude.{Option, None, Some}
 use Rattle.std.specs.List.{filter, find, flat_map, list_any}
 use Rattle.vc_value.specs.declared.decimal.Dec.{Dec}
 use Rattle.vc_plan.specs.declared.plans.Line.{Line}
@@ -33,23 +34,28 @@ component_of plan n = find (λ j. is_for_line n (slice_get plan.slots j)) (numbe
 -- selection conditions: none are met, or one of them is True
 abbrev pub is_selected : Plan → Reading → List Selection → Bool
 is_selected plan reading [] = true
-is_selected plan reading (selection ∷ selections) = list_any (λ s. is_true (truth_at plan reading s.condition)) (selection ∷ selections)
+is_selected plan reading (selection ∷ selections) =
+    list_any (λ s. is_true (truth_at plan reading s.condition)) (selection ∷ selections)
 
--- whether the line of an instance is taken: a configurable one where its slot is here, another by its selection conditions
+-- whether the line of an instance is taken: a configurable one where its slot is here, another by its selection
+-- conditions
 abbrev pub takes_line : Plan → Seen → Reading → Line → Option ℕ → Bool
 takes_line plan seen reading line None = is_selected plan reading line.selections
 takes_line plan seen reading line (Some j) = seen.here j
 
 abbrev pub is_line_of : Plan → Seen → Reading → ℕ → ℕ → Option Line → Bool
 is_line_of plan seen reading i n None = false
-is_line_of plan seen reading i n (Some line) = (line.slot == i) && takes_line plan seen reading line (component_of plan n)
+is_line_of plan seen reading i n (Some line) = (line.slot == i)
+    && takes_line plan seen reading line (component_of plan n)
 
 -- the lines of an instance that are taken, in item order
 abbrev pub lines_of : Plan → Seen → Reading → ℕ → List ℕ
-lines_of plan seen reading i = filter (λ n. is_line_of plan seen reading i n (slice_get plan.lines n)) (numbers_below (length plan.lines))
+lines_of plan seen reading i =
+    filter (λ n. is_line_of plan seen reading i n (slice_get plan.lines n)) (numbers_below (length plan.lines))
 
 abbrev pub bill_line : Plan → Reading → ℕ → ℕ → ℕ → BillLine
-bill_line plan reading level i n = record { level = level; slot = i; line = n; quantity = stored (quantity_of plan reading n) }
+bill_line plan reading level i n =
+    record { level = level; slot = i; line = n; quantity = stored (quantity_of plan reading n) }
 
 -- what follows a line: the bill of its component, if it is configurable
 abbrev pub below : (ℕ → List BillLine) → Option ℕ → List BillLine
@@ -60,7 +66,8 @@ below bill (Some j) = bill j
 abbrev pub bill_from : Plan → Seen → Reading → ℕ → ℕ → ℕ → List BillLine
 bill_from plan seen reading zero level i = []
 bill_from plan seen reading (suc levels) level i =
-    flat_map (λ n. bill_line plan reading level i n ∷ below (bill_from plan seen reading levels (level + 1)) (component_of plan n))
+    flat_map (λ n. bill_line plan reading level i n
+    ∷ below (bill_from plan seen reading levels (level + 1)) (component_of plan n))
     (lines_of plan seen reading i)
 
 -- the bill of an instance whole: there are no more levels than slots
@@ -74,7 +81,8 @@ bill_of plan seen reading = own_bill plan seen reading 1 0
 -- whether an operation is taken: its instance is here, and its selection conditions are met
 abbrev pub takes_operation : Plan → Seen → Reading → Option Operation → Bool
 takes_operation plan seen reading None = false
-takes_operation plan seen reading (Some operation) = seen.here operation.slot && is_selected plan reading operation.selections
+takes_operation plan seen reading (Some operation) = seen.here operation.slot
+    && is_selected plan reading operation.selections
 
 abbrev pub operation_line : Plan → Reading → ℕ → Option Operation → List OperationLine
 operation_line plan reading n None = []
@@ -85,4 +93,5 @@ operation_line plan reading n (Some operation) =
 abbrev pub routing_of : Plan → Seen → Reading → List OperationLine
 routing_of plan seen reading =
     flat_map (λ n. operation_line plan reading n (slice_get plan.operations n))
-    (filter (λ n. takes_operation plan seen reading (slice_get plan.operations n)) (numbers_below (length plan.operations)))
+    (filter (λ n. takes_operation plan seen reading (slice_get plan.operations n))
+    (numbers_below (length plan.operations)))

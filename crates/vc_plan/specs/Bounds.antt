@@ -1,5 +1,6 @@
 -- How many premises a conclusion needs at most, and how many cells all of them fill.
-use Rattle.std.specs.Prelude.{ℕ, ◌+◌, max, Bool, false, not, ◌&&◌, ◌||◌, ◌==◌, if◌then◌else◌, List, [], ◌∷◌, ◌++◌, length, drop, map, flat_map, slice_get, Option, None, Some}
+use Rattle.std.specs.Prelude.{ℕ, ◌+◌, max, Bool, false, not, ◌&&◌, ◌||◌, ◌==◌, if◌then◌else◌, List, [], ◌∷◌, ◌++◌}
+use Rattle.std.specs.Prelude.{length, drop, map, flat_map, slice_get, Option, None, Some}
 use Rattle.std.specs.List.{filter, list_any, sum_by}
 use Rattle.vc_plan.specs.declared.plans.Plan.{Plan}
 use Rattle.vc_plan.specs.declared.rules.Binding.{Binding}
@@ -81,12 +82,15 @@ here_bound plan rule (Line j) i = only_if (i == j) (1 + condition_size plan rule
 
 abbrev pub out_bound : Plan → Rule → Kind → ℕ → ℕ → ℕ
 out_bound plan rule (Among v restriction) w g =
-    only_if (((v == w) && is_inferred rule v) && (is_restrictable plan v && not (is_grain_with plan v (allows plan v restriction) g)))
+    only_if (((v == w) && is_inferred rule v)
+    && (is_restrictable plan v && not (is_grain_with plan v (allows plan v restriction) g)))
     (acting_size plan rule)
-out_bound plan rule (Compare r a b) w g = only_if (is_side plan rule a b w && is_restrictable plan w) (compare_bound plan rule a b)
+out_bound plan rule (Compare r a b) w g =
+    only_if (is_side plan rule a b w && is_restrictable plan w) (compare_bound plan rule a b)
 out_bound plan rule (Equate a b) w g = 0
 out_bound plan rule (ByTable table columns) w g =
-    only_if (is_narrowed rule columns w && is_restrictable plan w) (acting_size plan rule + rows_with plan table columns w g)
+    only_if (is_narrowed rule columns w && is_restrictable plan w)
+    (acting_size plan rule + rows_with plan table columns w g)
 out_bound plan rule Never w g = 0
 out_bound plan rule (Last v) w g = 0
 out_bound plan rule (Line i) w g = 0
@@ -94,10 +98,12 @@ out_bound plan rule (Line i) w g = 0
 abbrev pub is_bound : Plan → Rule → Kind → ℕ → ℕ
 is_bound plan rule (Among v restriction) w =
     only_if (((v == w) && is_inferred rule v) && not (is_restrictable plan v)) (acting_size plan rule + count_of plan v)
-is_bound plan rule (Compare r a b) w = only_if (is_side plan rule a b w && not (is_restrictable plan w)) (compare_bound plan rule a b)
+is_bound plan rule (Compare r a b) w =
+    only_if (is_side plan rule a b w && not (is_restrictable plan w)) (compare_bound plan rule a b)
 is_bound plan rule (Equate a b) w = only_if (is_side plan rule a b w) (equate_bound plan rule a b)
 is_bound plan rule (ByTable table columns) w =
-    only_if (is_narrowed rule columns w && not (is_restrictable plan w)) (acting_size plan rule + length (rows_of plan table))
+    only_if (is_narrowed rule columns w && not (is_restrictable plan w))
+    (acting_size plan rule + length (rows_of plan table))
 is_bound plan rule Never w = 0
 is_bound plan rule (Last v) w = only_if (v == w) (count_of plan v)
 is_bound plan rule (Line i) w = 0
@@ -141,7 +147,8 @@ abbrev pub places_of : Plan → ℕ → List Place
 places_of plan v = map (out_at v) (numbers_below (count_of plan v)) ++ is_at v ∷ []
 
 abbrev pub places : Plan → List Place
-places plan = map here_at (drop 1 (numbers_below (length plan.slots))) ++ flat_map (places_of plan) (numbers_below (length plan.vars))
+places plan = map here_at (drop 1 (numbers_below (length plan.slots)))
+    ++ flat_map (places_of plan) (numbers_below (length plan.vars))
 
 -- the cells for the premises of a conclusion at each place, and of one clash
 abbrev pub cell_bound : Plan → ℕ

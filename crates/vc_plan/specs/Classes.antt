@@ -1,5 +1,6 @@
 -- The classes of objects: which variables and sets a slot has, and in which order they and what stands at them come.
-use Rattle.std.specs.Prelude.{ℕ, suc, Bool, true, false, not, ◌&&◌, ◌||◌, ◌==◌, nat_lt, List, [], ◌∷◌, map, slice_get, Option, None, Some}
+use Rattle.std.specs.Prelude.{ℕ, suc, Bool, true, false, not, ◌&&◌, ◌||◌, ◌==◌, nat_lt, List, [], ◌∷◌, map, slice_get}
+use Rattle.std.specs.Prelude.{Option, None, Some}
 use Rattle.std.specs.List.{filter, list_any, position_or_len}
 use Rattle.vc_value.specs.declared.table_header.Domain.{Domain}
 use Rattle.vc_plan.specs.declared.conditions.Piece.{Piece}
@@ -41,7 +42,8 @@ has_sets plan c = list_any (λ x. x.characteristic == c) plan.sets
 
 -- a slot has a set for each characteristic of its class that has sets, and a variable for each other, in class order
 abbrev pub has_its_vars : Plan → ℕ → Bool
-has_its_vars plan i = same_numbers (vars_at plan i) (filter (λ c. not (has_sets plan c)) (class_at plan (slice_get plan.slots i)))
+has_its_vars plan i =
+    same_numbers (vars_at plan i) (filter (λ c. not (has_sets plan c)) (class_at plan (slice_get plan.slots i)))
 
 abbrev pub has_its_sets : Plan → ℕ → Bool
 has_its_sets plan i = same_numbers (sets_at plan i) (filter (has_sets plan) (class_at plan (slice_get plan.slots i)))
@@ -87,13 +89,15 @@ value_place plan named (Some piece) = suc (list_place (list_at plan named) piece
 
 abbrev pub guard_place : Plan → Guard → List ℕ
 guard_place plan guard =
-    number_or_zero (slot_of_named plan guard.at) ∷ class_place plan guard.at ∷ value_place plan guard.at guard.value ∷ []
+    number_or_zero (slot_of_named plan guard.at) ∷ class_place plan guard.at ∷ value_place plan guard.at guard.value
+    ∷ []
 
 -- where a procedure comes: by slot, those of values after the others, in class order and list order
 abbrev pub trigger_place : Plan → Trigger → List ℕ
 trigger_place plan Anyway = []
 trigger_place plan (ValueIn v piece) = class_place plan (Var v) ∷ list_place (list_at plan (Var v)) piece ∷ []
-trigger_place plan (TextIn set text) = class_place plan (Set set) ∷ list_place (list_at plan (Set set)) (OneText text) ∷ []
+trigger_place plan (TextIn set text) = class_place plan (Set set) ∷ list_place (list_at plan (Set set)) (OneText text)
+    ∷ []
 
 abbrev pub procedure_place : Plan → Procedure → List ℕ
 procedure_place plan procedure = procedure.slot ∷ trigger_place plan procedure.trigger

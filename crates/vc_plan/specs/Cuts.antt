@@ -1,12 +1,14 @@
 -- The numbers at which a plan cuts its variables into grains.
-use Rattle.std.specs.Prelude.{ℕ, Bool, true, ◌==◌, if◌then◌else◌, List, [], ◌∷◌, ◌++◌, flat_map, slice_get, Option, None, Some}
+use Rattle.std.specs.Prelude.{ℕ, Bool, true, ◌==◌, if◌then◌else◌, List, [], ◌∷◌, ◌++◌, flat_map, slice_get, Option}
+use Rattle.std.specs.Prelude.{None, Some}
 use Rattle.std.specs.List.{list_all}
 use Rattle.vc_value.specs.Grains.{is_apart}
 use Rattle.vc_value.specs.declared.decimal.Dec.{Dec}
 use Rattle.vc_value.specs.declared.value.Value.{Value}
 use Rattle.vc_value.specs.declared.value.Value.TheVariants.{Text, Num}
 use Rattle.vc_plan.specs.declared.conditions.Condition.{Condition}
-use Rattle.vc_plan.specs.declared.conditions.Condition.TheVariants.{Always, Compared, IsIn, Specified, Holds, Filled, Not', And', Or'}
+use Rattle.vc_plan.specs.declared.conditions.Condition.TheVariants.{Always, Compared, IsIn, Specified, Holds, Filled}
+use Rattle.vc_plan.specs.declared.conditions.Condition.TheVariants.{Not', And', Or'}
 use Rattle.vc_plan.specs.declared.conditions.Piece.{Piece}
 use Rattle.vc_plan.specs.declared.conditions.Piece.TheVariants.{OneText, Stretch}
 use Rattle.vc_plan.specs.declared.plans.Plan.{Plan}
@@ -52,7 +54,8 @@ beside_lone v (Some w) numbers = if v == w then numbers else []
 -- the numbers that a condition puts beside the variable
 abbrev pub condition_cuts : ℕ → Condition → List Dec
 condition_cuts v Always = []
-condition_cuts v (Compared r a b) = beside_lone v (lone_in (Some a)) (literal_in b) ++ beside_lone v (lone_in (Some b)) (literal_in a)
+condition_cuts v (Compared r a b) = beside_lone v (lone_in (Some a)) (literal_in b)
+    ++ beside_lone v (lone_in (Some b)) (literal_in a)
 condition_cuts v (IsIn w pieces) = beside_lone v (Some w) (flat_map ends_of pieces)
 condition_cuts v (Specified w) = []
 condition_cuts v (Holds set text) = []
@@ -69,7 +72,8 @@ restriction_cuts plan v (OneOf pieces) = flat_map ends_of pieces
 -- the cells of the columns that the variable is given to
 abbrev pub binding_cuts : Plan → ℕ → ℕ → Binding → List Dec
 binding_cuts plan table v binding =
-    if is_column_of v binding then flat_map (λ row. cell_number (slice_get row binding.column)) (rows_of plan table) else []
+    if is_column_of v binding
+    then flat_map (λ row. cell_number (slice_get row binding.column)) (rows_of plan table) else []
 
 abbrev pub kind_cuts : Plan → ℕ → Kind → List Dec
 kind_cuts plan v (Among w restriction) = beside_lone v (Some w) (restriction_cuts plan w restriction)

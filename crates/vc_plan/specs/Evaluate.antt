@@ -24,7 +24,8 @@ holds users set text = list_any (λ t. t == text) (slice_index_or users.texts se
 abbrev pub sources_of : Users → Entries → Sources
 sources_of users entries = record { user = users.values; written = sources_in entries }
 
--- how the stages end: broken at one, with what was written before it, or settled, with the sets of all stages and what was
+-- how the stages end: broken at one, with what was written before it, or settled, with the sets of all stages and what
+-- was
 -- written
 pub data Evaluated : Type 0 where
   broken_at : ℕ → Entries → Evaluated
@@ -43,7 +44,8 @@ if_settled (settled set) stopped onwards = onwards set
 -- the stages from one on, with the sets of those before it; so many follow it
 abbrev pub stages_from : Plan → Users → ℕ → List (List Atom) → Entries → Evaluated
 stages_from plan users zero sets entries =
-    if_settled (settlement_of plan (sources_of users entries)) (broken_at (length sets) entries) (λ set. reached (sets ++ set ∷ []) entries)
+    if_settled (settlement_of plan (sources_of users entries)) (broken_at (length sets) entries)
+    (λ set. reached (sets ++ set ∷ []) entries)
 stages_from plan users (suc later) sets entries =
     if_settled (settlement_of plan (sources_of users entries)) (broken_at (length sets) entries)
     (λ set. stages_from plan users later (sets ++ set ∷ []) (between plan users later sets set entries))

@@ -14,7 +14,8 @@ abbrev pub has_at_most : ℕ → Value → Bool
 has_at_most decimals (Text t) = true
 has_at_most decimals (Num a) = has_decimals decimals a
 
--- whether the user may give the variable the value: a grain holds it, and it has no more decimals than the variable's numbers
+-- whether the user may give the variable the value: a grain holds it, and it has no more decimals than the variable's
+-- numbers
 abbrev pub may_have : Plan → ℕ → Value → Bool
 may_have plan v a = lies_in_some (grains_of plan v) a && has_at_most (decimals_of plan v) a
 

@@ -1,5 +1,6 @@
 -- What rules and sources give.
-use Rattle.std.specs.Prelude.{ℕ, Bool, not, ◌&&◌, if◌then◌else◌, List, [], ◌∷◌, ◌++◌, length, map, slice_get, Option, None, Some}
+use Rattle.std.specs.Prelude.{ℕ, Bool, not, ◌&&◌, if◌then◌else◌, List, [], ◌∷◌, ◌++◌, length, map, slice_get, Option}
+use Rattle.std.specs.Prelude.{None, Some}
 use Rattle.std.specs.List.{filter, list_all}
 use Rattle.vc_base.specs.Rounds.{Given, clash, atoms}
 use Rattle.vc_value.specs.declared.value.Value.{Value}
@@ -42,7 +43,8 @@ kind_gives plan seen rule (Line i) = atoms (if is_parent_here plan seen i then H
 -- what a rule says, if it is there and acts
 abbrev pub rule_says : Plan → Seen → Option Rule → Given Atom
 rule_says plan seen None = nothing
-rule_says plan seen (Some rule) = let said = kind_gives plan seen rule rule.kind in if acts plan seen rule then said else nothing
+rule_says plan seen (Some rule) = let said = kind_gives plan seen rule rule.kind in if acts plan seen rule
+    then said else nothing
 
 -- what a value of the variable says
 abbrev pub value_says : ℕ → Option Value → Given Atom

@@ -1,5 +1,6 @@
 -- The lists of characteristics: which values are listed, and how domains are cut from them.
-use Rattle.std.specs.Prelude.{ℕ, pos, ◌+ℤ◌, Bool, true, false, ◌&&◌, ◌||◌, ◌==◌, List, [], ◌∷◌, slice_get, Option, None, Some}
+use Rattle.std.specs.Prelude.{ℕ, pos, ◌+ℤ◌, Bool, true, false, ◌&&◌, ◌||◌, ◌==◌, List, [], ◌∷◌, slice_get, Option, None}
+use Rattle.std.specs.Prelude.{Some}
 use Rattle.std.specs.List.{list_all, list_any, position_or_len}
 use Rattle.std.specs.Ordering.{int_eq}
 use Rattle.vc_value.specs.Grains.{has_decimals, hold, unit_of}
@@ -50,7 +51,8 @@ goes_on decimals entries grains grain =
 abbrev pub are_cut_up : ℕ → List Grain → List Grain → Bool
 are_cut_up decimals entries grains =
     list_all (is_within entries) grains
-    && (list_all (λ entry. list_any (begins_at entry.low) grains) entries && list_all (goes_on decimals entries grains) grains)
+    && (list_all (λ entry. list_any (begins_at entry.low) grains) entries
+    && list_all (goes_on decimals entries grains) grains)
 
 -- whether the domain is cut from the list
 abbrev pub is_cut_from : Option Domain → Option Domain → Bool
@@ -59,7 +61,8 @@ is_cut_from (Some list) None = false
 is_cut_from (Some (Texts texts)) (Some (Texts others)) = same_numbers texts others
 is_cut_from (Some (Texts texts)) (Some (Nums decimals grains)) = false
 is_cut_from (Some (Nums decimals entries)) (Some (Texts others)) = false
-is_cut_from (Some (Nums decimals entries)) (Some (Nums digits grains)) = (decimals == digits) && are_cut_up decimals entries grains
+is_cut_from (Some (Nums decimals entries)) (Some (Nums digits grains)) = (decimals == digits)
+    && are_cut_up decimals entries grains
 
 -- whether a variable's domain is, and whether a set's texts are its characteristic's
 abbrev pub has_its_list : Plan → Var → Bool

@@ -1,5 +1,6 @@
 -- What statements write and look up, and the keys of tables.
-use Rattle.std.specs.Prelude.{ℕ, Bool, true, false, not, ◌&&◌, ◌||◌, ◌==◌, nat_lt, List, [], ◌∷◌, length, map, slice_get, Option, None, Some}
+use Rattle.std.specs.Prelude.{ℕ, Bool, true, false, not, ◌&&◌, ◌||◌, ◌==◌, nat_lt, List, [], ◌∷◌, length, map}
+use Rattle.std.specs.Prelude.{slice_get, Option, None, Some}
 use Rattle.std.specs.List.{filter, list_all}
 use Rattle.vc_value.specs.declared.value.Value.{Value}
 use Rattle.vc_plan.specs.declared.conditions.Piece.{Piece}
@@ -39,9 +40,11 @@ action_writes (SetDefault v term) = v ∷ []
 action_writes (DeleteDefault v term) = []
 action_writes (LookUp table keys filled) = map (λ column. column.var) filled
 
--- whether a procedure's statements name variables of its own slot alone, so that no entry of another's is made or taken away
+-- whether a procedure's statements name variables of its own slot alone, so that no entry of another's is made or taken
+-- away
 abbrev pub writes_own : Plan → Procedure → Bool
-writes_own plan procedure = list_all (λ statement. list_all (is_at plan (procedure.slot ∷ [])) (named_by statement.action)) procedure.statements
+writes_own plan procedure =
+    list_all (λ statement. list_all (is_at plan (procedure.slot ∷ [])) (named_by statement.action)) procedure.statements
 
 -- a value's procedure stands at a listed value of its own slot, and a value's precondition at a listed value
 abbrev pub is_value_of : Plan → ℕ → Named → Piece → Bool

@@ -1,5 +1,6 @@
 -- Numbers in millionths: rounding by size and sign, the four operations and the functions.
-use Rattle.std.specs.Prelude.{ℕ, zero, suc, ℤ, pos, negsuc, ◌+◌, ◌-◌, ◌*◌, ◌/◌, ◌%◌, ◌+ℤ◌, ◌-ℤ◌, ◌*ℤ◌, neg_ℤ, unsigned_abs, ◌==◌, if◌then◌else◌, Option, None, Some}
+use Rattle.std.specs.Prelude.{ℕ, zero, suc, ℤ, pos, negsuc, ◌+◌, ◌-◌, ◌*◌, ◌/◌, ◌%◌, ◌+ℤ◌, ◌-ℤ◌, ◌*ℤ◌, neg_ℤ}
+use Rattle.std.specs.Prelude.{unsigned_abs, ◌==◌, if◌then◌else◌, Option, None, Some}
 use Rattle.std.specs.Int.{is_negative}
 use Rattle.vc_value.specs.Grains.{unit_of}
 use Rattle.vc_plan.specs.declared.terms.Function.{Function}

@@ -1,5 +1,6 @@
 -- The parts of an instance, their quantities, and sums over them.
-use Rattle.std.specs.Prelude.{ℕ, ℤ, pos, ◌^◌, Bool, false, ◌&&◌, ◌==◌, nat_lt, if◌then◌else◌, unsigned_abs, List, [], ◌∷◌, length, map, slice_get, Option, None, Some, is_some}
+use Rattle.std.specs.Prelude.{ℕ, ℤ, pos, ◌^◌, Bool, false, ◌&&◌, ◌==◌, nat_lt, if◌then◌else◌, unsigned_abs, List, []}
+use Rattle.std.specs.Prelude.{◌∷◌, length, map, slice_get, Option, None, Some, is_some}
 use Rattle.std.specs.List.{filter, find}
 use Rattle.vc_plan.specs.declared.conditions.Kleene.TheVariants.{False}
 use Rattle.vc_plan.specs.declared.plans.Line.{Line}
@@ -63,7 +64,8 @@ is_var_of slot characteristic None = false
 is_var_of slot characteristic (Some x) = (x.slot == slot) && (x.characteristic == characteristic)
 
 abbrev pub var_of : Plan → ℕ → ℕ → Option ℕ
-var_of plan slot characteristic = find (λ v. is_var_of slot characteristic (slice_get plan.vars v)) (numbers_below (length plan.vars))
+var_of plan slot characteristic =
+    find (λ v. is_var_of slot characteristic (slice_get plan.vars v)) (numbers_below (length plan.vars))
 
 -- the sum, if all of them are there
 abbrev pub total : List (Option ℤ) → Option ℤ
@@ -76,12 +78,14 @@ weighed reading quantity None = None
 weighed reading quantity (Some v) = joined Times quantity (number_of_value (reading.value v))
 
 abbrev pub part_weight : Plan → Reading → ℕ → ℕ → Option ℤ
-part_weight plan reading characteristic j = weighed reading (part_quantity plan reading j) (var_of plan j characteristic)
+part_weight plan reading characteristic j =
+    weighed reading (part_quantity plan reading j) (var_of plan j characteristic)
 
 -- the sum, over the parts that have the characteristic, of quantity times value
 abbrev pub sum_of_parts : Plan → Seen → Reading → ℕ → ℕ → Option ℤ
 sum_of_parts plan seen reading i characteristic =
-    total (map (part_weight plan reading characteristic) (filter (λ j. is_some (var_of plan j characteristic)) (parts_of plan seen i)))
+    total (map (part_weight plan reading characteristic)
+    (filter (λ j. is_some (var_of plan j characteristic)) (parts_of plan seen i)))
 
 -- the sum of the quantities of the parts
 abbrev pub count_of_parts : Plan → Seen → Reading → ℕ → Option ℤ

@@ -8,7 +8,8 @@ use Rattle.vc_value.specs.declared.table_header.Domain.TheVariants.{Texts, Nums}
 use Rattle.vc_value.specs.declared.value.Value.{Value}
 use Rattle.vc_value.specs.declared.value.Value.TheVariants.{Text, Num}
 use Rattle.vc_plan.specs.declared.conditions.Condition.{Condition}
-use Rattle.vc_plan.specs.declared.conditions.Condition.TheVariants.{Always, Compared, IsIn, Specified, Holds, Filled, Not', And', Or'}
+use Rattle.vc_plan.specs.declared.conditions.Condition.TheVariants.{Always, Compared, IsIn, Specified, Holds, Filled}
+use Rattle.vc_plan.specs.declared.conditions.Condition.TheVariants.{Not', And', Or'}
 use Rattle.vc_plan.specs.declared.conditions.Piece.{Piece}
 use Rattle.vc_plan.specs.declared.conditions.Piece.TheVariants.{OneText, Stretch}
 use Rattle.vc_plan.specs.declared.plans.Characteristic.{Characteristic}
@@ -57,10 +58,12 @@ abbrev pub slot_there : Plan → Slot → Bool
 slot_there plan slot = is_of_if plan.slots slot.parent && is_of plan.objects slot.object
 
 abbrev pub var_there : Plan → variable.Var → Bool
-var_there plan x = is_of plan.slots x.slot && (is_of plan.characteristics x.characteristic && is_of plan.domains x.domain)
+var_there plan x = is_of plan.slots x.slot
+    && (is_of plan.characteristics x.characteristic && is_of plan.domains x.domain)
 
 abbrev pub set_there : Plan → TextSet → Bool
-set_there plan x = is_of plan.slots x.slot && (is_of plan.characteristics x.characteristic && is_of plan.domains x.domain)
+set_there plan x = is_of plan.slots x.slot
+    && (is_of plan.characteristics x.characteristic && is_of plan.domains x.domain)
 
 abbrev pub term_there : Plan → Term → Bool
 term_there plan (Literal a) = value_there plan a

@@ -1,5 +1,6 @@
 -- What a restriction of one variable, a comparison and an equation give.
-use Rattle.std.specs.Prelude.{ℕ, min, Bool, false, not, ◌&&◌, ◌==◌, if◌then◌else◌, List, [], ◌∷◌, map, slice_get, Option, None, Some, is_none}
+use Rattle.std.specs.Prelude.{ℕ, min, Bool, false, not, ◌&&◌, ◌==◌, if◌then◌else◌, List, [], ◌∷◌, map, slice_get}
+use Rattle.std.specs.Prelude.{Option, None, Some, is_none}
 use Rattle.std.specs.List.{filter, list_any}
 use Rattle.vc_base.specs.Rounds.{Given, clash, atoms}
 use Rattle.vc_value.specs.declared.value.Value.{Value}
@@ -32,17 +33,20 @@ abbrev pub failing : Plan → ℕ → (Piece → Bool) → List ℕ
 failing plan v test = filter (λ g. not (is_grain_with plan v test g)) (numbers_below (count_of plan v))
 
 abbrev pub left_with : Plan → Seen → ℕ → (Piece → Bool) → List ℕ
-left_with plan seen v test = filter (λ g. is_left plan seen v g && is_grain_with plan v test g) (numbers_below (count_of plan v))
+left_with plan seen v test =
+    filter (λ g. is_left plan seen v g && is_grain_with plan v test g) (numbers_below (count_of plan v))
 
 -- what follows where these grains alone may stand: a clash where there is none, the value of the one
 abbrev pub of_remaining : Plan → ℕ → List ℕ → Given Atom
 of_remaining plan v gs = clash_if (is_nothing gs) (atoms (last_atoms plan v gs))
 
--- the variable is to lie in grains that pass the test: if it is restrictable the others are out; if it isn't, what follows
+-- the variable is to lie in grains that pass the test: if it is restrictable the others are out; if it isn't, what
+-- follows
 -- of those that are left and pass
 abbrev pub confined : Plan → Seen → ℕ → (Piece → Bool) → Given Atom
 confined plan seen v test =
-    if is_restrictable plan v then atoms (map (Out v) (failing plan v test)) else of_remaining plan v (left_with plan seen v test)
+    if is_restrictable plan v
+    then atoms (map (Out v) (failing plan v test)) else of_remaining plan v (left_with plan seen v test)
 
 -- the value with so many decimals
 abbrev pub rounded_value : ℕ → Value → Value
@@ -102,7 +106,8 @@ compare plan seen rule r a b =
     let first = value_at plan (net_reading seen) a in
     let second = value_at plan (net_reading seen) b in
     clash_if_false (compared r first second)
-    (beside (related plan seen r (lone_inferred plan rule a) second) (related plan seen (turned r) (lone_inferred plan rule b) first))
+    (beside (related plan seen r (lone_inferred plan rule a) second)
+    (related plan seen (turned r) (lone_inferred plan rule b) first))
 
 -- a lone inferred variable has the value, rounded; a clash where no grain holds it
 abbrev pub assigned : Plan → ℕ → Value → Given Atom
@@ -132,4 +137,5 @@ equate plan seen rule a b =
     let v = lone_inferred plan rule a in
     let w = lone_inferred plan rule b in
     let decimals = min (decimals_in_side plan (lone plan a)) (decimals_in_side plan (lone plan b)) in
-    clash_if ((is_none v && is_none w) && differ decimals first second) (beside (equal_to plan v second) (equal_to plan w first))
+    clash_if ((is_none v && is_none w) && differ decimals first second)
+    (beside (equal_to plan v second) (equal_to plan w first))

@@ -54,4 +54,5 @@ row_there plan table row = (length row == length table.columns) && list_all (val
 
 abbrev pub table_there : Plan → Table → Bool
 table_there plan table =
-    list_all (λ column. is_of plan.characteristics column.characteristic) table.columns && list_all (row_there plan table) table.rows
+    list_all (λ column. is_of plan.characteristics column.characteristic) table.columns
+    && list_all (row_there plan table) table.rows

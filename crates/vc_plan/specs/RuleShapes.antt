@@ -1,8 +1,10 @@
 -- What a rule may touch, and which rules there are.
-use Rattle.std.specs.Prelude.{ℕ, zero, suc, Bool, true, false, not, ◌&&◌, ◌||◌, ◌==◌, nat_lt, nat_le, is_none, is_some, if◌then◌else◌, List, [], ◌∷◌, ◌++◌, length, flat_map, slice_get, Option, None, Some}
+use Rattle.std.specs.Prelude.{ℕ, zero, suc, Bool, true, false, not, ◌&&◌, ◌||◌, ◌==◌, nat_lt, nat_le, is_none, is_some}
+use Rattle.std.specs.Prelude.{if◌then◌else◌, List, [], ◌∷◌, ◌++◌, length, flat_map, slice_get, Option, None, Some}
 use Rattle.std.specs.List.{filter, list_all, list_any}
 use Rattle.vc_plan.specs.declared.conditions.Condition.{Condition}
-use Rattle.vc_plan.specs.declared.conditions.Condition.TheVariants.{Always, Compared, IsIn, Specified, Holds, Filled, Not', And', Or'}
+use Rattle.vc_plan.specs.declared.conditions.Condition.TheVariants.{Always, Compared, IsIn, Specified, Holds, Filled}
+use Rattle.vc_plan.specs.declared.conditions.Condition.TheVariants.{Not', And', Or'}
 use Rattle.vc_plan.specs.declared.plans.Plan.{Plan}
 use Rattle.vc_plan.specs.declared.rules.Kind.{Kind}
 use Rattle.vc_plan.specs.declared.rules.Kind.TheVariants.{Among, Compare, Equate, ByTable, Never, Last, Line}
@@ -52,7 +54,8 @@ is_among slots (Some i) = list_any (λ j. j == i) slots
 abbrev pub is_at : Plan → List ℕ → ℕ → Bool
 is_at plan slots v = is_among slots (slot_in (slice_get plan.vars v))
 
--- a constraint's rule stands at one slot to four, each once, and reads and infers variables of these slots alone; another rule
+-- a constraint's rule stands at one slot to four, each once, and reads and infers variables of these slots alone;
+-- another rule
 -- stands at none and infers nothing
 abbrev pub stays_at_its_slots : Plan → Rule → Bool
 stays_at_its_slots plan rule =
@@ -105,7 +108,8 @@ line_slot (Last v) = None
 line_slot (Line i) = Some i
 
 abbrev pub are_one_line : Rule → Rule → Bool
-are_one_line a b = is_some (line_slot a.kind) && (same_number_if (line_slot a.kind) (line_slot b.kind) && (a.number == b.number))
+are_one_line a b = is_some (line_slot a.kind)
+    && (same_number_if (line_slot a.kind) (line_slot b.kind) && (a.number == b.number))
 
 -- a rule has a number from 1 exactly where it is of a constraint or a selection condition
 abbrev pub is_numbered : Rule → Bool

@@ -2,7 +2,8 @@
 use Rattle.std.specs.Prelude.{ℕ, Bool, true, false, ◌&&◌, ◌==◌, List, [], ◌∷◌, ◌++◌, slice_get, Option, None, Some}
 use Rattle.std.specs.List.{list_all}
 use Rattle.vc_plan.specs.declared.conditions.Condition.{Condition}
-use Rattle.vc_plan.specs.declared.conditions.Condition.TheVariants.{Always, Compared, IsIn, Specified, Holds, Filled, Not', And', Or'}
+use Rattle.vc_plan.specs.declared.conditions.Condition.TheVariants.{Always, Compared, IsIn, Specified, Holds, Filled}
+use Rattle.vc_plan.specs.declared.conditions.Condition.TheVariants.{Not', And', Or'}
 use Rattle.vc_plan.specs.declared.plans.Guard.{Guard}
 use Rattle.vc_plan.specs.declared.plans.Line as bill
 use Rattle.vc_plan.specs.declared.plans.Operation.{Operation}
@@ -75,7 +76,8 @@ is_set_at plan slots s = is_among slots (slot_of_set (slice_get plan.sets s))
 
 abbrev pub asks_within : Plan → List ℕ → Option Condition → Bool
 asks_within plan slots None = false
-asks_within plan slots (Some c) = list_all (is_at plan slots) (vars_read c) && list_all (is_set_at plan slots) (sets_read c)
+asks_within plan slots (Some c) = list_all (is_at plan slots) (vars_read c)
+    && list_all (is_set_at plan slots) (sets_read c)
 
 abbrev pub means_within : Plan → List ℕ → Option Term → Bool
 means_within plan slots None = false
@@ -92,7 +94,8 @@ means_own_parts i (Some term) = list_all (λ j. i == j) (owners_in term)
 
 -- a procedure's statements read what can be named at its slot, and sum over its own parts
 abbrev pub term_own : Plan → ℕ → ℕ → Bool
-term_own plan i term = means_within plan (scope plan i) (slice_get plan.terms term) && means_own_parts i (slice_get plan.terms term)
+term_own plan i term = means_within plan (scope plan i) (slice_get plan.terms term)
+    && means_own_parts i (slice_get plan.terms term)
 
 abbrev pub action_own : Plan → ℕ → Action → Bool
 action_own plan i (Assign v term) = term_own plan i term
@@ -111,11 +114,13 @@ reads_own plan procedure = list_all (statement_own plan procedure.slot) procedur
 
 -- preconditions, selection conditions, quantities and times likewise
 abbrev pub guard_own : Plan → Guard → Bool
-guard_own plan guard = asks_within plan (scope_if (scope plan) (slot_of_named plan guard.at)) (slice_get plan.conditions guard.condition)
+guard_own plan guard =
+    asks_within plan (scope_if (scope plan) (slot_of_named plan guard.at)) (slice_get plan.conditions guard.condition)
 
 abbrev pub requirement_own : Plan → Requirement → Bool
 requirement_own plan requirement =
-    asks_within plan (scope_if (scope plan) (slot_of_named plan requirement.at)) (slice_get plan.conditions requirement.selection.condition)
+    asks_within plan (scope_if (scope plan) (slot_of_named plan requirement.at))
+    (slice_get plan.conditions requirement.selection.condition)
 
 abbrev pub selection_within : Plan → List ℕ → Selection → Bool
 selection_within plan slots selection = asks_within plan slots (slice_get plan.conditions selection.condition)

@@ -1,5 +1,6 @@
 -- What a set of atoms says.
-use Rattle.std.specs.Prelude.{ℕ, Bool, false, not, ◌&&◌, ◌==◌, if◌then◌else◌, List, [], ◌∷◌, slice_get, Option, None, Some}
+use Rattle.std.specs.Prelude.{ℕ, Bool, false, not, ◌&&◌, ◌==◌, if◌then◌else◌, List, [], ◌∷◌, slice_get, Option, None}
+use Rattle.std.specs.Prelude.{Some}
 use Rattle.std.specs.List.{filter}
 use Rattle.vc_base.specs.Sets.{has}
 use Rattle.vc_value.specs.declared.value.Value.{Value}

@@ -1,5 +1,6 @@
 -- What is hidden, what is required, and the status of an evaluation that is settled.
-use Rattle.std.specs.Prelude.{ℕ, Bool, true, false, not, ◌&&◌, ◌||◌, ◌==◌, if◌then◌else◌, List, [], ◌∷◌, length, slice_get, Option, None, Some, is_none, is_some}
+use Rattle.std.specs.Prelude.{ℕ, Bool, true, false, not, ◌&&◌, ◌||◌, ◌==◌, if◌then◌else◌, List, [], ◌∷◌, length}
+use Rattle.std.specs.Prelude.{slice_get, Option, None, Some, is_none, is_some}
 use Rattle.std.specs.List.{find, list_any}
 use Rattle.vc_plan.specs.declared.atoms.Culprit.{Culprit}
 use Rattle.vc_plan.specs.declared.atoms.Culprit.TheVariants.{Hidden, HiddenSet}
@@ -75,7 +76,8 @@ covers grain (Some piece) = is_part grain piece
 
 abbrev pub is_value_hidden : Plan → Reading → Named → Piece → Bool
 is_value_hidden plan reading named grain =
-    list_any (λ guard. same_named guard.at named && covers grain guard.value && is_forbidden plan reading guard) plan.guards
+    list_any (λ guard. same_named guard.at named && covers grain guard.value && is_forbidden plan reading guard)
+    plan.guards
 
 -- whether the characteristic is marked as required
 abbrev pub is_marked : Option Characteristic → Bool
@@ -98,9 +100,11 @@ characteristic_of plan (Set s) = of_set (slice_get plan.sets s)
 abbrev pub is_required : Plan → Reading → Named → Bool
 is_required plan reading named =
     is_marked (characteristic_of plan named)
-    || list_any (λ requirement. same_named requirement.at named && is_true (truth_at plan reading requirement.selection.condition)) plan.requirements
+    || list_any (λ requirement. same_named requirement.at named
+    && is_true (truth_at plan reading requirement.selection.condition)) plan.requirements
 
--- whether a precondition of an instance here is violated: it is False, and what it stands at has a value, or has that value
+-- whether a precondition of an instance here is violated: it is False, and what it stands at has a value, or has that
+-- value
 abbrev pub has_guarded : Reading → Named → Option Piece → Bool
 has_guarded reading named None = has_value reading named
 has_guarded reading named (Some piece) = has_piece reading named piece
@@ -117,7 +121,8 @@ culprit_at (Set s) dependency = HiddenSet dependency s
 -- whether a value is still asked for: the instance is here, and it is required, not hidden and without value
 abbrev pub is_open : Plan → Seen → Reading → Named → Bool
 is_open plan seen reading named =
-    is_named_here plan seen named && is_required plan reading named && not (is_hidden plan reading named) && not (has_value reading named)
+    is_named_here plan seen named && is_required plan reading named && not (is_hidden plan reading named)
+    && not (has_value reading named)
 
 abbrev pub has_open : Plan → Seen → Reading → Bool
 has_open plan seen reading =

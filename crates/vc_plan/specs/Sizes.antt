@@ -1,12 +1,14 @@
 -- How large the numbers of terms get.
-use Rattle.std.specs.Prelude.{ℕ, ◌+◌, ◌-◌, ◌*◌, ◌/◌, ◌^◌, max, Bool, true, ◌&&◌, nat_le, unsigned_abs, slice_get, Option, None, Some}
+use Rattle.std.specs.Prelude.{ℕ, ◌+◌, ◌-◌, ◌*◌, ◌/◌, ◌^◌, max, Bool, true, ◌&&◌, nat_le, unsigned_abs, slice_get}
+use Rattle.std.specs.Prelude.{Option, None, Some}
 use Rattle.vc_value.specs.declared.grains.Grain.{Grain}
 use Rattle.vc_value.specs.declared.table_header.Domain.{Domain}
 use Rattle.vc_value.specs.declared.table_header.Domain.TheVariants.{Texts, Nums}
 use Rattle.vc_value.specs.declared.value.Value.{Value}
 use Rattle.vc_value.specs.declared.value.Value.TheVariants.{Text, Num}
 use Rattle.vc_plan.specs.declared.conditions.Condition.{Condition}
-use Rattle.vc_plan.specs.declared.conditions.Condition.TheVariants.{Always, Compared, IsIn, Specified, Holds, Filled, Not', And', Or'}
+use Rattle.vc_plan.specs.declared.conditions.Condition.TheVariants.{Always, Compared, IsIn, Specified, Holds, Filled}
+use Rattle.vc_plan.specs.declared.conditions.Condition.TheVariants.{Not', And', Or'}
 use Rattle.vc_plan.specs.declared.plans.Plan.{Plan}
 use Rattle.vc_plan.specs.declared.terms.Function.{Function}
 use Rattle.vc_plan.specs.declared.terms.Function.TheVariants.{Negative, Abs, Sign, Trunc, Floor, Ceil, Frac}

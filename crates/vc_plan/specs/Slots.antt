@@ -1,5 +1,6 @@
 -- The order of slots, and which lines they stand for.
-use Rattle.std.specs.Prelude.{ℕ, zero, suc, ◌+◌, Bool, true, false, not, ◌&&◌, ◌||◌, ◌==◌, nat_lt, is_some, if◌then◌else◌, List, [], ◌∷◌, length, slice_get, Option, None, Some}
+use Rattle.std.specs.Prelude.{ℕ, zero, suc, ◌+◌, Bool, true, false, not, ◌&&◌, ◌||◌, ◌==◌, nat_lt, is_some}
+use Rattle.std.specs.Prelude.{if◌then◌else◌, List, [], ◌∷◌, length, slice_get, Option, None, Some}
 use Rattle.std.specs.List.{filter, list_all, list_any}
 use Rattle.vc_value.specs.Words.{same_bytes}
 use Rattle.vc_plan.specs.declared.plans.Line as bill

@@ -1,5 +1,6 @@
 -- How names, materials and texts of a plan are spelled.
-use Rattle.std.specs.Prelude.{ℕ, ◌/◌, Bool, true, false, not, ◌&&◌, ◌||◌, ◌==◌, nat_lt, nat_le, List, [], ◌∷◌, length, map, Option, None, Some}
+use Rattle.std.specs.Prelude.{ℕ, ◌/◌, Bool, true, false, not, ◌&&◌, ◌||◌, ◌==◌, nat_lt, nat_le, List, [], ◌∷◌, length}
+use Rattle.std.specs.Prelude.{map, Option, None, Some}
 use Rattle.std.specs.Char.{is_ascii_alphanumeric, to_ascii_uppercase}
 use Rattle.std.specs.List.{filter, list_all}
 use Rattle.vc_value.specs.Names.{is_name}
@@ -17,7 +18,8 @@ abbrev pub is_material_byte : ℕ → Bool
 is_material_byte b = is_ascii_alphanumeric b || (((b == 45) || (b == 95)) || ((b == 46) || (b == 47)))
 
 abbrev pub is_material : List ℕ → Bool
-is_material word = (nat_lt 0 (length word) && nat_le (length word) 18) && (list_all is_material_byte word && is_upper word)
+is_material word = (nat_lt 0 (length word) && nat_le (length word) 18)
+    && (list_all is_material_byte word && is_upper word)
 
 abbrev pub is_unit : Option (List ℕ) → Bool
 is_unit None = true
@@ -30,7 +32,8 @@ begins_character b = not (b / 64 == 2)
 abbrev pub is_text : List ℕ → Bool
 is_text word = nat_lt 0 (length word) && nat_le (length (filter begins_character word)) 30
 
--- a control character: below the space, the one behind the last graphic one of ASCII, or one of those from U+0080 to U+009F
+-- a control character: below the space, the one behind the last graphic one of ASCII, or one of those from U+0080 to
+-- U+009F
 abbrev pub has_control : List ℕ → Bool
 has_control [] = false
 has_control (b ∷ []) = nat_lt b 32 || (b == 127)

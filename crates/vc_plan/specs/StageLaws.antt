@@ -1,5 +1,6 @@
 -- Laws over the definitions of stages, and of bills.
-use Rattle.std.specs.Prelude.{◌≡◌, ◌<◌, ◌≤◌, ℕ, ◌+◌, Bool, true, false, ◌==◌, nat_lt, nat_le, if◌then◌else◌, List, [], ◌∷◌, ◌++◌, length, map, slice_get, slice_index_or, Option, None, Some}
+use Rattle.std.specs.Prelude.{◌≡◌, ◌<◌, ◌≤◌, ℕ, ◌+◌, Bool, true, false, ◌==◌, nat_lt, nat_le, if◌then◌else◌, List, []}
+use Rattle.std.specs.Prelude.{◌∷◌, ◌++◌, length, map, slice_get, slice_index_or, Option, None, Some}
 use Rattle.std.specs.List.{filter, list_all, list_any}
 use Rattle.vc_base.specs.Rounds.{settled}
 use Rattle.vc_value.specs.declared.value.Value.{Value}
@@ -39,7 +40,8 @@ UsersDecide = (plan : Plan) (users others : Users) → ChooseAlike users others
 abbrev pub StagesWriteTheirOwn : Type 0
 StagesWriteTheirOwn = (plan : Plan) → list_all (writes_own plan) plan.procedures ≡ true
     → (user_holds : ℕ → ℕ → Bool) (depth : ℕ) (set : List Atom) (entries : Entries) (v : ℕ)
-    → is_at plan (instances_at plan (seen_of set) depth) v ≡ false → written_at (depth_writes plan user_holds depth set entries) v ≡ written_at entries v
+    → is_at plan (instances_at plan (seen_of set) depth) v ≡ false
+    → written_at (depth_writes plan user_holds depth set entries) v ≡ written_at entries v
 
 abbrev pub SumsWriteTheirOwn : Type 0
 SumsWriteTheirOwn = (plan : Plan) → list_all (writes_own plan) plan.procedures ≡ true
@@ -49,12 +51,14 @@ SumsWriteTheirOwn = (plan : Plan) → list_all (writes_own plan) plan.procedures
 
 -- the lines of an instance come in item order
 abbrev pub ItemsAscend : Type 0
-ItemsAscend = (plan : Plan) (seen : Seen) (reading : Reading) (i : ℕ) → are_in_order nat_lt (lines_of plan seen reading i) ≡ true
+ItemsAscend = (plan : Plan) (seen : Seen) (reading : Reading) (i : ℕ)
+    → are_in_order nat_lt (lines_of plan seen reading i) ≡ true
 
 -- a configurable line is taken exactly where its slot is here
 abbrev pub ComponentsAreTakenWhereHere : Type 0
 ComponentsAreTakenWhereHere = (plan : Plan) (seen : Seen) (reading : Reading) (n j : ℕ) (line : lines.Line)
-    → slice_get plan.lines n ≡ Some line → component_of plan n ≡ Some j → list_any (λ m. m == n) (lines_of plan seen reading line.slot) ≡ seen.here j
+    → slice_get plan.lines n ≡ Some line → component_of plan n ≡ Some j
+    → list_any (λ m. m == n) (lines_of plan seen reading line.slot) ≡ seen.here j
 
 -- in a valid plan each slot comes after its parent
 abbrev pub ParentsComeFirst : Type 0
@@ -100,7 +104,8 @@ pub record IsUpward (plan : Plan) (seen : Seen) : Type 0 where
   pub parents : (i p : ℕ) (slot : Slot) → slice_get plan.slots i ≡ Some slot → slot.parent ≡ Some p → seen.here i ≡ true
       → seen.here p ≡ true
 
--- of each slot the bill of a valid plan has the lines that it takes where it is here, once each, in item order, one level
+-- of each slot the bill of a valid plan has the lines that it takes where it is here, once each, in item order, one
+-- level
 -- below its depth; and no others
 abbrev pub taken_lines : Plan → Seen → Reading → ℕ → List BillLine
 taken_lines plan seen reading i =
@@ -113,13 +118,15 @@ BillsHaveTakenLines = (plan : Plan) → IsValid plan → (seen : Seen) (reading 
 
 -- where settling ends for a valid plan, the root is here, and with each slot its parent
 abbrev pub ParentsAreHere : Type 0
-ParentsAreHere = (plan : Plan) → IsValid plan → (sources : Sources) (set : List Atom) → settlement_of plan sources ≡ settled set
+ParentsAreHere = (plan : Plan) → IsValid plan → (sources : Sources) (set : List Atom)
+    → settlement_of plan sources ≡ settled set
     → IsUpward plan (seen_of set)
 
 -- what is read at the end is where the last stage settles, by the user's values and all that was written
 abbrev pub LastStageSettles : Type 0
 LastStageSettles = (plan : Plan) (users : Users) (sets : List (List Atom)) (entries : Entries)
-    → evaluation_of plan users ≡ reached sets entries → settlement_of plan (sources_of users entries) ≡ settled (last_set plan sets)
+    → evaluation_of plan users ≡ reached sets entries
+    → settlement_of plan (sources_of users entries) ≡ settled (last_set plan sets)
 
 -- so the bill that is shown of a valid plan has of each slot the lines that it takes at the last stage, if it is here
 abbrev pub BillsShowTakenLines : Type 0

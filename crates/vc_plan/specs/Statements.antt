@@ -1,5 +1,6 @@
 -- What a statement writes.
-use Rattle.std.specs.Prelude.{ℕ, ◌+◌, Bool, true, false, not, ◌&&◌, if◌then◌else◌, List, [], ◌∷◌, slice_get, Option, None, Some, is_none}
+use Rattle.std.specs.Prelude.{ℕ, ◌+◌, Bool, true, false, not, ◌&&◌, if◌then◌else◌, List, [], ◌∷◌, slice_get, Option}
+use Rattle.std.specs.Prelude.{None, Some, is_none}
 use Rattle.std.specs.List.{find, list_all}
 use Rattle.vc_value.specs.declared.value.Value.{Value}
 use Rattle.vc_plan.specs.declared.atoms.Mark.{Mark}
@@ -35,7 +36,8 @@ abbrev pub mark_of : Plan → ℕ → Value → Mark
 mark_of plan v a = if lies_in_some (grains_of plan v) a then Held a else Outside
 
 abbrev pub entered : Place → Mark → Bool → Option Written
-entered place mark hard = Some (record { mark = mark; hard = hard; procedure = place.procedure; statement = place.statement })
+entered place mark hard =
+    Some (record { mark = mark; hard = hard; procedure = place.procedure; statement = place.statement })
 
 -- a hard entry takes the place of any
 abbrev pub with_hard : Plan → Place → ℕ → Value → Entries → Entries
@@ -56,11 +58,13 @@ is_default_of a None = false
 is_default_of a (Some written) = not written.hard && is_value a (value_of_mark written.mark)
 
 abbrev pub without_default : Plan → ℕ → Value → Entries → Entries
-without_default plan v a entries = if is_default_of (fitted plan v a) (written_at entries v) then with_entry v None entries else entries
+without_default plan v a entries = if is_default_of (fitted plan v a) (written_at entries v)
+    then with_entry v None entries else entries
 
 -- whether the row has in the key's column the value of its term
 abbrev pub has_key : Plan → Reading → List Value → KeyTerm → Bool
-has_key plan reading row key = cell_passes (λ cell. is_value cell (value_at plan reading key.term)) (slice_get row key.column)
+has_key plan reading row key =
+    cell_passes (λ cell. is_value cell (value_at plan reading key.term)) (slice_get row key.column)
 
 abbrev pub has_keys : Plan → Reading → List KeyTerm → List Value → Bool
 has_keys plan reading keys row = list_all (has_key plan reading row) keys
@@ -86,9 +90,12 @@ with_value put (Some a) entries = put a entries
 
 -- what an action makes of the entries
 abbrev pub acted : Plan → Seen → Reading → Place → Action → Entries → Entries
-acted plan seen reading place (Assign v term) entries = with_value (with_hard plan place v) (value_at plan reading term) entries
-acted plan seen reading place (SetDefault v term) entries = with_value (with_default plan seen place v) (value_at plan reading term) entries
-acted plan seen reading place (DeleteDefault v term) entries = with_value (without_default plan v) (value_at plan reading term) entries
+acted plan seen reading place (Assign v term) entries =
+    with_value (with_hard plan place v) (value_at plan reading term) entries
+acted plan seen reading place (SetDefault v term) entries =
+    with_value (with_default plan seen place v) (value_at plan reading term) entries
+acted plan seen reading place (DeleteDefault v term) entries =
+    with_value (without_default plan v) (value_at plan reading term) entries
 acted plan seen reading place (LookUp table keys filled) entries =
     with_row plan place filled (find (has_keys plan reading keys) (rows_of plan table)) entries
 

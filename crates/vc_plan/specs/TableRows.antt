@@ -1,5 +1,6 @@
 -- What a table call of a constraint gives.
-use Rattle.std.specs.Prelude.{ℕ, Bool, false, not, ◌&&◌, ◌==◌, if◌then◌else◌, List, [], ◌∷◌, map, slice_get, Option, None, Some}
+use Rattle.std.specs.Prelude.{ℕ, Bool, false, not, ◌&&◌, ◌==◌, if◌then◌else◌, List, [], ◌∷◌, map, slice_get, Option}
+use Rattle.std.specs.Prelude.{None, Some}
 use Rattle.std.specs.List.{filter, list_any, list_all}
 use Rattle.vc_base.specs.Rounds.{Given, atoms}
 use Rattle.vc_value.specs.declared.value.Value.{Value}
@@ -31,7 +32,8 @@ cell_passes test (Some a) = test a
 
 -- whether a grain left of the variable holds the value
 abbrev pub has_left : Plan → Seen → ℕ → Value → Bool
-has_left plan seen v a = list_any (λ g. is_left plan seen v g && is_grain_with plan v (lies_in a) g) (numbers_below (count_of plan v))
+has_left plan seen v a =
+    list_any (λ g. is_left plan seen v g && is_grain_with plan v (lies_in a) g) (numbers_below (count_of plan v))
 
 -- whether a cell of this value is possible with what the column is given: the literal equals it, or a grain left of the
 -- variable holds it
@@ -67,14 +69,16 @@ rows_for plan seen table columns v = filter (is_possible_in plan seen (other_col
 
 -- whether all of the variable's columns have a cell in the grain, and whether all have the cell
 abbrev pub has_grain : Plan → ℕ → List Binding → ℕ → List Value → Bool
-has_grain plan v own g row = list_all (λ column. cell_passes (λ a. is_grain_with plan v (lies_in a) g) (slice_get row column.column)) own
+has_grain plan v own g row =
+    list_all (λ column. cell_passes (λ a. is_grain_with plan v (lies_in a) g) (slice_get row column.column)) own
 
 abbrev pub has_cell : List Binding → Value → List Value → Bool
 has_cell own a row = list_all (λ column. cell_passes (same_value a) (slice_get row column.column)) own
 
 -- the grains of the variable that no row has
 abbrev pub missing_grains : Plan → ℕ → List Binding → List (List Value) → List ℕ
-missing_grains plan v own rows = filter (λ g. not (list_any (has_grain plan v own g) rows)) (numbers_below (count_of plan v))
+missing_grains plan v own rows =
+    filter (λ g. not (list_any (has_grain plan v own g) rows)) (numbers_below (count_of plan v))
 
 -- the cell of the first of these columns
 abbrev pub first_cell : List Binding → List Value → Option Value

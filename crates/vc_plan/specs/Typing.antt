@@ -6,7 +6,8 @@ use Rattle.vc_value.specs.declared.table_header.Domain.TheVariants.{Texts, Nums}
 use Rattle.vc_value.specs.declared.value.Value.{Value}
 use Rattle.vc_value.specs.declared.value.Value.TheVariants.{Text, Num}
 use Rattle.vc_plan.specs.declared.conditions.Condition.{Condition}
-use Rattle.vc_plan.specs.declared.conditions.Condition.TheVariants.{Always, Compared, IsIn, Specified, Holds, Filled, Not', And', Or'}
+use Rattle.vc_plan.specs.declared.conditions.Condition.TheVariants.{Always, Compared, IsIn, Specified, Holds, Filled}
+use Rattle.vc_plan.specs.declared.conditions.Condition.TheVariants.{Not', And', Or'}
 use Rattle.vc_plan.specs.declared.conditions.Piece.{Piece}
 use Rattle.vc_plan.specs.declared.conditions.Piece.TheVariants.{OneText, Stretch}
 use Rattle.vc_plan.specs.declared.conditions.Relation.{Relation}
@@ -80,7 +81,8 @@ is_of_texts AtLeast = false
 
 -- whether two terms may stand in the relation
 abbrev pub meet : Plan → Relation → Term → Term → Bool
-meet plan r a b = (is_numeric plan a && is_numeric plan b) || ((is_textual plan a && is_textual plan b) && is_of_texts r)
+meet plan r a b = (is_numeric plan a && is_numeric plan b)
+    || ((is_textual plan a && is_textual plan b) && is_of_texts r)
 
 -- the same of a plan's terms
 abbrev pub meet_if : Plan → Relation → Option Term → Option Term → Bool
@@ -134,7 +136,8 @@ operand_term (Constant a) = Literal a
 operand_term (Variable v) = Read v
 
 abbrev pub binding_typed : Plan → ℕ → Binding → Bool
-binding_typed plan table binding = meets_list plan (column_list plan table binding.column) (operand_term binding.operand)
+binding_typed plan table binding =
+    meets_list plan (column_list plan table binding.column) (operand_term binding.operand)
 
 -- a comparison is none of equality: that is Equate
 abbrev pub is_equality : Relation → Bool
@@ -147,7 +150,8 @@ is_equality AtLeast = false
 
 abbrev pub kind_typed : Plan → Kind → Bool
 kind_typed plan (Among v restriction) = restriction_typed plan v restriction
-kind_typed plan (Compare r a b) = not (is_equality r) && meet_if plan r (slice_get plan.terms a) (slice_get plan.terms b)
+kind_typed plan (Compare r a b) = not (is_equality r)
+    && meet_if plan r (slice_get plan.terms a) (slice_get plan.terms b)
 kind_typed plan (Equate a b) = meet_if plan Equal (slice_get plan.terms a) (slice_get plan.terms b)
 kind_typed plan (ByTable table columns) = list_all (binding_typed plan table) columns
 kind_typed plan Never = true
@@ -165,7 +169,8 @@ abbrev pub action_typed : Plan → Action → Bool
 action_typed plan (Assign v term) = meet_if plan Equal (Some (Read v)) (slice_get plan.terms term)
 action_typed plan (SetDefault v term) = meet_if plan Equal (Some (Read v)) (slice_get plan.terms term)
 action_typed plan (DeleteDefault v term) = meet_if plan Equal (Some (Read v)) (slice_get plan.terms term)
-action_typed plan (LookUp table keys filled) = list_all (key_typed plan table) keys && list_all (filled_typed plan table) filled
+action_typed plan (LookUp table keys filled) = list_all (key_typed plan table) keys
+    && list_all (filled_typed plan table) filled
 
 abbrev pub statement_typed : Plan → Statement → Bool
 statement_typed plan statement = action_typed plan statement.action

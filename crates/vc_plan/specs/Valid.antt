@@ -1,5 +1,6 @@
 -- Plans that a model has: what every call may take for granted.
-use Rattle.std.specs.Prelude.{◌≡◌, ℕ, ◌^◌, Bool, true, false, not, ◌&&◌, ◌||◌, ◌==◌, nat_lt, nat_le, List, drop, length, slice_get, Option, None, Some, IsUtf8}
+use Rattle.std.specs.Prelude.{◌≡◌, ℕ, ◌^◌, Bool, true, false, not, ◌&&◌, ◌||◌, ◌==◌, nat_lt, nat_le, List, drop, length}
+use Rattle.std.specs.Prelude.{slice_get, Option, None, Some, IsUtf8}
 use Rattle.std.specs.List.{list_all}
 use Rattle.vc_value.specs.Words.{same_bytes}
 use Rattle.vc_plan.specs.declared.conditions.Condition.{Condition}
@@ -9,20 +10,24 @@ use Rattle.vc_plan.specs.declared.plans.Operation.{Operation}
 use Rattle.vc_plan.specs.declared.plans.Plan.{Plan}
 use Rattle.vc_plan.specs.declared.procedures.Statement.{Statement}
 use Rattle.vc_plan.specs.declared.terms.Term.{Term}
-use Rattle.vc_plan.specs.Alike.{are_of_one_domain, sets_of_one_domain, is_proper, have_one_bill, have_one_routing, lines_at, operations_at}
+use Rattle.vc_plan.specs.Alike.{are_of_one_domain, sets_of_one_domain, is_proper, have_one_bill, have_one_routing}
+use Rattle.vc_plan.specs.Alike.{lines_at, operations_at}
 use Rattle.vc_plan.specs.Bounds.{cell_bound}
 use Rattle.vc_plan.specs.Classes.{has_sets, has_its_vars, has_its_sets, are_procedures_in_order, are_guards_in_order}
 use Rattle.vc_plan.specs.Cuts.{is_cut}
 use Rattle.vc_plan.specs.Domains.{numbers_below, grains_in, texts_in, count_of, atom_count}
 use Rattle.vc_plan.specs.Lists.{has_its_list, has_its_texts, are_listed}
 use Rattle.vc_plan.specs.PartSums.{sums_numbers, condition_sums_numbers}
-use Rattle.vc_plan.specs.Ranges.{characteristic_there, object_there, slot_there, var_there, set_there, domain_there, condition_there, term_there}
+use Rattle.vc_plan.specs.Ranges.{characteristic_there, object_there, slot_there, var_there, set_there, domain_there}
+use Rattle.vc_plan.specs.Ranges.{condition_there, term_there}
 use Rattle.vc_plan.specs.RuleRanges.{rule_there, table_there}
 use Rattle.vc_plan.specs.ProcedureRanges.{procedure_there}
 use Rattle.vc_plan.specs.BillRanges.{line_there, operation_there, guard_there, requirement_there}
 use Rattle.vc_plan.specs.Orders.{are_apart, are_in_order}
-use Rattle.vc_plan.specs.Slots.{is_root, is_below, follows_in_preorder, is_item_before, has_its_slots, leaves_selections}
-use Rattle.vc_plan.specs.RuleShapes.{stays_at_its_slots, is_numbered, has_one_last, has_its_lines, are_one_rule, are_one_line, are_with_and_without, asks_by_right, columns_once, is_not_among}
+use Rattle.vc_plan.specs.Slots.{is_root, is_below, follows_in_preorder, is_item_before, has_its_slots}
+use Rattle.vc_plan.specs.Slots.{leaves_selections}
+use Rattle.vc_plan.specs.RuleShapes.{stays_at_its_slots, is_numbered, has_one_last, has_its_lines, are_one_rule}
+use Rattle.vc_plan.specs.RuleShapes.{are_one_line, are_with_and_without, asks_by_right, columns_once, is_not_among}
 use Rattle.vc_plan.specs.LookUps.{writes_own, action_proper, keys_apart, trigger_listed, guard_listed}
 use Rattle.vc_plan.specs.Outside.{conditions_outside, terms_outside}
 use Rattle.vc_plan.specs.Scopes.{reads_own, guard_own, requirement_own, operation_own, line_own, rule_own}
@@ -65,7 +70,8 @@ is_operation_before a b = nat_lt a.slot b.slot || ((a.slot == b.slot) && nat_lt 
 
 -- whether no text of the list has a control character, and how long the list is
 abbrev pub has_graphic_texts : Plan → Characteristic → Bool
-has_graphic_texts plan characteristic = list_all (λ t. is_graphic (slice_get plan.texts t)) (texts_in (Some characteristic.list))
+has_graphic_texts plan characteristic =
+    list_all (λ t. is_graphic (slice_get plan.texts t)) (texts_in (Some characteristic.list))
 
 abbrev pub list_length : Characteristic → ℕ
 list_length characteristic = length (grains_in (Some characteristic.list))
@@ -97,7 +103,8 @@ pub record IsValid (plan : Plan) : Type 0 where
   pub below : list_all (λ slot. is_below plan slot slot.parent) (drop 1 plan.slots) ≡ true
   pub preorder : each_slot plan (follows_in_preorder plan) ≡ true
   pub items : are_in_order is_item_before plan.slots ≡ true
-  pub line_slots : list_all (λ l. has_its_slots plan l (slice_get plan.lines l)) (numbers_below (length plan.lines)) ≡ true
+  pub line_slots : list_all (λ l. has_its_slots plan l (slice_get plan.lines l)) (numbers_below (length plan.lines))
+      ≡ true
   pub line_selections : list_all (leaves_selections plan) plan.lines ≡ true
   -- classes have a characteristic once; variables and sets are those of the slots' classes, by slot and class order
   pub classes : list_all (λ object. are_apart (λ c d. c == d) object.characteristics) plan.objects ≡ true
@@ -116,9 +123,12 @@ pub record IsValid (plan : Plan) : Type 0 where
   pub whole : list_all (has_its_list plan) plan.vars ≡ true
   pub cut : each_var plan (is_cut plan) ≡ true
   pub set_texts : list_all (has_its_texts plan) plan.sets ≡ true
-  -- tables: columns of different characteristics, which have no sets, and cells of their lists; keys once, where there are any
-  pub table_columns : list_all (λ table. are_apart (λ a b. a.characteristic == b.characteristic) table.columns) plan.tables ≡ true
-  pub single_columns : list_all (λ table. list_all (λ c. not (has_sets plan c.characteristic)) table.columns) plan.tables ≡ true
+  -- tables: columns of different characteristics, which have no sets, and cells of their lists; keys once, where there
+  -- are any
+  pub table_columns : list_all (λ table. are_apart (λ a b. a.characteristic == b.characteristic) table.columns)
+      plan.tables ≡ true
+  pub single_columns : list_all (λ table. list_all (λ c. not (has_sets plan c.characteristic)) table.columns)
+      plan.tables ≡ true
   pub cells : list_all (λ table. list_all (are_listed plan table.columns) table.rows) plan.tables ≡ true
   pub keys : list_all keys_apart plan.tables ≡ true
   -- rules: at their slots, none twice, one Last a variable, a Line for each slot but the root
@@ -132,7 +142,8 @@ pub record IsValid (plan : Plan) : Type 0 where
   pub asked_by_right : list_all (asks_by_right plan) plan.rules ≡ true
   pub columns : list_all (λ rule. columns_once rule.kind) plan.rules ≡ true
   pub not_among : list_all (λ rule. is_not_among plan rule.kind) plan.rules ≡ true
-  -- typing: texts meet texts and numbers numbers, nets ask what is monotone, part sums stand in procedures, sizes are kept
+  -- typing: texts meet texts and numbers numbers, nets ask what is monotone, part sums stand in procedures, sizes are
+  -- kept
   pub conditions_typed : list_all (condition_typed plan) plan.conditions ≡ true
   pub rules_typed : list_all (λ rule. kind_typed plan rule.kind) plan.rules ≡ true
   pub statements_typed : each_statement plan (statement_typed plan) ≡ true
@@ -148,7 +159,8 @@ pub record IsValid (plan : Plan) : Type 0 where
   -- procedures write at their own slot, and look up by all keys
   pub own_writes : list_all (writes_own plan) plan.procedures ≡ true
   pub look_ups : each_statement plan (λ statement. action_proper plan statement.action) ≡ true
-  -- all but constraints read what can be named where they stand: the slot, its parent and the root; a line its owner and the root
+  -- all but constraints read what can be named where they stand: the slot, its parent and the root; a line its owner
+  -- and the root
   pub procedure_reads : list_all (reads_own plan) plan.procedures ≡ true
   pub guard_reads : list_all (guard_own plan) plan.guards ≡ true
   pub requirement_reads : list_all (requirement_own plan) plan.requirements ≡ true
@@ -173,7 +185,8 @@ pub record IsValid (plan : Plan) : Type 0 where
   pub table_names : list_all (λ table. is_upper_name table.name) plan.tables ≡ true
   pub materials : list_all (λ object. is_material object.material) plan.objects ≡ true
   pub line_words : list_all (λ line. is_material line.material && is_material line.unit) plan.lines ≡ true
-  pub operation_words : list_all (λ operation. is_upper_name operation.name && is_material operation.unit) plan.operations ≡ true
+  pub operation_words : list_all (λ operation. is_upper_name operation.name && is_material operation.unit)
+      plan.operations ≡ true
   pub line_items : list_all (λ line. is_four_digits line.item) plan.lines ≡ true
   pub operation_numbers : list_all (λ operation. is_four_digits operation.number) plan.operations ≡ true
   pub texts : list_all is_text plan.texts ≡ true

@@ -1,5 +1,6 @@
 -- The stages in which procedures run, and what those of a stage write.
-use Rattle.std.specs.Prelude.{ℕ, zero, suc, ◌+◌, max, Bool, true, false, not, ◌&&◌, ◌||◌, ◌==◌, if◌then◌else◌, List, [], ◌∷◌, length, reverse, slice_get, Option, None, Some}
+use Rattle.std.specs.Prelude.{ℕ, zero, suc, ◌+◌, max, Bool, true, false, not, ◌&&◌, ◌||◌, ◌==◌, if◌then◌else◌, List, []}
+use Rattle.std.specs.Prelude.{◌∷◌, length, reverse, slice_get, Option, None, Some}
 use Rattle.std.specs.List.{filter, flat_map, list_any}
 use Rattle.vc_plan.specs.declared.atoms.Atom.{Atom}
 use Rattle.vc_plan.specs.declared.conditions.Condition.{Condition}
@@ -37,7 +38,8 @@ action_sums plan (DeleteDefault v term) = term_sums (slice_get plan.terms term)
 action_sums plan (LookUp table keys filled) = list_any (λ key. term_sums (slice_get plan.terms key.term)) keys
 
 abbrev pub statement_sums : Plan → Statement → Bool
-statement_sums plan statement = action_sums plan statement.action || asked_sums (slice_get plan.conditions statement.condition)
+statement_sums plan statement = action_sums plan statement.action
+    || asked_sums (slice_get plan.conditions statement.condition)
 
 -- a summing procedure has a sum over parts in one of its statements
 abbrev pub is_summing : Plan → Procedure → Bool
@@ -81,14 +83,17 @@ stages plan = last_stage plan + 1
 -- the summing procedures of a slot, or its others, in their order
 abbrev pub is_at : Plan → Bool → ℕ → Option Procedure → Bool
 is_at plan summing i None = false
-is_at plan summing i (Some procedure) = (procedure.slot == i) && (if is_summing plan procedure then summing else not summing)
+is_at plan summing i (Some procedure) = (procedure.slot == i)
+    && (if is_summing plan procedure then summing else not summing)
 
 abbrev pub procedures_at : Plan → Bool → ℕ → List ℕ
-procedures_at plan summing i = filter (λ p. is_at plan summing i (slice_get plan.procedures p)) (numbers_below (length plan.procedures))
+procedures_at plan summing i =
+    filter (λ p. is_at plan summing i (slice_get plan.procedures p)) (numbers_below (length plan.procedures))
 
 -- the instances of a depth that are here, by slot number
 abbrev pub instances_at : Plan → Seen → ℕ → List ℕ
-instances_at plan seen depth = filter (λ i. (depth_of plan i == depth) && seen.here i) (numbers_below (length plan.slots))
+instances_at plan seen depth =
+    filter (λ i. (depth_of plan i == depth) && seen.here i) (numbers_below (length plan.slots))
 
 -- the set of a stage, by its number
 abbrev pub set_at : List (List Atom) → ℕ → List Atom

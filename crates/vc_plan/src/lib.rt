@@ -4,7 +4,6 @@
 pub mod atoms;
 pub mod conditions;
 pub mod counts;
-pub mod first;
 pub mod laws;
 pub mod plans;
 pub mod procedures;
@@ -26,6 +25,3 @@ pub use rules::{Binding, Kind, Operand, Restriction, Rule};
 pub use shown::{BillLine, OperationLine, Status};
 pub use terms::{Function, Operator, Term};
 pub use views::{Reading, View};
-
-#[cfg(test)]
-mod tests;

@@ -1,5 +1,6 @@
 -- Whom to blame where steps conclude what can't stand together, and with which premises.
-use Rattle.std.specs.Prelude.{ℕ, suc, Bool, true, false, not, ◌&&◌, ◌||◌, ◌==◌, if◌then◌else◌, List, [], ◌∷◌, ◌++◌, length, map, slice_get, Option, None, Some}
+use Rattle.std.specs.Prelude.{ℕ, suc, Bool, true, false, not, ◌&&◌, ◌||◌, ◌==◌, if◌then◌else◌, List, [], ◌∷◌, ◌++◌}
+use Rattle.std.specs.Prelude.{length, map, slice_get, Option, None, Some}
 use Rattle.std.specs.List.{filter, find, list_any, position_or_len}
 use Rattle.vc_base.specs.Chains.{cited}
 use Rattle.vc_plan.specs.declared.atoms.Atom.{Atom}
@@ -53,7 +54,8 @@ or_else (Some x) second = Some x
 -- an atom and one that is at odds with it: that a grain is out, where there is such a one, else another value
 abbrev pub beside_atom : Plan → List Atom → Atom → List Atom
 beside_atom plan stand atom =
-    pair_with atom (or_else (find (λ b. is_out b && are_at_odds plan atom b) stand) (find (are_at_odds plan atom) stand))
+    pair_with atom (or_else (find (λ b. is_out b && are_at_odds plan atom b) stand)
+    (find (are_at_odds plan atom) stand))
 
 -- the atoms that can't stand together: those that exhaust a variable, and only where there is none a pair
 abbrev pub colliding_by : Plan → List Atom → Atom → Option ℕ → List Atom

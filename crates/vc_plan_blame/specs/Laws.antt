@@ -22,7 +22,8 @@ use Rattle.vc_plan_reasons.specs.Checking.{are_of, concluded, is_accepted, set_w
 use Rattle.vc_plan_reasons.specs.Fitting.{sources_fit}
 use Rattle.vc_plan_reasons.specs.Refuting.{refutes, set_without}
 use Rattle.vc_plan_reasons.specs.Things.{giver_reads}
-use Rattle.vc_plan_blame.specs.Blame.{are_at_odds, blame, clash_by, clash_citing, clash_of, culprit_giving, culprit_of, exhausted_by, exhausting, is_out, uses_up}
+use Rattle.vc_plan_blame.specs.Blame.{are_at_odds, blame, clash_by, clash_citing, clash_of, culprit_giving, culprit_of}
+use Rattle.vc_plan_blame.specs.Blame.{exhausted_by, exhausting, is_out, uses_up}
 
 -- there is a clash, and it refutes the sources
 abbrev pub Blames : Plan → Sources → Option Clash → Type 0
@@ -34,7 +35,8 @@ pub record IsSettling (plan : Plan) (sources : Sources) (log : List Step) : Type
   pub fits : sources_fit plan sources ≡ true
   pub accepts : is_accepted plan sources log ≡ true
 
--- a clash of accepted steps refutes where what it cites can't stand together, though without any one of it the rest can, and
+-- a clash of accepted steps refutes where what it cites can't stand together, though without any one of it the rest
+-- can, and
 -- some of it has a culprit
 abbrev pub CollidingIsBlamed : Type 0
 CollidingIsBlamed = (plan : Plan) (sources : Sources) (log : List Step) (numbers : List ℕ) (premises : List Atom)

@@ -172,6 +172,3 @@ pub fn lamp(alloc: Global) -> Result<Plan, AllocError>
         requirements: Listed::new(alloc),
     })
 }
-
-#[cfg(test)]
-mod tests;

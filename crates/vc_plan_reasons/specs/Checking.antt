@@ -37,7 +37,8 @@ abbrev pub is_by : ℕ → ℕ → Option Entry → Bool
 is_by procedure statement None = false
 is_by procedure statement (Some entry) = (entry.procedure == procedure) && (entry.statement == statement)
 
--- the giver that is meant by an origin of an atom of a variable: a rule, the user's value, or the entry that this statement
+-- the giver that is meant by an origin of an atom of a variable: a rule, the user's value, or the entry that this
+-- statement
 -- wrote
 abbrev pub giver_from : Sources → Origin → Option ℕ → Option Giver
 giver_from sources (Rule r) v = Some (by_rule r)
@@ -67,7 +68,8 @@ are_of things premises = list_all (λ atom. has_thing things (thing_of atom)) pr
 abbrev pub set_with : List Atom → List Atom
 set_with premises = base ++ premises
 
--- whether the step follows from premises: they are a clear set, its giver reads their things, and gives its conclusion there
+-- whether the step follows from premises: they are a clear set, its giver reads their things, and gives its conclusion
+-- there
 abbrev pub follows : Plan → Sources → Step → List Atom → Bool
 follows plan sources step premises =
     let giver = giver_of sources step in
@@ -110,4 +112,5 @@ ends_with atom (step ∷ (next ∷ more)) = ends_with atom (next ∷ more)
 
 -- whether the steps are a chain of reasons for the atom: accepted, none in vain, and the last concludes it
 abbrev pub is_chain_for : Plan → Sources → Atom → List Step → Bool
-is_chain_for plan sources atom steps = (is_accepted plan sources steps && is_trimmed_chain steps) && ends_with atom steps
+is_chain_for plan sources atom steps = (is_accepted plan sources steps && is_trimmed_chain steps)
+    && ends_with atom steps

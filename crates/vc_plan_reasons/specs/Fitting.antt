@@ -1,5 +1,6 @@
 -- Sources that fit a plan: what may be taken for granted of them.
-use Rattle.std.specs.Prelude.{◌≡◌, ℕ, Bool, true, false, ◌&&◌, ◌==◌, List, [], ◌∷◌, length, slice_get, Option, None, Some}
+use Rattle.std.specs.Prelude.{◌≡◌, ℕ, Bool, true, false, ◌&&◌, ◌==◌, List, [], ◌∷◌, length, slice_get, Option, None}
+use Rattle.std.specs.Prelude.{Some}
 use Rattle.std.specs.List.{list_all, list_any}
 use Rattle.vc_value.specs.declared.value.Value.{Value}
 use Rattle.vc_plan.specs.declared.atoms.Atom.{Atom}
@@ -61,7 +62,8 @@ EvaluationsFit = (plan : Plan) (users : Users)
     → list_all (writes_own plan) plan.procedures ≡ true → users_fit plan users ≡ true
     → sources_fit plan (sources_at_end users (evaluation_of plan users)) ≡ true
 
--- the sources of the first stage fit, where nothing is written yet; and where those of a stage do, so do those of the next
+-- the sources of the first stage fit, where nothing is written yet; and where those of a stage do, so do those of the
+-- next
 pub record AllStagesFit (plan : Plan) (users : Users) : Type 0 where
   pub first : sources_fit plan (sources_of users (no_entries plan)) ≡ true
   pub next : (later : ℕ) (sets : List (List Atom)) (set : List Atom) (entries : Entries)

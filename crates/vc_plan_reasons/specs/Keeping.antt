@@ -42,7 +42,8 @@ entry_differs old new v = not (same_entry (entry_of old v) (entry_of new v))
 
 -- the variables for which either differs
 abbrev pub changed : Plan → Sources → Sources → List ℕ
-changed plan old new = filter (λ v. user_differs old new v || entry_differs old new v) (numbers_below (length plan.vars))
+changed plan old new =
+    filter (λ v. user_differs old new v || entry_differs old new v) (numbers_below (length plan.vars))
 
 -- whether the source that is an atom's origin differs; a rule is none
 abbrev pub origin_differs : Sources → Sources → Origin → Option ℕ → Bool

@@ -20,10 +20,12 @@ use Rattle.vc_plan.specs.Seen.{Seen, same_atom, seen_of}
 use Rattle.vc_plan.specs.Settle.{base, settlement_of}
 use Rattle.vc_plan.specs.Sources.{Sources, entry_of}
 use Rattle.vc_plan.specs.Valid.{IsValid}
-use Rattle.vc_plan_reasons.specs.Checking.{concluded, first_refused_step, is_accepted, is_by, is_chain_for, is_whole, set_with, step_form}
+use Rattle.vc_plan_reasons.specs.Checking.{concluded, first_refused_step, is_accepted, is_by, is_chain_for, is_whole}
+use Rattle.vc_plan_reasons.specs.Checking.{set_with, step_form}
 use Rattle.vc_plan_reasons.specs.Keeping.{changed, is_gone, kept_of}
 use Rattle.vc_plan_reasons.specs.Refuting.{refutes}
-use Rattle.vc_plan_reasons.specs.Things.{Thing, var_at, same_thing, has_thing, thing_of, size_of, giver_reads, giver_writes}
+use Rattle.vc_plan_reasons.specs.Things.{Thing, var_at, same_thing, has_thing, thing_of, size_of, giver_reads}
+use Rattle.vc_plan_reasons.specs.Things.{giver_writes}
 use Rattle.vc_plan_reasons.specs.Work.{links_of, reach_of}
 
 -- a list is accepted exactly where no step is the first that isn't
@@ -41,7 +43,8 @@ ConclusionsStand = (plan : Plan) (sources : Sources) (steps : List Step) (closed
 -- an atom that has a chain stands where settling ends
 abbrev pub ChainsStand : Type 0
 ChainsStand = (plan : Plan) (sources : Sources) (atom : Atom) (steps : List Step) (set : List Atom)
-    → is_chain_for plan sources atom steps ≡ true → settlement_of plan sources ≡ settled set → has same_atom set atom ≡ true
+    → is_chain_for plan sources atom steps ≡ true → settlement_of plan sources ≡ settled set
+    → has same_atom set atom ≡ true
 
 -- a whole list concludes just what settling ends at
 abbrev pub WholeSettles : Type 0
@@ -52,7 +55,8 @@ WholeSettles = (plan : Plan) (sources : Sources) (steps : List Step) → is_whol
 -- where a clash refutes, settling is broken
 abbrev pub RefutingBreaks : Type 0
 RefutingBreaks =
-    (plan : Plan) (sources : Sources) (clash : Clash) → refutes plan sources clash ≡ true → settlement_of plan sources ≡ broken
+    (plan : Plan) (sources : Sources) (clash : Clash) → refutes plan sources clash ≡ true
+    → settlement_of plan sources ≡ broken
 
 -- the culprit is a rule of the plan that is neither of a last grain nor of a line, and so a constraint's; or a
 -- statement that wrote an entry of the sources
@@ -67,7 +71,8 @@ IsGuilty plan sources (HiddenSet dependency set) = ⊥
 -- so is the culprit of a clash that refutes: never the user, nor the rule of a last grain or of a line
 abbrev pub RefutingBlames : Type 0
 RefutingBlames =
-    (plan : Plan) (sources : Sources) (clash : Clash) → refutes plan sources clash ≡ true → IsGuilty plan sources clash.culprit
+    (plan : Plan) (sources : Sources) (clash : Clash) → refutes plan sources clash ≡ true
+    → IsGuilty plan sources clash.culprit
 
 -- what is kept of a list that was accepted is accepted with the new sources
 abbrev pub KeptIsAccepted : Type 0
@@ -84,7 +89,8 @@ abbrev pub AreAlike : List Thing → List Atom → List Atom → Type 0
 AreAlike things set other =
     (atom : Atom) → has_thing things (thing_of atom) ≡ true → has same_atom set atom ≡ has same_atom other atom
 
--- what a giver says is the same at two sets, of which the second is clear, with the same atoms of the things that it reads;
+-- what a giver says is the same at two sets, of which the second is clear, with the same atoms of the things that it
+-- reads;
 -- this is what makes its premises enough
 abbrev pub SaysLocally : Type 0
 SaysLocally = (plan : Plan) (sources : Sources) (giver : Giver) (set other : List Atom)
@@ -115,7 +121,8 @@ FewOfAThing = (plan : Plan) (set : List Atom) (thing : Thing) → is_clear plan 
 
 -- in a valid plan, whatever is dropped of an accepted log concludes an atom of a thing that the changed variables reach
 abbrev pub DroppedIsReached : Type 0
-DroppedIsReached = (plan : Plan) → IsValid plan → (old new : Sources) (log : List Step) → is_accepted plan old log ≡ true
+DroppedIsReached = (plan : Plan) → IsValid plan → (old new : Sources) (log : List Step)
+    → is_accepted plan old log ≡ true
     → (left : IsLeft step_form (is_gone old new) log (kept_of old new log)) (n : ℕ) (step : Step)
     → slice_get log n ≡ Some step → left.dropped (suc n) ≡ true
     → has_thing (reach_of plan (map var_at (changed plan old new))) (thing_of step.conclusion) ≡ true

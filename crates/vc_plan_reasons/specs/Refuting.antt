@@ -1,5 +1,6 @@
 -- Which lists of steps, with a culprit, show that sources contradict each other.
-use Rattle.std.specs.Prelude.{ℕ, Bool, true, false, not, ◌&&◌, ◌||◌, ◌==◌, List, [], ◌∷◌, length, map, slice_get, Option, None, Some}
+use Rattle.std.specs.Prelude.{ℕ, Bool, true, false, not, ◌&&◌, ◌||◌, ◌==◌, List, [], ◌∷◌, length, map, slice_get}
+use Rattle.std.specs.Prelude.{Option, None, Some}
 use Rattle.std.specs.List.{filter, list_any, list_all}
 use Rattle.vc_base.specs.Chains.{all_pass, are_cited, cited}
 use Rattle.vc_base.specs.Rounds.{is_clash}

@@ -1,5 +1,6 @@
 -- Lists of steps without those that are in vain.
-use Rattle.std.specs.Prelude.{◌≡◌, ℕ, zero, suc, Bool, true, false, not, ◌&&◌, ◌||◌, List, [], ◌∷◌, length, map, slice_index_or}
+use Rattle.std.specs.Prelude.{◌≡◌, ℕ, zero, suc, Bool, true, false, not, ◌&&◌, ◌||◌, List, [], ◌∷◌, length, map}
+use Rattle.std.specs.Prelude.{slice_index_or}
 use Rattle.vc_base.specs.Chains.{is_among}
 use Rattle.vc_base.specs.Kept.{number_left, without}
 use Rattle.vc_plan.specs.declared.atoms.Atom.{Atom}

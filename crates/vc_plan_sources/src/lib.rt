@@ -4,6 +4,3 @@
 pub mod sources;
 
 pub use sources::Sources;
-
-#[cfg(test)]
-mod tests;

@@ -1,6 +1,7 @@
 -- What the user chose, as it begins and as it is after a change: of each variable a value, and of each set which of its
 -- texts are held.
-use Rattle.std.specs.Prelude.{ℕ, Bool, false, ◌==◌, if◌then◌else◌, List, map, slice_index_or, slice_set, Option, None, Some}
+use Rattle.std.specs.Prelude.{ℕ, Bool, false, ◌==◌, if◌then◌else◌, List, map, slice_index_or, slice_set, Option, None}
+use Rattle.std.specs.Prelude.{Some}
 use Rattle.std.specs.List.{filter}
 use Rattle.vc_value.specs.declared.value.Value.{Value}
 use Rattle.vc_plan.specs.declared.plans.Plan.{Plan}
@@ -55,4 +56,5 @@ abbrev pub let_go : SetText → SetText
 let_go listed = record { text = listed.text; held = false }
 
 abbrev pub without_texts : Chosen → ℕ → Chosen
-without_texts chosen set = record { values = chosen.values; sets = slice_set chosen.sets set (map let_go (set_at chosen set)) }
+without_texts chosen set =
+    record { values = chosen.values; sets = slice_set chosen.sets set (map let_go (set_at chosen set)) }

@@ -4,6 +4,3 @@
 pub mod users;
 
 pub use users::{SetText, UserValues};
-
-#[cfg(test)]
-mod tests;

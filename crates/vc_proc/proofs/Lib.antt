@@ -3,5 +3,4 @@ pub mod LyingLemmas
 pub mod OverlayLemmas
 pub mod RunLemmas
 pub mod StageLaws
-pub mod TestLemmas
 pub mod WritingLemmas

@@ -1,5 +1,6 @@
 -- What statements write lies in the grains.
-use Rattle.std.proofs.Common.{◌≡◌, ◌⊎◌, ℕ, zero, suc, ◌+◌, Bool, true, false, ◌&&◌, List, [], ◌∷◌, length, map, refl, sym, ◌∙◌, ap, subst, inl, inr}
+use Rattle.std.proofs.Common.{◌≡◌, ◌⊎◌, ℕ, zero, suc, ◌+◌, Bool, true, false, ◌&&◌, List, [], ◌∷◌, length, map, refl}
+use Rattle.std.proofs.Common.{sym, ◌∙◌, ap, subst, inl, inr}
 use Rattle.std.specs.Prelude.{if◌then◌else◌, Option, None, Some, is_none, slice_get}
 use Rattle.std.specs.List.{find}
 use Rattle.std.proofs.lemmas.List.{length-set}
@@ -13,13 +14,16 @@ use Rattle.vc_plan.specs.declared.procedures.FilledColumn.{FilledColumn}
 use Rattle.vc_plan.specs.declared.procedures.Procedure.{Procedure}
 use Rattle.vc_plan.specs.declared.procedures.Statement.{Statement}
 use Rattle.vc_plan.specs.Domains.{grains_of}
-use Rattle.vc_plan.specs.Entries.{Entries, Written, is_soft, no_entries, value_beside, value_of_mark, with_entry, written_at}
+use Rattle.vc_plan.specs.Entries.{Entries, Written, is_soft, no_entries, value_beside, value_of_mark, with_entry}
+use Rattle.vc_plan.specs.Entries.{written_at}
 use Rattle.vc_plan.specs.Kleene.{is_true}
 use Rattle.vc_plan.specs.Parts.{procedure_reading}
 use Rattle.vc_plan.specs.Pieces.{lies_in_some}
 use Rattle.vc_plan.specs.Readings.{Reading}
 use Rattle.vc_plan.specs.Seen.{Seen}
-use Rattle.vc_plan.specs.Statements.{Place, acted, all_stated, entered, fitted, has_keys, is_default_of, mark_of, stated, takes_default, with_cell, with_cells, with_default, with_hard, with_row, with_value, without_default}
+use Rattle.vc_plan.specs.Statements.{Place, acted, all_stated, entered, fitted, has_keys, is_default_of, mark_of}
+use Rattle.vc_plan.specs.Statements.{stated, takes_default, with_cell, with_cells, with_default, with_hard, with_row}
+use Rattle.vc_plan.specs.Statements.{with_value, without_default}
 use Rattle.vc_plan.specs.TableRows.{has_left, rows_of}
 use Rattle.vc_plan.specs.Truth.{truth_at, value_at}
 use Rattle.vc_plan.specs.Writes.{all_run, is_triggered, run_procedure}
@@ -40,7 +44,8 @@ lies_beside plan seen entries lies lie v a e = by (written_at entries v) (lie v)
 
 -- an entry is read where it was put, and the others as before
 set_at : (entries : Entries) (v u : ℕ) (w : Option Written)
-    → ((v ≡ u) × (written_at (with_entry v w entries) u ≡ w)) ⊎ (written_at (with_entry v w entries) u ≡ written_at entries u)
+    → ((v ≡ u) × (written_at (with_entry v w entries) u ≡ w))
+    ⊎ (written_at (with_entry v w entries) u ≡ written_at entries u)
 set_at [] zero u w = inr refl
 set_at [] (suc v) u w = inr refl
 set_at (x ∷ entries) zero zero w = inl (refl, refl)
@@ -53,7 +58,8 @@ set_at (x ∷ entries) (suc v) (suc u) w =
     ]
 
 pub entry_lies : (plan : Plan) (entries : Entries) (v : ℕ) (w : Option Written)
-    → ((a : Value) → held_by w ≡ Some a → lies_in_some (grains_of plan v) a ≡ true) → EntriesLie plan entries → EntriesLie plan (with_entry v w entries)
+    → ((a : Value) → held_by w ≡ Some a → lies_in_some (grains_of plan v) a ≡ true) → EntriesLie plan entries
+    → EntriesLie plan (with_entry v w entries)
 entry_lies plan entries v w held lie u a e =
     elim (set_at entries v u w) [
       | inl same ↦ ap (λ n. lies_in_some (grains_of plan n) a) (sym same.0) ∙ held' same.0 (sym (ap held_by same.1) ∙ e)
@@ -65,18 +71,22 @@ entry_lies plan entries v w held lie u a e =
 
 -- what is kept wherever an entry is put that holds a value of a grain, or none, is kept by statements and procedures
 module _ (plan : Plan) (Keeps : Entries → Type 0)
-    (put : (entries : Entries) (v : ℕ) (w : Option Written) → ((a : Value) → held_by w ≡ Some a → lies_in_some (grains_of plan v) a ≡ true)
+    (put : (entries : Entries) (v : ℕ) (w : Option Written)
+    → ((a : Value) → held_by w ≡ Some a → lies_in_some (grains_of plan v) a ≡ true)
     → Keeps entries → Keeps (with_entry v w entries)) where
   -- whichever of two the test takes
   either_kept : (b : Bool) (x y : Entries) → (b ≡ true → Keeps x) → Keeps y → Keeps (if b then x else y)
   either_kept true x y f q = f refl
   either_kept false x y f q = q
 
-  hard_kept : (place : Place) (v : ℕ) (a : Value) (entries : Entries) → Keeps entries → Keeps (with_hard plan place v a entries)
+  hard_kept : (place : Place) (v : ℕ) (a : Value) (entries : Entries) → Keeps entries
+      → Keeps (with_hard plan place v a entries)
   hard_kept place v a entries kept =
-      put entries v (entered place (mark_of plan v (fitted plan v a)) true) (by (mark_of plan v (fitted plan v a)) refl) kept
+      put entries v (entered place (mark_of plan v (fitted plan v a)) true) (by (mark_of plan v (fitted plan v a)) refl)
+      kept
     where
-      by : (mark : Mark) → mark_of plan v (fitted plan v a) ≡ mark → (c : Value) → value_of_mark mark ≡ Some c → lies_in_some (grains_of plan v) c ≡ true
+      by : (mark : Mark) → mark_of plan v (fitted plan v a) ≡ mark → (c : Value) → value_of_mark mark ≡ Some c
+          → lies_in_some (grains_of plan v) c ≡ true
       by (Held b) k c e = let same : b ≡ c = cc in held_lies plan v (fitted plan v a) c (k ∙ ap Held same)
       by Outside k c e = absurd (cc)
 
@@ -101,7 +111,8 @@ module _ (plan : Plan) (Keeps : Entries → Type 0)
       either_kept (is_default_of (fitted plan v a) (written_at entries v)) (with_entry v None entries) entries
       (λ e. put entries v None (λ c k. absurd (cc)) kept) kept
 
-  cell_kept : (place : Place) (v : ℕ) (cell : Option Value) (entries : Entries) → Keeps entries → Keeps (with_cell plan place v cell entries)
+  cell_kept : (place : Place) (v : ℕ) (cell : Option Value) (entries : Entries) → Keeps entries
+      → Keeps (with_cell plan place v cell entries)
   cell_kept place v None entries kept = kept
   cell_kept place v (Some a) entries kept = hard_kept place v a entries kept
 
@@ -112,7 +123,8 @@ module _ (plan : Plan) (Keeps : Entries → Type 0)
       cells_kept place row columns (with_cell plan place column.var (slice_get row column.column) entries)
       (cell_kept place column.var (slice_get row column.column) entries kept)
 
-  row_kept : (place : Place) (columns : List FilledColumn) (row : Option (List Value)) (entries : Entries) → Keeps entries
+  row_kept : (place : Place) (columns : List FilledColumn) (row : Option (List Value)) (entries : Entries)
+      → Keeps entries
       → Keeps (with_row plan place columns row entries)
   row_kept place columns None entries kept = kept
   row_kept place columns (Some row) entries kept = cells_kept place row columns entries kept
@@ -125,33 +137,41 @@ module _ (plan : Plan) (Keeps : Entries → Type 0)
   acted_kept : (seen : Seen) (reading : Reading) (place : Place) (action : Action) (entries : Entries) → Keeps entries
       → Keeps (acted plan seen reading place action entries)
   acted_kept seen reading place (Assign v term) entries kept =
-      value_kept (with_hard plan place v) (value_at plan reading term) entries kept (λ a. hard_kept place v a entries kept)
+      value_kept (with_hard plan place v) (value_at plan reading term) entries kept
+      (λ a. hard_kept place v a entries kept)
   acted_kept seen reading place (SetDefault v term) entries kept =
-      value_kept (with_default plan seen place v) (value_at plan reading term) entries kept (λ a. default_kept seen place v a entries kept)
+      value_kept (with_default plan seen place v) (value_at plan reading term) entries kept
+      (λ a. default_kept seen place v a entries kept)
   acted_kept seen reading place (DeleteDefault v term) entries kept =
       value_kept (without_default plan v) (value_at plan reading term) entries kept (λ a. removed_kept v a entries kept)
   acted_kept seen reading place (LookUp table keys filled) entries kept =
       row_kept place filled (find (has_keys plan reading keys) (rows_of plan table)) entries kept
 
-  pub stated_kept : (seen : Seen) (holds : ℕ → ℕ → Bool) (place : Place) (statement : Statement) (entries : Entries) → Keeps entries
+  pub stated_kept : (seen : Seen) (holds : ℕ → ℕ → Bool) (place : Place) (statement : Statement) (entries : Entries)
+      → Keeps entries
       → Keeps (stated plan seen holds place statement entries)
   stated_kept seen holds place statement entries kept =
       let reading = procedure_reading plan seen entries holds in
-      either_kept (is_true (truth_at plan reading statement.condition)) (acted plan seen reading place statement.action entries) entries
+      either_kept (is_true (truth_at plan reading statement.condition))
+      (acted plan seen reading place statement.action entries) entries
       (λ e. acted_kept seen reading place statement.action entries kept) kept
 
-  all_stated_kept : (seen : Seen) (holds : ℕ → ℕ → Bool) (p n : ℕ) (statements : List Statement) (entries : Entries) → Keeps entries
+  all_stated_kept : (seen : Seen) (holds : ℕ → ℕ → Bool) (p n : ℕ) (statements : List Statement) (entries : Entries)
+      → Keeps entries
       → Keeps (all_stated plan seen holds p n statements entries)
   all_stated_kept seen holds p n [] entries kept = kept
   all_stated_kept seen holds p n (statement ∷ statements) entries kept =
-      all_stated_kept seen holds p (n + 1) statements (stated plan seen holds (record { procedure = p; statement = n }) statement entries)
+      all_stated_kept seen holds p (n + 1) statements
+      (stated plan seen holds (record { procedure = p; statement = n }) statement entries)
       (stated_kept seen holds (record { procedure = p; statement = n }) statement entries kept)
 
-  pub run_kept : (seen : Seen) (holds : ℕ → ℕ → Bool) (p : ℕ) (procedure : Option Procedure) (entries : Entries) → Keeps entries
+  pub run_kept : (seen : Seen) (holds : ℕ → ℕ → Bool) (p : ℕ) (procedure : Option Procedure) (entries : Entries)
+      → Keeps entries
       → Keeps (run_procedure plan seen holds p procedure entries)
   run_kept seen holds p None entries kept = kept
   run_kept seen holds p (Some procedure) entries kept =
-      either_kept (is_triggered seen holds entries procedure.trigger) (all_stated plan seen holds p 0 procedure.statements entries) entries
+      either_kept (is_triggered seen holds entries procedure.trigger)
+      (all_stated plan seen holds p 0 procedure.statements entries) entries
       (λ e. all_stated_kept seen holds p 0 procedure.statements entries kept) kept
 
   pub all_run_kept : (seen : Seen) (holds : ℕ → ℕ → Bool) (procedures : List ℕ) (entries : Entries) → Keeps entries
@@ -165,7 +185,8 @@ module _ (plan : Plan) (Keeps : Entries → Type 0)
 pub nothing_lies : (plan other : Plan) → EntriesLie plan (no_entries other)
 nothing_lies plan other v a e = by other.vars v e
   where
-    by : {X : Type 0} (xs : List X) (n : ℕ) → held_by (written_at (map (λ x. None) xs) n) ≡ Some a → lies_in_some (grains_of plan v) a ≡ true
+    by : {X : Type 0} (xs : List X) (n : ℕ) → held_by (written_at (map (λ x. None) xs) n) ≡ Some a
+        → lies_in_some (grains_of plan v) a ≡ true
     by [] n e = absurd (cc)
     by (x ∷ xs) zero e = absurd (cc)
     by (x ∷ xs) (suc n) e = by xs n e
@@ -174,23 +195,29 @@ pub nothing_lies_as : (plan : Plan) (entries : Entries) → entries ≡ no_entri
 nothing_lies_as plan entries e = subst (EntriesLie plan) (sym e) (nothing_lies plan plan)
 
 -- so what statements and procedures write lies in the grains, wherever an equation says that this is what is there
-pub stated_lies : (plan : Plan) (seen : Seen) (holds : ℕ → ℕ → Bool) (place : Place) (statement : Statement) (old new : Entries)
+pub stated_lies : (plan : Plan) (seen : Seen) (holds : ℕ → ℕ → Bool) (place : Place) (statement : Statement)
+    (old new : Entries)
     → EntriesLie plan old → new ≡ stated plan seen holds place statement old → EntriesLie plan new
 stated_lies plan seen holds place statement old new lie e =
-    subst (EntriesLie plan) (sym e) (stated_kept plan (EntriesLie plan) (entry_lies plan) seen holds place statement old lie)
+    subst (EntriesLie plan) (sym e)
+    (stated_kept plan (EntriesLie plan) (entry_lies plan) seen holds place statement old lie)
 
-pub run_lies : (plan : Plan) (seen : Seen) (holds : ℕ → ℕ → Bool) (p : ℕ) (procedure : Option Procedure) (old new : Entries) → EntriesLie plan old
+pub run_lies : (plan : Plan) (seen : Seen) (holds : ℕ → ℕ → Bool) (p : ℕ) (procedure : Option Procedure)
+    (old new : Entries) → EntriesLie plan old
     → new ≡ run_procedure plan seen holds p procedure old → EntriesLie plan new
 run_lies plan seen holds p procedure old new lie e =
     subst (EntriesLie plan) (sym e) (run_kept plan (EntriesLie plan) (entry_lies plan) seen holds p procedure old lie)
 
-pub all_run_lie : (plan : Plan) (seen : Seen) (holds : ℕ → ℕ → Bool) (procedures : List ℕ) (old new : Entries) → EntriesLie plan old
+pub all_run_lie : (plan : Plan) (seen : Seen) (holds : ℕ → ℕ → Bool) (procedures : List ℕ) (old new : Entries)
+    → EntriesLie plan old
     → new ≡ all_run plan seen holds procedures old → EntriesLie plan new
 all_run_lie plan seen holds procedures old new lie e =
-    subst (EntriesLie plan) (sym e) (all_run_kept plan (EntriesLie plan) (entry_lies plan) seen holds procedures old lie)
+    subst (EntriesLie plan) (sym e)
+    (all_run_kept plan (EntriesLie plan) (entry_lies plan) seen holds procedures old lie)
 
 -- and there are as many entries
 pub all_run_long : (plan : Plan) (seen : Seen) (holds : ℕ → ℕ → Bool) (procedures : List ℕ) (entries : Entries)
     → length (all_run plan seen holds procedures entries) ≡ length entries
 all_run_long plan seen holds procedures entries =
-    all_run_kept plan (λ list. length list ≡ length entries) (λ list v w held long. length-set list v w ∙ long) seen holds procedures entries refl
+    all_run_kept plan (λ list. length list ≡ length entries) (λ list v w held long. length-set list v w ∙ long) seen
+    holds procedures entries refl

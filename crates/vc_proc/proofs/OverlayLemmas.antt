@@ -1,5 +1,6 @@
 -- Lists of entries, as they are kept and as they are seen.
-use Rattle.std.proofs.Common.{◌≡◌, ℕ, zero, suc, ◌+◌, ◌<◌, ◌≤◌, List, [], ◌∷◌, ◌++◌, length, map, drop, replicate, refl, sym, ◌∙◌, ap, arith}
+use Rattle.std.proofs.Common.{◌≡◌, ℕ, zero, suc, ◌+◌, ◌<◌, ◌≤◌, List, [], ◌∷◌, ◌++◌, length, map, drop, replicate, refl}
+use Rattle.std.proofs.Common.{sym, ◌∙◌, ap, arith}
 use Rattle.std.specs.Prelude.{Option, None, option_map, slice_get, slice_index_or, slice_set}
 use Rattle.std.proofs.lemmas.List.{length-map, length-set, map-set, set_past}
 use Rattle.vc_plan.specs.declared.plans.Plan.{Plan}
@@ -31,7 +32,8 @@ pub begun : (plan : Plan) (list : List (Option Written)) (n : ℕ) → list ≡ 
 begun plan list n e same =
     ap (map (option_map written_from)) e ∙ (none_seen n ∙ (ap none_for same ∙ none_each plan.vars))
 
-pub entered : (list after : List (Option Written)) (seen : Entries) (v : ℕ) (w : Option Written) → map (option_map written_from) list ≡ seen
+pub entered : (list after : List (Option Written)) (seen : Entries) (v : ℕ) (w : Option Written)
+    → map (option_map written_from) list ≡ seen
     → after ≡ slice_set list v w → map (option_map written_from) after ≡ with_entry v (option_map written_from w) seen
 entered list after seen v w is e =
     ap (map (option_map written_from)) e
@@ -45,9 +47,11 @@ cleared_next : (old : List (Option Written)) (n : ℕ) → n < length old
     → slice_set (replicate n None ++ drop n old) n None ≡ replicate (suc n) None ++ drop (suc n) old
 cleared_next [] n below = absurd (omega (arith, below))
 cleared_next (x ∷ old) zero below = refl
-cleared_next (x ∷ old) (suc n) below = ap (λ (rest : List (Option Written)). None ∷ rest) (cleared_next old n (omega (arith, below)))
+cleared_next (x ∷ old) (suc n) below =
+    ap (λ (rest : List (Option Written)). None ∷ rest) (cleared_next old n (omega (arith, below)))
 
-pub cleared_step : (old list after : List (Option Written)) (n : ℕ) → n < length old → list ≡ replicate n None ++ drop n old → length list ≡ length old
+pub cleared_step : (old list after : List (Option Written)) (n : ℕ) → n < length old
+    → list ≡ replicate n None ++ drop n old → length list ≡ length old
     → after ≡ slice_set list n None → (after ≡ replicate (n + 1) None ++ drop (n + 1) old) × (length after ≡ length old)
 cleared_step old list after n below so_far long e =
     let one : suc n ≡ n + 1 = omega arith in (
@@ -56,7 +60,8 @@ cleared_step old list after n below so_far long e =
       ap length e ∙ (length-set list n None ∙ long),
     )
 
-pub cleared : (list after : List (Option Written)) (seen : Entries) → map (option_map written_from) list ≡ seen → after ≡ replicate (length list) None
+pub cleared : (list after : List (Option Written)) (seen : Entries) → map (option_map written_from) list ≡ seen
+    → after ≡ replicate (length list) None
     → map (option_map written_from) after ≡ replicate (length seen) None
 cleared list after seen is e =
     let long : length list ≡ length seen = sym (length-map list (option_map written_from)) ∙ ap length is in

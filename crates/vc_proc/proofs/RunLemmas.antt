@@ -1,5 +1,6 @@
 -- What procedures write one after another: what was written so far and what is to come are all of it.
-use Rattle.std.proofs.Common.{◌≡◌, ℕ, zero, suc, ◌+◌, ◌-◌, ◌<◌, ◌≤◌, Bool, true, false, List, [], ◌∷◌, ◌++◌, length, drop, get_or, refl, sym, ◌∙◌, ap, arith}
+use Rattle.std.proofs.Common.{◌≡◌, ℕ, zero, suc, ◌+◌, ◌-◌, ◌<◌, ◌≤◌, Bool, true, false, List, [], ◌∷◌, ◌++◌, length}
+use Rattle.std.proofs.Common.{drop, get_or, refl, sym, ◌∙◌, ap, arith}
 use Rattle.std.specs.Prelude.{if◌then◌else◌, flat_map, reverse, slice_get}
 use Rattle.std.specs.List.{filter, range_with_len}
 use Rattle.std.proofs.lemmas.List.{reverse-append}
@@ -23,12 +24,14 @@ drop_next (x ∷ xs) zero d below = refl
 drop_next (x ∷ xs) (suc n) d below = drop_next xs n d (omega (arith, below))
 
 module _ (plan : Plan) (seen : Seen) (holds : ℕ → ℕ → Bool) where
-  pub stated_next : (p : ℕ) (xs : List Statement) (n : ℕ) (x : Statement) (old new : Entries) → n < length xs → x ≡ get_or xs n x
+  pub stated_next : (p : ℕ) (xs : List Statement) (n : ℕ) (x : Statement) (old new : Entries) → n < length xs
+      → x ≡ get_or xs n x
       → new ≡ stated plan seen holds (record { procedure = p; statement = n }) x old
       → all_stated plan seen holds p (n + 1) (drop (n + 1) xs) new ≡ all_stated plan seen holds p n (drop n xs) old
   stated_next p xs n x old new below is e =
       ap (all_stated plan seen holds p (n + 1) (drop (n + 1) xs)) e
-      ∙ sym (ap (λ list. all_stated plan seen holds p n list old) (drop_next xs n x below ∙ (ap (λ y. y ∷ drop (suc n) xs) (sym is)
+      ∙ sym (ap (λ list. all_stated plan seen holds p n list old)
+      (drop_next xs n x below ∙ (ap (λ y. y ∷ drop (suc n) xs) (sym is)
       ∙ ap (λ k. x ∷ drop k xs) (let one : suc n ≡ n + 1 = omega arith in one))))
 
   -- one list of procedures after another
@@ -40,14 +43,16 @@ module _ (plan : Plan) (seen : Seen) (holds : ℕ → ℕ → Bool) where
   -- the procedures that pass from a number on: that of the number, if it passes, then those after it
   pub runs_next : (q : ℕ → Bool) (g n : ℕ) (old new : Entries) → g < n
       → new ≡ (if q g then run_procedure plan seen holds g (slice_get plan.procedures g) old else old)
-      → all_run plan seen holds (filter q (range_with_len (g + 1) (n - (g + 1)))) new ≡ all_run plan seen holds (filter q (range_with_len g (n - g))) old
+      → all_run plan seen holds (filter q (range_with_len (g + 1) (n - (g + 1)))) new
+      ≡ all_run plan seen holds (filter q (range_with_len g (n - g))) old
   runs_next q g n old new below e =
       ap (all_run plan seen holds (filter q (range_with_len (g + 1) (n - (g + 1))))) e
       ∙ (by (filter q (range_with_len (g + 1) (n - (g + 1)))) (q g)
       ∙ sym (ap (λ gs. all_run plan seen holds (filter q gs) old) (range_next g n below)))
     where
       by : (rest : List ℕ) (b : Bool)
-          → all_run plan seen holds rest (if b then run_procedure plan seen holds g (slice_get plan.procedures g) old else old)
+          → all_run plan seen holds rest
+          (if b then run_procedure plan seen holds g (slice_get plan.procedures g) old else old)
           ≡ all_run plan seen holds (if b then g ∷ rest else rest) old
       by rest true = refl
       by rest false = refl
@@ -75,7 +80,8 @@ module _ (plan : Plan) (seen : Seen) (holds : ℕ → ℕ → Bool) where
   last_first q k =
       ap (λ gs. reverse (filter q gs)) (range_split 0 k 1 (k + 1) k (omega arith) (omega arith))
       ∙ (ap reverse (filter-append q (numbers_below k) (k ∷ []))
-      ∙ (reverse-append (filter q (numbers_below k)) (filter q (k ∷ [])) ∙ by (reverse (filter q (numbers_below k))) (q k)))
+      ∙ (reverse-append (filter q (numbers_below k)) (filter q (k ∷ []))
+      ∙ by (reverse (filter q (numbers_below k))) (q k)))
     where
       by : (rest : List ℕ) (b : Bool) → reverse (if b then k ∷ [] else []) ++ rest ≡ (if b then k ∷ rest else rest)
       by rest true = refl

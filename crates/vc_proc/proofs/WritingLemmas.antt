@@ -13,7 +13,8 @@ use Rattle.vc_plan.specs.Entries.{Entries, Written, is_soft, value_of_mark, with
 use Rattle.vc_plan.specs.Pieces.{lies_in, lies_in_some, same_value}
 use Rattle.vc_plan.specs.Restrictions.{assigned}
 use Rattle.vc_plan.specs.Seen.{Seen, is_left, is_value}
-use Rattle.vc_plan.specs.Statements.{Place, entered, fitted, is_default_of, mark_of, takes_default, with_default, without_default}
+use Rattle.vc_plan.specs.Statements.{Place, entered, fitted, is_default_of, mark_of, takes_default, with_default}
+use Rattle.vc_plan.specs.Statements.{without_default}
 use Rattle.vc_plan.specs.TableRows.{has_left}
 use Rattle.vc_plan.proofs.PlanLaws.Atoms.{value_exact}
 use Rattle.vc_plan.proofs.PlanLaws.Lists.{any_grows}
@@ -26,10 +27,12 @@ use Rattle.vc_proc.specs.Overlays.{EntriesLie, held_by}
 use Rattle.vc_proc.specs.Writing.{mark_for}
 
 -- what a variable is to have, told as a mark
-pub mark_is : (plan : Plan) (v : ℕ) (a : Value) (x : Assigned) → assigned_given x ≡ assigned plan v a → mark_for x ≡ mark_of plan v a
+pub mark_is : (plan : Plan) (v : ℕ) (a : Value) (x : Assigned) → assigned_given x ≡ assigned plan v a
+    → mark_for x ≡ mark_of plan v a
 mark_is plan v a x e = by (lies_in_some (grains_of plan v) a) x e
   where
-    by : (b : Bool) (x : Assigned) → assigned_given x ≡ (if b then atoms (Is v a ∷ []) else clash) → mark_for x ≡ (if b then Held a else Outside)
+    by : (b : Bool) (x : Assigned) → assigned_given x ≡ (if b then atoms (Is v a ∷ []) else clash)
+        → mark_for x ≡ (if b then Held a else Outside)
     by true Nothing e = absurd (cc)
     by true NoGrain e = absurd (cc)
     by true (To w b) e = cc
@@ -51,21 +54,26 @@ outside_is plan v b e = by (lies_in_some (grains_of plan v) b) e
     by true e = absurd (cc)
     by false e = refl
 
-pub held_lies : (plan : Plan) (v : ℕ) (b a : Value) → mark_of plan v b ≡ Held a → lies_in_some (grains_of plan v) a ≡ true
+pub held_lies : (plan : Plan) (v : ℕ) (b a : Value) → mark_of plan v b ≡ Held a
+    → lies_in_some (grains_of plan v) a ≡ true
 held_lies plan v b a e = by (lies_in_some (grains_of plan v) b) refl e
   where
-    by : (c : Bool) → lies_in_some (grains_of plan v) b ≡ c → (if c then Held b else Outside) ≡ Held a → lies_in_some (grains_of plan v) a ≡ true
+    by : (c : Bool) → lies_in_some (grains_of plan v) b ≡ c → (if c then Held b else Outside) ≡ Held a
+        → lies_in_some (grains_of plan v) a ≡ true
     by true k e = let same : b ≡ a = cc in ap (lies_in_some (grains_of plan v)) (sym same) ∙ k
     by false k e = absurd (cc)
 
 -- a value that a grain left of the variable holds lies in a grain
-pub left_lies : (plan : Plan) (seen : Seen) (v : ℕ) (a : Value) → has_left plan seen v a ≡ true → lies_in_some (grains_of plan v) a ≡ true
+pub left_lies : (plan : Plan) (seen : Seen) (v : ℕ) (a : Value) → has_left plan seen v a ≡ true
+    → lies_in_some (grains_of plan v) a ≡ true
 left_lies plan seen v a e =
     sym (some_holds (grains_of plan v) a)
     ∙ any_grows (λ g. is_left plan seen v g && is_grain_with plan v (lies_in a) g) (grain_holds (grains_of plan v) a)
-    (λ g k. (and_parts (is_left plan seen v g) (is_grain_with plan v (lies_in a) g) k).1) (numbers_below (count_of plan v)) e
+    (λ g k. (and_parts (is_left plan seen v g) (is_grain_with plan v (lies_in a) g) k).1)
+    (numbers_below (count_of plan v)) e
 
-not_left : (plan : Plan) (seen : Seen) (v : ℕ) (a : Value) → lies_in_some (grains_of plan v) a ≡ false → has_left plan seen v a ≡ false
+not_left : (plan : Plan) (seen : Seen) (v : ℕ) (a : Value) → lies_in_some (grains_of plan v) a ≡ false
+    → has_left plan seen v a ≡ false
 not_left plan seen v a e = by (has_left plan seen v a) (left_lies plan seen v a)
   where
     by : (b : Bool) → (b ≡ true → lies_in_some (grains_of plan v) a ≡ true) → b ≡ false
@@ -83,14 +91,16 @@ pub default_held : (plan : Plan) (seen : Seen) (place : Place) (v : ℕ) (a f : 
     → new ≡ (if takes_default plan seen v f old then with_entry v (entered place (Held f) false) old else old)
     → new ≡ with_default plan seen place v a old
 default_held plan seen place v a f old new e k =
-    k ∙ ap (λ b. if takes_default plan seen v b old then with_entry v (entered place (Held b) false) old else old) (held_is plan v (fitted plan v a) f e)
+    k ∙ ap (λ b. if takes_default plan seen v b old then with_entry v (entered place (Held b) false) old else old)
+    (held_is plan v (fitted plan v a) f e)
 
 pub default_outside : (plan : Plan) (seen : Seen) (place : Place) (v : ℕ) (a : Value) (old : Entries)
     → Outside ≡ mark_of plan v (fitted plan v a) → old ≡ with_default plan seen place v a old
 default_outside plan seen place v a old e =
     let b = fitted plan v a in
     let none = not_left plan seen v b (outside_is plan v b e) in
-    let fails : takes_default plan seen v b old ≡ false = last_fails (is_none (seen.value v)) (is_soft (written_at old v)) (has_left plan seen v b) none in
+    let fails : takes_default plan seen v b old ≡ false
+    = last_fails (is_none (seen.value v)) (is_soft (written_at old v)) (has_left plan seen v b) none in
     sym (ap (λ t. if t then with_entry v (entered place (Held b) false) old else old) fails)
 
 -- and so is a default taken away
@@ -99,21 +109,26 @@ pub removed_held : (plan : Plan) (v : ℕ) (a f : Value) (old new : Entries)
     → new ≡ (if is_default_of f (written_at old v) then with_entry v None old else old)
     → new ≡ without_default plan v a old
 removed_held plan v a f old new e k =
-    k ∙ ap (λ b. if is_default_of b (written_at old v) then with_entry v None old else old) (held_is plan v (fitted plan v a) f e)
+    k ∙ ap (λ b. if is_default_of b (written_at old v) then with_entry v None old else old)
+    (held_is plan v (fitted plan v a) f e)
 
 pub removed_outside : (plan : Plan) (v : ℕ) (a : Value) (old : Entries) → EntriesLie plan old
     → Outside ≡ mark_of plan v (fitted plan v a) → old ≡ without_default plan v a old
 removed_outside plan v a old lie e =
     let b = fitted plan v a in
-    sym (ap (λ t. if t then with_entry v None old else old) (by (written_at old v) (λ c k. lie v c k) (outside_is plan v b e)))
+    sym (ap (λ t. if t then with_entry v None old else old)
+    (by (written_at old v) (λ c k. lie v c k) (outside_is plan v b e)))
   where
     apart : (c : Value) (t : Bool) → same_value (fitted plan v a) c ≡ t → lies_in_some (grains_of plan v) c ≡ true
         → lies_in_some (grains_of plan v) (fitted plan v a) ≡ false → t ≡ false
-    apart c true k lies out = absurd (let same = ap (lies_in_some (grains_of plan v)) (value_exact (fitted plan v a) c k) in cc)
+    apart c true k lies out =
+        absurd (let same = ap (lies_in_some (grains_of plan v)) (value_exact (fitted plan v a) c k) in cc)
     apart c false k lies out = refl
 
-    none_of : (hard : Bool) (mark : Mark) → ((c : Value) → value_of_mark mark ≡ Some c → lies_in_some (grains_of plan v) c ≡ true)
-        → lies_in_some (grains_of plan v) (fitted plan v a) ≡ false → (not hard && is_value (fitted plan v a) (value_of_mark mark)) ≡ false
+    none_of : (hard : Bool) (mark : Mark)
+        → ((c : Value) → value_of_mark mark ≡ Some c → lies_in_some (grains_of plan v) c ≡ true)
+        → lies_in_some (grains_of plan v) (fitted plan v a) ≡ false
+        → (not hard && is_value (fitted plan v a) (value_of_mark mark)) ≡ false
     none_of true mark f out = refl
     none_of false (Held c) f out = apart c (same_value (fitted plan v a) c) refl (f c refl) out
     none_of false Outside f out = refl

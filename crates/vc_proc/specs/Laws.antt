@@ -15,17 +15,21 @@ ValidCanRun = (plan : Plan) → IsValid plan → CanRun plan
 
 -- before a stage other than the last the procedures of one depth write
 abbrev pub DepthsAreWritten : Type 0
-DepthsAreWritten = (plan : Plan) (holds : ℕ → ℕ → Bool) (depth : ℕ) (late : List Bool) (set : List Atom) (entries : Entries)
+DepthsAreWritten = (plan : Plan) (holds : ℕ → ℕ → Bool) (depth : ℕ) (late : List Bool) (set : List Atom)
+    (entries : Entries)
     → suc depth < last_stage plan
     → stage_written plan holds (suc depth) late (seen_of set) entries ≡ depth_writes plan holds depth set entries
 
--- and before the last the summing ones, where of the instances that are here those have a flag that weren't in the stage
+-- and before the last the summing ones, where of the instances that are here those have a flag that weren't in the
+-- stage
 -- that their own procedures read
 abbrev pub FlagsLate : Plan → List (List Atom) → Seen → List Bool → Type 0
-FlagsLate plan sets seen late = (i : ℕ) → i < length plan.slots → seen.here i ≡ true → slice_index_or late i false ≡ not (was_here plan sets i)
+FlagsLate plan sets seen late = (i : ℕ) → i < length plan.slots → seen.here i ≡ true
+    → slice_index_or late i false ≡ not (was_here plan sets i)
 
 abbrev pub SumsAreWritten : Type 0
-SumsAreWritten = (plan : Plan) (holds : ℕ → ℕ → Bool) (late : List Bool) (sets : List (List Atom)) (set : List Atom) (entries : Entries)
+SumsAreWritten = (plan : Plan) (holds : ℕ → ℕ → Bool) (late : List Bool) (sets : List (List Atom)) (set : List Atom)
+    (entries : Entries)
     → FlagsLate plan sets (seen_of set) late
     → stage_written plan holds (last_stage plan) late (seen_of set) entries ≡ summing_writes plan holds sets set entries
 
@@ -39,5 +43,6 @@ NoneAreReplicas = (plan : Plan) → no_entries plan ≡ replicate (length plan.v
 
 -- what is written before a stage leaves as many entries as there were
 abbrev pub StagesKeepLengths : Type 0
-StagesKeepLengths = (plan : Plan) (holds : ℕ → ℕ → Bool) (stage : ℕ) (late : List Bool) (seen : Seen) (entries : Entries)
+StagesKeepLengths = (plan : Plan) (holds : ℕ → ℕ → Bool) (stage : ℕ) (late : List Bool) (seen : Seen)
+    (entries : Entries)
     → length (stage_written plan holds stage late seen entries) ≡ length entries

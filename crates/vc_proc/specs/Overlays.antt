@@ -19,4 +19,5 @@ held_by (Some written) = value_of_mark written.mark
 
 -- each value that is held lies in a grain of its variable
 abbrev pub EntriesLie : Plan → Entries → Type 0
-EntriesLie plan list = (v : ℕ) (a : Value) → held_by (written_at list v) ≡ Some a → lies_in_some (grains_of plan v) a ≡ true
+EntriesLie plan list = (v : ℕ) (a : Value) → held_by (written_at list v) ≡ Some a
+    → lies_in_some (grains_of plan v) a ≡ true

@@ -1,5 +1,6 @@
 -- What the procedures of a stage write, by what the stage before says.
-use Rattle.std.specs.Prelude.{◌≡◌, ℕ, ◌-◌, ◌^◌, ◌<◌, Bool, true, false, not, ◌&&◌, ◌==◌, nat_lt, if◌then◌else◌, List, length, reverse, flat_map, slice_index_or}
+use Rattle.std.specs.Prelude.{◌≡◌, ℕ, ◌-◌, ◌^◌, ◌<◌, Bool, true, false, not, ◌&&◌, ◌==◌, nat_lt, if◌then◌else◌, List}
+use Rattle.std.specs.Prelude.{length, reverse, flat_map, slice_index_or}
 use Rattle.std.specs.List.{filter, list_all}
 use Rattle.vc_plan.specs.declared.plans.Plan.{Plan}
 use Rattle.vc_plan.specs.Domains.{numbers_below}
@@ -23,7 +24,8 @@ depth_written plan holds depth seen entries =
 
 -- the instances that are here, but for those with a flag
 abbrev pub unflagged : Plan → List Bool → Seen → List ℕ
-unflagged plan late seen = filter (λ i. seen.here i && not (slice_index_or late i false)) (numbers_below (length plan.slots))
+unflagged plan late seen =
+    filter (λ i. seen.here i && not (slice_index_or late i false)) (numbers_below (length plan.slots))
 
 -- what their summing procedures write, from the last slot to the first
 abbrev pub sums_written : Plan → (ℕ → ℕ → Bool) → List Bool → Seen → Entries → Entries
@@ -33,4 +35,5 @@ sums_written plan holds late seen entries =
 -- what is written before a stage of this number: the last takes the sums
 abbrev pub stage_written : Plan → (ℕ → ℕ → Bool) → ℕ → List Bool → Seen → Entries → Entries
 stage_written plan holds stage late seen entries =
-    if stage == last_stage plan then sums_written plan holds late seen entries else depth_written plan holds (stage - 1) seen entries
+    if stage == last_stage plan
+    then sums_written plan holds late seen entries else depth_written plan holds (stage - 1) seen entries

@@ -13,6 +13,3 @@ pub mod writing;
 
 pub use overlay::{Overlay, Written};
 pub use stages::run_stage;
-
-#[cfg(test)]
-mod tests;

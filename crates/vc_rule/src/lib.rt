@@ -7,6 +7,3 @@ pub mod rooms;
 
 pub use evaluating::evaluate;
 pub use rooms::new_yield;
-
-#[cfg(test)]
-mod tests;

@@ -1,5 +1,6 @@
 -- Walks over a variable's grains: what they count, cite and conclude.
-use Rattle.std.proofs.Common.{◌≡◌, ℕ, zero, suc, ◌+◌, ◌<◌, ◌≤◌, Bool, true, false, cond, not, ◌&&◌, List, [], ◌∷◌, length, map, take, refl, sym, ◌∙◌, ap, arith}
+use Rattle.std.proofs.Common.{◌≡◌, ℕ, zero, suc, ◌+◌, ◌<◌, ◌≤◌, Bool, true, false, cond, not, ◌&&◌, List, [], ◌∷◌}
+use Rattle.std.proofs.Common.{length, map, take, refl, sym, ◌∙◌, ap, arith}
 use Rattle.std.specs.Prelude.{slice_get, None}
 use Rattle.std.specs.List.{filter, range_with_len}
 use Rattle.vc_base.specs.Rounds.{Given, clash, atoms}
@@ -47,11 +48,13 @@ all_counted [] = refl
 all_counted (g ∷ []) = refl
 all_counted (g ∷ (h ∷ more)) = several_stay more
 
-count_walked : (p : ℕ → Bool) (remaining : Remaining) (gs : List ℕ) → walked (count_step p) remaining gs ≡ counted remaining (filter p gs)
+count_walked : (p : ℕ → Bool) (remaining : Remaining) (gs : List ℕ)
+    → walked (count_step p) remaining gs ≡ counted remaining (filter p gs)
 count_walked p remaining [] = refl
 count_walked p remaining (g ∷ gs) =
     count_walked p (count_step p remaining g) gs
-    ∙ elim (p g) as (λ b. counted (cond b (with_one remaining g) remaining) (filter p gs) ≡ counted remaining (cond b (g ∷ filter p gs) (filter p gs))) [
+    ∙ elim (p g) as (λ b. counted (cond b (with_one remaining g) remaining) (filter p gs)
+    ≡ counted remaining (cond b (g ∷ filter p gs) (filter p gs))) [
       | true ↦ refl
       | false ↦ refl
     ]
@@ -59,11 +62,13 @@ count_walked p remaining (g ∷ gs) =
 pub remaining_walked : (p : ℕ → Bool) (gs : List ℕ) → walked (count_step p) Nothing gs ≡ remaining_of (filter p gs)
 remaining_walked p gs = count_walked p Nothing gs ∙ all_counted (filter p gs)
 
-pub cites_walked : (p : ℕ → Bool) (v : ℕ) (y : Yielded) (gs : List ℕ) → walked (cite_step p v) y gs ≡ cited_all y (map (Out v) (filter p gs))
+pub cites_walked : (p : ℕ → Bool) (v : ℕ) (y : Yielded) (gs : List ℕ)
+    → walked (cite_step p v) y gs ≡ cited_all y (map (Out v) (filter p gs))
 cites_walked p v y [] = refl
 cites_walked p v y (g ∷ gs) =
     cites_walked p v (cite_step p v y g) gs
-    ∙ elim (p g) as (λ b. cited_all (cond b (cited y (Out v g)) y) (map (Out v) (filter p gs)) ≡ cited_all y (map (Out v) (cond b (g ∷ filter p gs) (filter p gs)))) [
+    ∙ elim (p g) as (λ b. cited_all (cond b (cited y (Out v g)) y) (map (Out v) (filter p gs))
+    ≡ cited_all y (map (Out v) (cond b (g ∷ filter p gs) (filter p gs)))) [
       | true ↦ refl
       | false ↦ refl
     ]
@@ -83,16 +88,21 @@ excludes_walked seen p v y (g ∷ gs) =
         → take_conclusions (cond (b && not o) (concluded y (Out v g)) y) (plain seen (map (Out v) (filter p gs)))
         ≡ take_conclusions y (plain seen (map (Out v) (cond b (g ∷ filter p gs) (filter p gs))))
     step true true e =
-        ap (λ o. take_conclusions y (map (conclusion_from []) (cond (not o) (Out v g ∷ filter (λ a. not (says seen a)) (map (Out v) (filter p gs)))
+        ap (λ o. take_conclusions y
+        (map (conclusion_from [])
+        (cond (not o) (Out v g ∷ filter (λ a. not (says seen a)) (map (Out v) (filter p gs)))
         (filter (λ a. not (says seen a)) (map (Out v) (filter p gs)))))) (sym e)
     step true false e =
-        ap (λ z. take_conclusions z (plain seen (map (Out v) (filter p gs)))) (plain_taken y (concluded y (Out v g)) (Out v g) refl)
-        ∙ ap (λ o. take_conclusions y (map (conclusion_from []) (cond (not o) (Out v g ∷ filter (λ a. not (says seen a)) (map (Out v) (filter p gs)))
+        ap (λ z. take_conclusions z (plain seen (map (Out v) (filter p gs))))
+        (plain_taken y (concluded y (Out v g)) (Out v g) refl)
+        ∙ ap (λ o. take_conclusions y
+        (map (conclusion_from []) (cond (not o) (Out v g ∷ filter (λ a. not (says seen a)) (map (Out v) (filter p gs)))
         (filter (λ a. not (says seen a)) (map (Out v) (filter p gs)))))) (sym e)
     step false o e = refl
 
 -- what is said of a value that one grain has
-pub value_said : (seen : Seen) (why : List Atom) (y cites concludes keeps : Yielded) (a : Atom) → says seen a ≡ false → cites ≡ cited_all y why
+pub value_said : (seen : Seen) (why : List Atom) (y cites concludes keeps : Yielded) (a : Atom) → says seen a ≡ false
+    → cites ≡ cited_all y why
     → concludes ≡ concluded cites a → keeps ≡ with_cites concludes (take (length y.cites) concludes.cites)
     → keeps ≡ taken y (said_from seen why (atoms (a ∷ [])))
 value_said seen why y cites concludes keeps a e p q r =
@@ -113,17 +123,23 @@ not_out_left plan seen v = below 0 (count_of plan v) (omega arith)
     there (x ∷ pieces) (suc g) h = there pieces g (omega arith)
 
     below : (from n : ℕ) → from + n ≤ count_of plan v
-        → filter (λ g. not (seen.out v g) && is_grain_with plan v any_piece g) (range_with_len from n) ≡ filter (λ g. not (seen.out v g)) (range_with_len from n)
+        → filter (λ g. not (seen.out v g) && is_grain_with plan v any_piece g) (range_with_len from n)
+        ≡ filter (λ g. not (seen.out v g)) (range_with_len from n)
     below from zero h = refl
     below from (suc n) h =
-        ap (λ b. cond (not (seen.out v from) && b) (from ∷ filter (λ g. not (seen.out v g) && is_grain_with plan v any_piece g) (range_with_len (from + 1) n))
-        (filter (λ g. not (seen.out v g) && is_grain_with plan v any_piece g) (range_with_len (from + 1) n))) (there (grains_of plan v) from (omega arith))
-        ∙ (ap (λ b. cond b (from ∷ filter (λ g. not (seen.out v g) && is_grain_with plan v any_piece g) (range_with_len (from + 1) n))
-        (filter (λ g. not (seen.out v g) && is_grain_with plan v any_piece g) (range_with_len (from + 1) n))) (and_true (not (seen.out v from)))
+        ap (λ b. cond (not (seen.out v from) && b)
+        (from ∷ filter (λ g. not (seen.out v g) && is_grain_with plan v any_piece g) (range_with_len (from + 1) n))
+        (filter (λ g. not (seen.out v g) && is_grain_with plan v any_piece g) (range_with_len (from + 1) n)))
+        (there (grains_of plan v) from (omega arith))
+        ∙ (ap (λ b. cond b (from
+        ∷ filter (λ g. not (seen.out v g) && is_grain_with plan v any_piece g) (range_with_len (from + 1) n))
+        (filter (λ g. not (seen.out v g) && is_grain_with plan v any_piece g) (range_with_len (from + 1) n)))
+        (and_true (not (seen.out v from)))
         ∙ ap (λ gs. cond (not (seen.out v from)) (from ∷ gs) gs) (below (from + 1) n (omega arith)))
 
 -- what follows of how many grains are not out, by cases
-pub last_is : (plan : Plan) (seen : Seen) (v : ℕ) (r : Remaining) → r ≡ remaining_of (left_by plan seen v None any_piece)
+pub last_is : (plan : Plan) (seen : Seen) (v : ℕ) (r : Remaining)
+    → r ≡ remaining_of (left_by plan seen v None any_piece)
     → last_atoms plan v (not_out plan seen v) ≡ last_by plan v r
 last_is plan seen v r e =
     by_cases (not_out plan seen v) ∙ ap (last_by plan v) (sym (e ∙ ap remaining_of (not_out_left plan seen v)))
@@ -139,7 +155,8 @@ remaining_by plan v Nothing = clash
 remaining_by plan v (One g) = atoms (value_atoms v (only_value plan v g))
 remaining_by plan v Several = nothing
 
-pub remaining_is : (plan : Plan) (v : ℕ) (gs : List ℕ) (r : Remaining) → r ≡ remaining_of gs → of_remaining plan v gs ≡ remaining_by plan v r
+pub remaining_is : (plan : Plan) (v : ℕ) (gs : List ℕ) (r : Remaining) → r ≡ remaining_of gs
+    → of_remaining plan v gs ≡ remaining_by plan v r
 remaining_is plan v gs r e = by_cases gs ∙ ap (remaining_by plan v) (sym e)
   where
     by_cases : (gs : List ℕ) → of_remaining plan v gs ≡ remaining_by plan v (remaining_of gs)

@@ -13,7 +13,8 @@ pub record Walks {S : Type 0} (step : S → ℕ → S) (first now : S) (at count
   pub within : at ≤ count
   pub left : walked step now (range_with_len at (count - at)) ≡ walked step first (numbers_below count)
 
-pub walk_begun : {S : Type 0} (step : S → ℕ → S) (first now : S) (at count : ℕ) → now ≡ first → at ≡ 0 → Walks step first now at count
+pub walk_begun : {S : Type 0} (step : S → ℕ → S) (first now : S) (at count : ℕ) → now ≡ first → at ≡ 0
+    → Walks step first now at count
 walk_begun step first now at count e z = record {
   within = omega arith;
   left = ap (λ s. walked step s (range_with_len at (count - at))) e
@@ -21,7 +22,8 @@ walk_begun step first now at count e z = record {
       ∙ ap (λ n. walked step first (range_with_len 0 n)) (let k : count - 0 ≡ count = omega arith in k));
 }
 
-pub walk_on : {S : Type 0} (step : S → ℕ → S) (first now next : S) (at count : ℕ) → Walks step first now at count → at < count → next ≡ step now at
+pub walk_on : {S : Type 0} (step : S → ℕ → S) (first now next : S) (at count : ℕ) → Walks step first now at count
+    → at < count → next ≡ step now at
     → Walks step first next (at + 1) count
 walk_on step first now next at count w below e =
     let more : count - at ≡ suc (count - (at + 1)) = omega arith in record {
@@ -30,7 +32,8 @@ walk_on step first now next at count w below e =
           ∙ (ap (λ n. walked step now (range_with_len at n)) (sym more) ∙ w.left);
     }
 
-pub walk_done : {S : Type 0} (step : S → ℕ → S) (first now : S) (at count : ℕ) → Walks step first now at count → count ≤ at
+pub walk_done : {S : Type 0} (step : S → ℕ → S) (first now : S) (at count : ℕ) → Walks step first now at count
+    → count ≤ at
     → now ≡ walked step first (numbers_below count)
 walk_done step first now at count w past =
     let none : count - at ≡ 0 = omega arith in ap (λ n. walked step now (range_with_len at n)) (sym none) ∙ w.left

@@ -13,7 +13,8 @@ use Rattle.vc_rule_premises.specs.Saying.{Said, said_from}
 
 -- the variable's grains that are out and pass the test
 abbrev pub outs_with : Plan → Seen → ℕ → (Piece → Bool) → List Atom
-outs_with plan seen v test = map (Out v) (filter (λ g. seen.out v g && is_grain_with plan v test g) (numbers_below (count_of plan v)))
+outs_with plan seen v test =
+    map (Out v) (filter (λ g. seen.out v g && is_grain_with plan v test g) (numbers_below (count_of plan v)))
 
 -- why no more grains that pass the test are left: the variable's value, or that the others are out
 abbrev pub why_left_by : Plan → Seen → ℕ → (Piece → Bool) → Option Value → List Atom

@@ -1,4 +1,5 @@
--- What rules of the kinds Among, Never, Last and Line say where they act, with what it follows from beside that they act.
+-- What rules of the kinds Among, Never, Last and Line say where they act, with what it follows from beside that they
+-- act.
 use Rattle.std.specs.Prelude.{ℕ, Bool, true, if◌then◌else◌, List, [], ◌∷◌, ◌++◌, map, slice_get}
 use Rattle.std.specs.Option.{option_to_list}
 use Rattle.vc_base.specs.Rounds.{atoms}
@@ -18,10 +19,13 @@ use Rattle.vc_rule_grains.specs.Confining.{outs_with, why_left, why_confined}
 -- Among
 abbrev pub why_among : Plan → Seen → Rule → ℕ → Restriction → List Atom
 why_among plan seen rule v restriction =
-    let test = allows plan v restriction in if is_inferred rule v then why_confined plan seen v test else why_left plan seen v test
+    let test
+    = allows plan v restriction in if is_inferred rule v
+    then why_confined plan seen v test else why_left plan seen v test
 
 abbrev pub among_said : Plan → Seen → Rule → ℕ → Restriction → Said
-among_said plan seen rule v restriction = said_from seen (why_among plan seen rule v restriction) (among plan seen rule v restriction)
+among_said plan seen rule v restriction =
+    said_from seen (why_among plan seen rule v restriction) (among plan seen rule v restriction)
 
 -- Never
 abbrev pub never_said : Said
@@ -43,8 +47,11 @@ abbrev pub why_last : Plan → Seen → ℕ → List Atom
 why_last plan seen v = slot_of plan v ++ outs_with plan seen v any_piece
 
 abbrev pub last_said : Plan → Seen → ℕ → Said
-last_said plan seen v = said_from seen (why_last plan seen v) (atoms (if is_here plan seen v then last_atoms plan v (not_out plan seen v) else []))
+last_said plan seen v =
+    said_from seen (why_last plan seen v)
+    (atoms (if is_here plan seen v then last_atoms plan v (not_out plan seen v) else []))
 
 -- Line: the slot's parent is here
 abbrev pub line_said : Plan → Seen → ℕ → Said
-line_said plan seen i = said_from seen (parent_of plan i) (atoms (if is_parent_here plan seen i then Here i ∷ [] else []))
+line_said plan seen i =
+    said_from seen (parent_of plan i) (atoms (if is_parent_here plan seen i then Here i ∷ [] else []))

@@ -24,7 +24,8 @@ last_gives plan v seen = atoms (if is_here plan seen v then last_atoms plan v (n
 abbrev pub line_gives : Plan → ℕ → Seen → Given Atom
 line_gives plan i seen = atoms (if is_parent_here plan seen i then Here i ∷ [] else [])
 
--- what is given of a variable that is to lie in grains that pass a test is the same wherever a part of what is seen says why
+-- what is given of a variable that is to lie in grains that pass a test is the same wherever a part of what is seen
+-- says why
 abbrev pub ConfiningSuffices : Type 0
 ConfiningSuffices = (plan : Plan) (seen part : Seen) (v : ℕ) (test : Piece → Bool) → IsPartOf part seen
     → SaysAll part (why_confined plan seen v test) → confined plan part v test ≡ confined plan seen v test
@@ -45,7 +46,8 @@ abbrev pub Stands : Seen → Said → Type 0
 Stands seen said = each_premise (says seen) said ≡ true
 
 abbrev pub AmongStands : Type 0
-AmongStands = (plan : Plan) (seen : Seen) (rule : Rule) (v : ℕ) (restriction : Restriction) → Stands seen (among_said plan seen rule v restriction)
+AmongStands = (plan : Plan) (seen : Seen) (rule : Rule) (v : ℕ) (restriction : Restriction)
+    → Stands seen (among_said plan seen rule v restriction)
 
 abbrev pub LastStands : Type 0
 LastStands = (plan : Plan) (seen : Seen) (v : ℕ) → Stands seen (last_said plan seen v)
@@ -62,7 +64,8 @@ AmongIsRead = (plan : Plan) (seen : Seen) (rule : Rule) (v : ℕ) (restriction :
     → IsOf (var_at v ∷ []) (among_said plan seen rule v restriction)
 
 abbrev pub LastIsRead : Type 0
-LastIsRead = (plan : Plan) (seen : Seen) (v : ℕ) → IsOf (map slot_at (slots_of_var plan v) ++ var_at v ∷ []) (last_said plan seen v)
+LastIsRead = (plan : Plan) (seen : Seen) (v : ℕ)
+    → IsOf (map slot_at (slots_of_var plan v) ++ var_at v ∷ []) (last_said plan seen v)
 
 abbrev pub LineIsRead : Type 0
 LineIsRead = (plan : Plan) (seen : Seen) (i : ℕ) → IsOf (map slot_at (parents_of plan i)) (line_said plan seen i)

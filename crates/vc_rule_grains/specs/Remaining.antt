@@ -26,4 +26,5 @@ counted remaining (g ∷ gs) = counted (with_one remaining g) gs
 
 -- the grains that are left where the variable has this value, or none, and that pass the test
 abbrev pub left_by : Plan → Seen → ℕ → Option Value → (Piece → Bool) → List ℕ
-left_by plan seen v value test = filter (λ g. is_left_by plan seen v g value && is_grain_with plan v test g) (numbers_below (count_of plan v))
+left_by plan seen v value test =
+    filter (λ g. is_left_by plan seen v g value && is_grain_with plan v test g) (numbers_below (count_of plan v))

@@ -13,6 +13,3 @@ pub mod testing;
 pub use confining::{cite_why_left, confine};
 pub use kinds::{say_among, say_last, say_line, say_never};
 pub use testing::{AnyPiece, Test};
-
-#[cfg(test)]
-mod tests;

@@ -15,10 +15,12 @@ cited_append y (x ∷ xs) ys = cited_append (cited y x) xs ys
 pub values_append : (seen : Seen) (vs ws : List ℕ) → values_of seen (vs ++ ws) ≡ values_of seen vs ++ values_of seen ws
 values_append seen [] ws = refl
 values_append seen (v ∷ vs) ws =
-    ap (λ rest. value_of seen v ++ rest) (values_append seen vs ws) ∙ sym (append_assoc (value_of seen v) (values_of seen vs) (values_of seen ws))
+    ap (λ rest. value_of seen v ++ rest) (values_append seen vs ws)
+    ∙ sym (append_assoc (value_of seen v) (values_of seen vs) (values_of seen ws))
 
 -- first the values of some variables, then those of others
-pub cited_values : (y m n : Yielded) (seen : Seen) (vs ws : List ℕ) → m ≡ cited_all y (values_of seen vs) → n ≡ cited_all m (values_of seen ws)
+pub cited_values : (y m n : Yielded) (seen : Seen) (vs ws : List ℕ) → m ≡ cited_all y (values_of seen vs)
+    → n ≡ cited_all m (values_of seen ws)
     → n ≡ cited_all y (values_of seen (vs ++ ws))
 cited_values y m n seen vs ws p q =
     q ∙ (ap (λ z. cited_all z (values_of seen ws)) p
@@ -32,9 +34,12 @@ pub both_cited : (seen : Seen) (y m n : Yielded) (so is : Bool) (left right firs
     → n ≡ cited_all m (values_of seen (deciding (net_reading seen) so second))
     → n ≡ cited_all y (values_of seen (deciding (net_reading seen) so c))
 both_cited seen y m n so is left right first second c e f g h p q =
-    let by = λ (z : Yielded) (b : Bool) (a : Condition). cited_all z (values_of seen (deciding (net_reading seen) b a)) in
+    let by
+    = λ (z : Yielded) (b : Bool) (a : Condition). cited_all z (values_of seen (deciding (net_reading seen) b a)) in
     let one : m ≡ by y is left = p ∙ (ap (λ b. by y b first) e ∙ ap (by y is) f) in
     let two : n ≡ by m is right = q ∙ (ap (λ b. by m b second) e ∙ ap (by m is) g) in
-    let all : by y so c ≡ cited_all y (values_of seen (deciding (net_reading seen) is left ++ deciding (net_reading seen) is right)) =
+    let all : by y so c ≡ cited_all y
+    (values_of seen (deciding (net_reading seen) is left ++ deciding (net_reading seen) is right)) =
     ap (λ b. by y b c) e ∙ ap (λ vs. cited_all y (values_of seen vs)) h in
-    cited_values y m n seen (deciding (net_reading seen) is left) (deciding (net_reading seen) is right) one two ∙ sym all
+    cited_values y m n seen (deciding (net_reading seen) is left) (deciding (net_reading seen) is right) one two
+    ∙ sym all

@@ -6,7 +6,8 @@ use Rattle.std.proofs.lemmas.Bool.{and_parts, and_from}
 use Rattle.vc_base.specs.Sets.{Within}
 use Rattle.vc_base.proofs.SetLaws.{has_either, has_front, has_back}
 use Rattle.vc_plan.specs.declared.conditions.Condition.{Condition}
-use Rattle.vc_plan.specs.declared.conditions.Condition.TheVariants.{Always, Compared, IsIn, Specified, Holds, Filled, Not', And', Or'}
+use Rattle.vc_plan.specs.declared.conditions.Condition.TheVariants.{Always, Compared, IsIn, Specified, Holds, Filled}
+use Rattle.vc_plan.specs.declared.conditions.Condition.TheVariants.{Not', And', Or'}
 use Rattle.vc_plan.specs.declared.conditions.Kleene.{Kleene}
 use Rattle.vc_plan.specs.declared.conditions.Kleene.TheVariants.{True, False, Unknown}
 use Rattle.vc_plan.specs.declared.terms.Term.{Term}
@@ -16,7 +17,8 @@ use Rattle.vc_plan.specs.Numbers.{applied, joined}
 use Rattle.vc_plan.specs.Readings.{net_reading}
 use Rattle.vc_plan.specs.Reads.{vars_in, vars_read}
 use Rattle.vc_plan.specs.Seen.{Seen}
-use Rattle.vc_plan.specs.Truth.{number, number_of_value, value_of_number, term_value, compared, is_in, specified, truth, truth_in, truth_at}
+use Rattle.vc_plan.specs.Truth.{number, number_of_value, value_of_number, term_value, compared, is_in, specified, truth}
+use Rattle.vc_plan.specs.Truth.{truth_in, truth_at}
 use Rattle.vc_base.proofs.ListLaws.{number_exact, number_itself}
 use Rattle.vc_rule_premises.specs.Citing.{deciding_if}
 use Rattle.vc_rule_premises.specs.Deciding.{both_or_first, deciding, SameValues}
@@ -32,7 +34,8 @@ same_back t s [] ws h = h
 same_back t s (v ∷ vs) ws h = same_back t s vs ws h.1
 
 -- a term has the same number, and the same value
-pub number_same : (t s : Seen) (a : Term) → SameValues t s (vars_in a) → number (net_reading t) a ≡ number (net_reading s) a
+pub number_same : (t s : Seen) (a : Term) → SameValues t s (vars_in a)
+    → number (net_reading t) a ≡ number (net_reading s) a
 number_same t s (Literal a) h = refl
 number_same t s (Read v) h = ap number_of_value h.0
 number_same t s (PartSum slot characteristic) h = refl
@@ -43,7 +46,8 @@ number_same t s (Joined' operator p a q b) h =
     let right = number_same t s b (same_back t s (vars_in a) (vars_in b) h) in
     ap (λ x. joined operator x (number (net_reading t) b)) left ∙ ap (joined operator (number (net_reading s) a)) right
 
-pub value_same : (t s : Seen) (a : Term) → SameValues t s (vars_in a) → term_value (net_reading t) a ≡ term_value (net_reading s) a
+pub value_same : (t s : Seen) (a : Term) → SameValues t s (vars_in a)
+    → term_value (net_reading t) a ≡ term_value (net_reading s) a
 value_same t s (Literal a) h = refl
 value_same t s (Read v) h = h.0
 value_same t s (PartSum slot characteristic) h = refl
@@ -113,7 +117,8 @@ is_true_is False e = absurd (cc)
 is_true_is Unknown e = absurd (cc)
 
 -- an AND that is so, by what makes its sides so: k and l here, m and n there
-and_back : (t s : Seen) (so first : Bool) (k l m n : Kleene) (xs ys : List ℕ) → is_false k ≡ first → kleene_and k l ≡ truth_of so
+and_back : (t s : Seen) (so first : Bool) (k l m n : Kleene) (xs ys : List ℕ) → is_false k ≡ first
+    → kleene_and k l ≡ truth_of so
     → SameValues t s (both_or_first so first xs ys) → (k ≡ truth_of so → SameValues t s xs → m ≡ truth_of so)
     → (l ≡ truth_of so → SameValues t s ys → n ≡ truth_of so) → kleene_and m n ≡ truth_of so
 and_back t s true first k l m n xs ys i e h f g =
@@ -124,7 +129,8 @@ and_back t s true first k l m n xs ys i e h f g =
 and_back t s false true k l m n xs ys i e h f g = ap (λ x. kleene_and x n) (f (is_false_is k i) h)
 and_back t s false false k l m n xs ys i e h f g = and_false_back m n (g (and_false k l e i) h)
 
-or_back : (t s : Seen) (so first : Bool) (k l m n : Kleene) (xs ys : List ℕ) → is_true k ≡ first → kleene_or k l ≡ truth_of so
+or_back : (t s : Seen) (so first : Bool) (k l m n : Kleene) (xs ys : List ℕ) → is_true k ≡ first
+    → kleene_or k l ≡ truth_of so
     → SameValues t s (both_or_first (not so) first xs ys) → (k ≡ truth_of so → SameValues t s xs → m ≡ truth_of so)
     → (l ≡ truth_of so → SameValues t s ys → n ≡ truth_of so) → kleene_or m n ≡ truth_of so
 or_back t s false first k l m n xs ys i e h f g =
@@ -144,7 +150,8 @@ deciding_suffices s t so Always e h = e
 deciding_suffices s t so (Compared r a b) e h =
     let left = value_same t s a (same_front t s (vars_in a) (vars_in b) h) in
     let right = value_same t s b (same_back t s (vars_in a) (vars_in b) h) in
-    ap (λ x. compared r x (term_value (net_reading t) b)) left ∙ (ap (compared r (term_value (net_reading s) a)) right ∙ e)
+    ap (λ x. compared r x (term_value (net_reading t) b)) left
+    ∙ (ap (compared r (term_value (net_reading s) a)) right ∙ e)
 deciding_suffices s t so (IsIn v pieces) e h = ap (is_in pieces) h.0 ∙ e
 deciding_suffices s t so (Specified v) e h = ap (specified Unknown) h.0 ∙ e
 deciding_suffices s t so (Holds set text) e h = absurd (unknown_told so e)
@@ -152,11 +159,15 @@ deciding_suffices s t so (Filled set) e h = absurd (unknown_told so e)
 deciding_suffices s t so (Not' p c) e h =
     not_from so (truth (net_reading t) c) (deciding_suffices s t (not so) c (not_by so (truth (net_reading s) c) e) h)
 deciding_suffices s t so (And' p c q d) e h =
-    and_back t s so (is_false (truth (net_reading s) c)) (truth (net_reading s) c) (truth (net_reading s) d) (truth (net_reading t) c) (truth (net_reading t) d)
-    (deciding (net_reading s) so c) (deciding (net_reading s) so d) refl e h (deciding_suffices s t so c) (deciding_suffices s t so d)
+    and_back t s so (is_false (truth (net_reading s) c)) (truth (net_reading s) c) (truth (net_reading s) d)
+    (truth (net_reading t) c) (truth (net_reading t) d)
+    (deciding (net_reading s) so c) (deciding (net_reading s) so d) refl e h (deciding_suffices s t so c)
+    (deciding_suffices s t so d)
 deciding_suffices s t so (Or' p c q d) e h =
-    or_back t s so (is_true (truth (net_reading s) c)) (truth (net_reading s) c) (truth (net_reading s) d) (truth (net_reading t) c) (truth (net_reading t) d)
-    (deciding (net_reading s) so c) (deciding (net_reading s) so d) refl e h (deciding_suffices s t so c) (deciding_suffices s t so d)
+    or_back t s so (is_true (truth (net_reading s) c)) (truth (net_reading s) c) (truth (net_reading s) d)
+    (truth (net_reading t) c) (truth (net_reading t) d)
+    (deciding (net_reading s) so c) (deciding (net_reading s) so d) refl e h (deciding_suffices s t so c)
+    (deciding_suffices s t so d)
 
 -- what decides is read: two parts within two lists are within both together
 parts_within : (both first : Bool) (xs ys vs ws : List ℕ) → Within nat_eq xs vs → Within nat_eq ys ws
@@ -178,16 +189,20 @@ deciding_is_read s so (Holds set text) a h = h
 deciding_is_read s so (Filled set) a h = h
 deciding_is_read s so (Not' p c) a h = deciding_is_read s (not so) c a h
 deciding_is_read s so (And' p c q d) a h =
-    parts_within so (is_false (truth (net_reading s) c)) (deciding (net_reading s) so c) (deciding (net_reading s) so d) (vars_read c) (vars_read d)
+    parts_within so (is_false (truth (net_reading s) c)) (deciding (net_reading s) so c) (deciding (net_reading s) so d)
+    (vars_read c) (vars_read d)
     (deciding_is_read s so c) (deciding_is_read s so d) a h
 deciding_is_read s so (Or' p c q d) a h =
-    parts_within (not so) (is_true (truth (net_reading s) c)) (deciding (net_reading s) so c) (deciding (net_reading s) so d) (vars_read c) (vars_read d)
+    parts_within (not so) (is_true (truth (net_reading s) c)) (deciding (net_reading s) so c)
+    (deciding (net_reading s) so d) (vars_read c) (vars_read d)
     (deciding_is_read s so c) (deciding_is_read s so d) a h
 
-condition_suffices : (s t : Seen) (o : Option Condition) → is_true (truth_in (net_reading s) o) ≡ true → SameValues t s (deciding_if s o)
+condition_suffices : (s t : Seen) (o : Option Condition) → is_true (truth_in (net_reading s) o) ≡ true
+    → SameValues t s (deciding_if s o)
     → is_true (truth_in (net_reading t) o) ≡ true
 condition_suffices s t None e h = e
-condition_suffices s t (Some c) e h = ap is_true (deciding_suffices s t true c (is_true_is (truth (net_reading s) c) e) h)
+condition_suffices s t (Some c) e h =
+    ap is_true (deciding_suffices s t true c (is_true_is (truth (net_reading s) c) e) h)
 
 pub acting_suffices : ActingSuffices
 acting_suffices plan s t rule e here same =

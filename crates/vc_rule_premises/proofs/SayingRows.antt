@@ -7,9 +7,11 @@ use Rattle.vc_plan.specs.Seen.{seen_of}
 use Rattle.vc_rule_yield.specs.Yielding.{Rooms, nothing_in}
 use Rattle.vc_rule_premises.specs.Cited.{cited_once}
 use Rattle.vc_rule_premises.specs.Citing.{cited_all}
-use Rattle.vc_rule_premises.specs.Saying.{Said, clashing, concluding, conclusion_from, said_from, together, clash_when, taken, said_with, held}
+use Rattle.vc_rule_premises.specs.Saying.{Said, clashing, concluding, conclusion_from, said_from, together, clash_when}
+use Rattle.vc_rule_premises.specs.Saying.{taken, said_with, held}
 
-once_in_order : cited_once (Out 1 2 ∷ (Here 3 ∷ (Here 0 ∷ (Out 1 2 ∷ (Out 1 1 ∷ []))))) ≡ Out 1 2 ∷ (Here 3 ∷ (Out 1 1 ∷ []))
+once_in_order : cited_once (Out 1 2 ∷ (Here 3 ∷ (Here 0 ∷ (Out 1 2 ∷ (Out 1 1 ∷ [])))))
+    ≡ Out 1 2 ∷ (Here 3 ∷ (Out 1 1 ∷ []))
 once_in_order = refl
 
 not_the_root : cited_once (Here 0 ∷ []) ≢ Here 0 ∷ []
@@ -30,10 +32,12 @@ taken_in_order : held (taken (cited_all (nothing_in rooms) why) two)
     ≡ concluding (conclusion_from (Here 1 ∷ (Out 0 0 ∷ [])) (Out 1 0) ∷ (conclusion_from (Here 1 ∷ []) (Out 1 1) ∷ []))
 taken_in_order = refl
 
-with_why : said_with why two ≡ concluding (conclusion_from (Here 1 ∷ (Out 0 0 ∷ [])) (Out 1 0) ∷ (conclusion_from (Here 1 ∷ []) (Out 1 1) ∷ []))
+with_why : said_with why two
+    ≡ concluding (conclusion_from (Here 1 ∷ (Out 0 0 ∷ [])) (Out 1 0) ∷ (conclusion_from (Here 1 ∷ []) (Out 1 1) ∷ []))
 with_why = refl
 
-clash_taken : held (taken (cited_all (nothing_in rooms) why) (clashing (Out 0 0 ∷ []))) ≡ clashing (Here 1 ∷ (Out 0 0 ∷ []))
+clash_taken : held (taken (cited_all (nothing_in rooms) why) (clashing (Out 0 0 ∷ [])))
+    ≡ clashing (Here 1 ∷ (Out 0 0 ∷ []))
 clash_taken = refl
 
 -- a clash comes before all that is concluded beside it
@@ -50,7 +54,8 @@ else_said : clash_when false why two ≡ two
 else_said = refl
 
 -- what stands already isn't said again, a clash always
-without_what_stands : said_from (seen_of (Out 1 0 ∷ [])) why (atoms (Out 1 0 ∷ (Out 1 1 ∷ []))) ≡ concluding (conclusion_from why (Out 1 1) ∷ [])
+without_what_stands : said_from (seen_of (Out 1 0 ∷ [])) why (atoms (Out 1 0 ∷ (Out 1 1 ∷ [])))
+    ≡ concluding (conclusion_from why (Out 1 1) ∷ [])
 without_what_stands = refl
 
 clash_said : said_from (seen_of []) why clash ≡ clashing why

@@ -1,4 +1,5 @@
--- What premises that stand say is a part of what is seen; and what is said from one list of premises follows where those are enough.
+-- What premises that stand say is a part of what is seen; and what is said from one list of premises follows where
+-- those are enough.
 use Rattle.std.proofs.Common.{◌≡◌, ℕ, Bool, true, not, List, [], ◌∷◌, map, refl, sym, ◌∙◌, ap}
 use Rattle.std.specs.Prelude.{Option, None, Some}
 use Rattle.std.specs.List.{filter, list_all, AllByRecursion}
@@ -37,15 +38,18 @@ set_is_part : (seen : Seen) (set : List Atom) → SaysAll seen set → IsPartOf 
 set_is_part seen set all = record {
   here = λ i h. all_at same_atom atom_exact atom_itself (says seen) set (Here i) all h;
   out = λ v g h. all_at same_atom atom_exact atom_itself (says seen) set (Out v g) all h;
-  value = λ v a e. value_said seen v a (all_at same_atom atom_exact atom_itself (says seen) set (Is v a) all (value_has set v a e));
+  value = λ v a e. value_said seen v a
+      (all_at same_atom atom_exact atom_itself (says seen) set (Is v a) all (value_has set v a e));
 }
 
-set_says : (seen : Seen) (set : List Atom) → SaysAll seen set → (a : Atom) → has same_atom set a ≡ true → says (seen_of set) a ≡ true
+set_says : (seen : Seen) (set : List Atom) → SaysAll seen set → (a : Atom) → has same_atom set a ≡ true
+    → says (seen_of set) a ≡ true
 set_says seen set all (Here i) h = h
 set_says seen set all (Out v g) h = h
 set_says seen set all (Is v a) h =
     let r : (b : Value) × (value_in set v ≡ Some b) = value_read set v a h in
-    let whole : seen.value v ≡ Some a = value_said seen v a (all_at same_atom atom_exact atom_itself (says seen) set (Is v a) all h) in
+    let whole : seen.value v ≡ Some a
+    = value_said seen v a (all_at same_atom atom_exact atom_itself (says seen) set (Is v a) all h) in
     let part : IsPartOf (seen_of set) seen = set_is_part seen set all in
     value_says (seen_of set) v a (r.1 ∙ (sym (part.value v r.0 r.1) ∙ whole))
 
@@ -54,7 +58,8 @@ premises_are_a_part seen premises root all =
     let whole : SaysAll seen (Here 0 ∷ premises) = and_from (seen.here 0) (list_all (says seen) premises) root all in (
       set_is_part seen (Here 0 ∷ premises) whole,
       all_from same_atom atom_exact atom_itself (says (seen_from premises)) premises
-          (λ a h. set_says seen (Here 0 ∷ premises) whole a (has_more same_atom atom_exact atom_itself (Here 0) premises a h)),
+          (λ a h. set_says seen (Here 0 ∷ premises) whole a
+          (has_more same_atom atom_exact atom_itself (Here 0) premises a h)),
     )
 
 -- what all premises pass, those of each conclusion pass
@@ -65,18 +70,22 @@ each_from test seen why (atoms xs) e = all_of (filter (λ a. not (says seen a)) 
   where
     all_of : (ys : List Atom) → list_all (λ c. list_all test c.premises) (map (conclusion_from why) ys) ≡ true
     all_of [] = refl
-    all_of (y ∷ ys) = and_from (list_all test why) (list_all (λ c. list_all test c.premises) (map (conclusion_from why) ys)) e (all_of ys)
+    all_of (y ∷ ys) = and_from (list_all test why)
+        (list_all (λ c. list_all test c.premises) (map (conclusion_from why) ys)) e (all_of ys)
 
 -- where premises make what is given the same, all of it follows from them
 pub follows_from : (gives : Seen → Given Atom) (seen : Seen) (why : List Atom)
-    → ((part : Seen) → IsPartOf part seen → SaysAll part why → gives part ≡ gives seen) → EachFollows gives seen (said_from seen why (gives seen))
+    → ((part : Seen) → IsPartOf part seen → SaysAll part why → gives part ≡ gives seen)
+    → EachFollows gives seen (said_from seen why (gives seen))
 follows_from gives seen why f = by (gives seen) refl
   where
-    each : (xs ys : List Atom) → gives seen ≡ atoms xs → ((a : Atom) → has same_atom ys a ≡ true → has same_atom xs a ≡ true)
+    each : (xs ys : List Atom) → gives seen ≡ atoms xs
+        → ((a : Atom) → has same_atom ys a ≡ true → has same_atom xs a ≡ true)
         → AllByRecursion (Follows gives seen) (map (conclusion_from why) ys)
     each xs [] e within = tt
     each xs (y ∷ ys) e within = (
-      λ part p h. ap (λ z. has same_atom (atoms_of z) y) (f part p h ∙ e) ∙ within y (has_first same_atom atom_exact atom_itself y ys),
+      λ part p h. ap (λ z. has same_atom (atoms_of z) y) (f part p h ∙ e)
+          ∙ within y (has_first same_atom atom_exact atom_itself y ys),
       each xs ys e (λ a h. within a (has_more same_atom atom_exact atom_itself y ys a h)),
     )
 

@@ -30,4 +30,5 @@ deciding_if seen (Some c) = deciding (net_reading seen) true c
 
 -- why a rule acts: its slots are here, and the values that make its condition true
 abbrev pub why_it_acts : Plan → Seen → Rule → List Atom
-why_it_acts plan seen rule = map Here rule.slots ++ values_of seen (deciding_if seen (slice_get plan.conditions rule.condition))
+why_it_acts plan seen rule = map Here rule.slots
+    ++ values_of seen (deciding_if seen (slice_get plan.conditions rule.condition))

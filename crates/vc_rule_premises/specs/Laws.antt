@@ -36,7 +36,8 @@ abbrev pub ActingSuffices : Type 0
 ActingSuffices = (plan : Plan) (s t : Seen) (rule : Rule) → acts plan s rule ≡ true → list_all t.here rule.slots ≡ true
     → SameValues t s (deciding_if s (slice_get plan.conditions rule.condition)) → acts plan t rule ≡ true
 
--- of a list all is cited but that the root is here, and nothing else; each once; so no more than any list has that holds all
+-- of a list all is cited but that the root is here, and nothing else; each once; so no more than any list has that
+-- holds all
 abbrev pub AllIsCited : Type 0
 AllIsCited = (premises : List Atom) (a : Atom) → has same_atom premises a ≡ true → same_atom (Here 0) a ≡ false
     → has same_atom (cited_once premises) a ≡ true
@@ -49,11 +50,13 @@ abbrev pub EachIsCitedOnce : Type 0
 EachIsCitedOnce = (premises : List Atom) → IsDistinct same_atom (cited_once premises)
 
 abbrev pub FewAreCited : Type 0
-FewAreCited = (premises all : List Atom) → Within same_atom (cited_once premises) all → length (cited_once premises) ≤ length all
+FewAreCited = (premises all : List Atom) → Within same_atom (cited_once premises) all
+    → length (cited_once premises) ≤ length all
 
 -- what is said of what is given is that, without what stands already
 abbrev pub FreshIsSaid : Type 0
-FreshIsSaid = (seen : Seen) (premises : List Atom) (given : Given Atom) → given_of (said_from seen premises given) ≡ fresh seen given
+FreshIsSaid = (seen : Seen) (premises : List Atom) (given : Given Atom)
+    → given_of (said_from seen premises given) ≡ fresh seen given
 
 -- a yield with room for it holds all that is said, each with why the rule acts cited first
 abbrev pub RoomSuffices : Type 0

@@ -39,7 +39,8 @@ conclusion_from premises a = record { atom = a; premises = premises }
 -- what is given, without what stands already, each atom from these premises, and a clash too
 abbrev pub said_from : Seen → List Atom → Given Atom → Said
 said_from seen premises clash = clashing premises
-said_from seen premises (atoms given) = concluding (map (conclusion_from premises) (filter (λ a. not (says seen a)) given))
+said_from seen premises (atoms given) =
+    concluding (map (conclusion_from premises) (filter (λ a. not (says seen a)) given))
 
 -- how a yield takes it: each conclusion from what is cited already and its own premises; what is cited already stays
 abbrev pub take_conclusions : Yielded → List Conclusion → Yielded

@@ -28,11 +28,13 @@ each_premise test (concluding conclusions) = list_all (λ conclusion. list_all t
 -- the atom is given wherever a part of what is seen says its premises
 abbrev pub Follows : (Seen → Given Atom) → Seen → Conclusion → Type 0
 Follows gives seen conclusion =
-    (part : Seen) → IsPartOf part seen → SaysAll part conclusion.premises → has same_atom (atoms_of (gives part)) conclusion.atom ≡ true
+    (part : Seen) → IsPartOf part seen → SaysAll part conclusion.premises
+    → has same_atom (atoms_of (gives part)) conclusion.atom ≡ true
 
 -- and so is each that is said; of a clash, there is a clash
 abbrev pub EachFollows : (Seen → Given Atom) → Seen → Said → Type 0
-EachFollows gives seen (clashing premises) = (part : Seen) → IsPartOf part seen → SaysAll part premises → is_clash (gives part) ≡ true
+EachFollows gives seen (clashing premises) = (part : Seen) → IsPartOf part seen → SaysAll part premises
+    → is_clash (gives part) ≡ true
 EachFollows gives seen (concluding conclusions) = AllByRecursion (Follows gives seen) conclusions
 
 -- what a set of premises says, with that the root is here

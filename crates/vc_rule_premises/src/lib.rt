@@ -7,6 +7,3 @@ pub mod laws;
 
 pub use acting::{acts, cite_why_it_acts};
 pub use citing::{cite_deciding, cite_term, cite_value};
-
-#[cfg(test)]
-mod tests;

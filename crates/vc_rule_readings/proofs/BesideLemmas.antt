@@ -13,20 +13,24 @@ held_beside seen v None a e = absurd (cc)
 held_beside seen v (Some w) a e = by w.mark e
   where
     by : (mark : Mark) → Some mark ≡ Some (Held a)
-        → value_beside seen v (Some (record { mark = mark; hard = w.hard; procedure = w.procedure; statement = w.statement })) ≡ Some a
+        → value_beside seen v
+        (Some (record { mark = mark; hard = w.hard; procedure = w.procedure; statement = w.statement })) ≡ Some a
     by (Held b) e = cc
     by Outside e = absurd (cc)
 
-pub outside_beside : (seen : Seen) (v : ℕ) (o : Option Written) → option_map (λ written. written.mark) o ≡ Some Outside → value_beside seen v o ≡ None
+pub outside_beside : (seen : Seen) (v : ℕ) (o : Option Written) → option_map (λ written. written.mark) o ≡ Some Outside
+    → value_beside seen v o ≡ None
 outside_beside seen v None e = absurd (cc)
 outside_beside seen v (Some w) e = by w.mark e
   where
     by : (mark : Mark) → Some mark ≡ Some Outside
-        → value_beside seen v (Some (record { mark = mark; hard = w.hard; procedure = w.procedure; statement = w.statement })) ≡ None
+        → value_beside seen v
+        (Some (record { mark = mark; hard = w.hard; procedure = w.procedure; statement = w.statement })) ≡ None
     by (Held b) e = absurd (cc)
     by Outside e = refl
 
-pub nothing_beside : (seen : Seen) (v : ℕ) (o : Option Written) → option_map (λ written. written.mark) o ≡ None → value_beside seen v o ≡ seen.value v
+pub nothing_beside : (seen : Seen) (v : ℕ) (o : Option Written) → option_map (λ written. written.mark) o ≡ None
+    → value_beside seen v o ≡ seen.value v
 nothing_beside seen v None e = refl
 nothing_beside seen v (Some w) e = absurd (cc)
 

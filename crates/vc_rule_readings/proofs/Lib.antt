@@ -3,4 +3,3 @@ pub mod PartLemmas
 pub mod RangeLemmas
 pub mod ReadingLemmas
 pub mod SetLemmas
-pub mod TestLemmas

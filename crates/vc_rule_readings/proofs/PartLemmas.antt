@@ -1,5 +1,6 @@
 -- Sums over parts are no larger than they may get, and their addends fit.
-use Rattle.std.proofs.Common.{◌≡◌, ℕ, zero, suc, ◌+◌, ◌*◌, ◌/◌, ◌^◌, ◌≤◌, ℤ, unsigned_abs, leb, Bool, true, false, ◌&&◌, List, [], ◌∷◌, length, map, refl, sym, subst, ap, inl, inr, arith}
+use Rattle.std.proofs.Common.{◌≡◌, ℕ, zero, suc, ◌+◌, ◌*◌, ◌/◌, ◌^◌, ◌≤◌, ℤ, unsigned_abs, leb, Bool, true, false, ◌&&◌}
+use Rattle.std.proofs.Common.{List, [], ◌∷◌, length, map, refl, sym, subst, ap, inl, inr, arith}
 use Rattle.std.specs.Prelude.{if◌then◌else◌, nat_lt, Option, None, Some, is_some, slice_get}
 use Rattle.std.specs.List.{filter, list_all, range_with_len, sum_by}
 use Rattle.std.proofs.lemmas.Bool.{and_parts, cases_lt, leb-true, lt-ltb, ltb-true}
@@ -16,7 +17,8 @@ use Rattle.vc_plan.specs.declared.terms.Operator.TheVariants.{Plus, Times}
 use Rattle.vc_plan.specs.Bounds.{greatest}
 use Rattle.vc_plan.specs.Domains.{atom_count, count_of, domain_of, grains_in, grains_of, numbers_below}
 use Rattle.vc_plan.specs.Numbers.{joined, one}
-use Rattle.vc_plan.specs.Parts.{amount_of, count_of_parts, is_part, line_in, part_quantity, part_weight, quantity_in, sum_of_parts, total, var_of, weighed}
+use Rattle.vc_plan.specs.Parts.{amount_of, count_of_parts, is_part, line_in, part_quantity, part_weight, quantity_in}
+use Rattle.vc_plan.specs.Parts.{sum_of_parts, total, var_of, weighed}
 use Rattle.vc_plan.specs.Pieces.{lies_in_some}
 use Rattle.vc_plan.specs.Ranges.{domain_there, grain_there, is_stored}
 use Rattle.vc_plan.specs.Readings.{Reading, full_reading}
@@ -57,37 +59,47 @@ amount_small (Some z) = by (nat_lt (unsigned_abs z) (10 ^ 15)) refl
 grains_small : (list : List Grain) → list_all grain_there list ≡ true → greatest grain_size list ≤ 10 ^ 15
 grains_small [] e = omega arith
 grains_small (grain ∷ list) e =
-    let h : (grain_there grain ≡ true) × (list_all grain_there list ≡ true) = and_parts (grain_there grain) (list_all grain_there list) e in
-    let ends : (is_stored grain.low ≡ true) × (is_stored grain.high ≡ true) = and_parts (is_stored grain.low) (is_stored grain.high) h.0 in
+    let h : (grain_there grain ≡ true) × (list_all grain_there list ≡ true)
+    = and_parts (grain_there grain) (list_all grain_there list) e in
+    let ends : (is_stored grain.low ≡ true) × (is_stored grain.high ≡ true)
+    = and_parts (is_stored grain.low) (is_stored grain.high) h.0 in
     let low = ltb-true (unsigned_abs grain.low.millionths) (10 ^ 15) ends.0 in
     let high = ltb-true (unsigned_abs grain.high.millionths) (10 ^ 15) ends.1 in
     let later = grains_small list h.1 in
     omega arith
 
-domain_small : (plan : Plan) (domain : Option Domain) → PassesIf (domain_there plan) domain → domain_size domain ≤ 10 ^ 15
+domain_small : (plan : Plan) (domain : Option Domain) → PassesIf (domain_there plan) domain
+    → domain_size domain ≤ 10 ^ 15
 domain_small plan None e = omega arith
 domain_small plan (Some (Texts texts)) e = omega arith
 domain_small plan (Some (Nums decimals list)) e =
-    let h : (leb decimals 6 ≡ true) × (list_all grain_there list ≡ true) = and_parts (leb decimals 6) (list_all grain_there list) e in
+    let h : (leb decimals 6 ≡ true) × (list_all grain_there list ≡ true)
+    = and_parts (leb decimals 6) (list_all grain_there list) e in
     grains_small list h.1
 
-var_small : (plan : Plan) → list_all (domain_there plan) plan.domains ≡ true → (x : Option Var) → domain_size (domain_of plan x) ≤ 10 ^ 15
+var_small : (plan : Plan) → list_all (domain_there plan) plan.domains ≡ true → (x : Option Var)
+    → domain_size (domain_of plan x) ≤ 10 ^ 15
 var_small plan all None = omega arith
-var_small plan all (Some x) = domain_small plan (slice_get plan.domains x.domain) (all_get (domain_there plan) plan.domains x.domain all)
+var_small plan all (Some x) =
+    domain_small plan (slice_get plan.domains x.domain) (all_get (domain_there plan) plan.domains x.domain all)
 
 module _ (plan : Plan) (fit : TermsFit plan) (seen : Seen) (lies : LiesInGrains plan seen) where
   value_small : (v : ℕ) → AtMost (number_of_value (seen.value v)) (10 ^ 15)
   value_small v =
       elim (cases_lt v (length plan.vars)) [
         | inl below ↦
-            at_most_more (number_of_value (seen.value v)) (domain_size (domain_of plan (slice_get plan.vars v))) (10 ^ 15)
+            at_most_more (number_of_value (seen.value v)) (domain_size (domain_of plan (slice_get plan.vars v)))
+            (10 ^ 15)
             (value_bounded plan fit seen lies v (lt-ltb v (length plan.vars) below))
             (var_small plan fit.domains_there (slice_get plan.vars v))
-        | inr past ↦ by (seen.value v) (λ a e. no_grain a (lies v a e) (ap (domain_of plan) (get_past plan.vars v past)))
+        | inr past ↦ by (seen.value v)
+            (λ a e. no_grain a (lies v a e) (ap (domain_of plan) (get_past plan.vars v past)))
       ]
     where
-      no_grain : (a : Value) → lies_in_some (grains_of plan v) a ≡ true → domain_of plan (slice_get plan.vars v) ≡ None → ⊥
-      no_grain a held none = let empty : lies_in_some (grains_of plan v) a ≡ false = ap (λ domain. lies_in_some (grains_in domain) a) none in absurd (cc)
+      no_grain : (a : Value) → lies_in_some (grains_of plan v) a ≡ true → domain_of plan (slice_get plan.vars v) ≡ None
+          → ⊥
+      no_grain a held none = let empty : lies_in_some (grains_of plan v) a
+          ≡ false = ap (λ domain. lies_in_some (grains_in domain) a) none in absurd (cc)
 
       by : (o : Option Value) → ((a : Value) → o ≡ Some a → ⊥) → AtMost (number_of_value o) (10 ^ 15)
       by None f = tt
@@ -102,13 +114,16 @@ module _ (plan : Plan) (fit : TermsFit plan) (seen : Seen) (lies : LiesInGrains 
         by None = tt
         by (Some line) = amount_small (number_of_value (value_at plan (full_reading plan seen holds) line.quantity))
 
-    pub weight_fits : (j v : ℕ) → OperandsFit Times (part_quantity plan (full_reading plan seen holds) j) (number_of_value (seen.value v))
+    pub weight_fits : (j v : ℕ)
+        → OperandsFit Times (part_quantity plan (full_reading plan seen holds) j) (number_of_value (seen.value v))
     weight_fits j v =
-        operands_fit Times (part_quantity plan (full_reading plan seen holds) j) (number_of_value (seen.value v)) (10 ^ 15) (10 ^ 15)
+        operands_fit Times (part_quantity plan (full_reading plan seen holds) j) (number_of_value (seen.value v))
+        (10 ^ 15) (10 ^ 15)
         (quantity_small j) (value_small v) (omega arith)
 
     weight_small : (j : ℕ) (o : Option ℕ)
-        → AtMost (weighed (full_reading plan seen holds) (part_quantity plan (full_reading plan seen holds) j) o) (10 ^ 25)
+        → AtMost (weighed (full_reading plan seen holds) (part_quantity plan (full_reading plan seen holds) j) o)
+        (10 ^ 25)
     weight_small j None = tt
     weight_small j (Some v) =
         let o = part_quantity plan (full_reading plan seen holds) j in
@@ -118,27 +133,32 @@ module _ (plan : Plan) (fit : TermsFit plan) (seen : Seen) (lies : LiesInGrains 
 
     addend_small : (named : Option ℕ) (j : ℕ) → AtMost (addend plan (full_reading plan seen holds) named j) (10 ^ 25)
     addend_small None j =
-        at_most_more (part_quantity plan (full_reading plan seen holds) j) (10 ^ 15) (10 ^ 25) (quantity_small j) (omega arith)
+        at_most_more (part_quantity plan (full_reading plan seen holds) j) (10 ^ 15) (10 ^ 25) (quantity_small j)
+        (omega arith)
     addend_small (Some c) j = weight_small j (var_of plan j c)
 
     total_within : (named : Option ℕ) (p : ℕ → Bool) (a n : ℕ)
-        → AtMost (total (map (addend plan (full_reading plan seen holds) named) (filter p (range_with_len a n)))) (n * 10 ^ 25)
+        → AtMost (total (map (addend plan (full_reading plan seen holds) named) (filter p (range_with_len a n))))
+        (n * 10 ^ 25)
     total_within named p a zero = omega arith
     total_within named p a (suc n) =
         by (p a) (total_within named p (a + 1) n) (addend_small named a)
       where
         by : (b : Bool)
-            → AtMost (total (map (addend plan (full_reading plan seen holds) named) (filter p (range_with_len (a + 1) n)))) (n * 10 ^ 25)
+            → AtMost (total (map (addend plan (full_reading plan seen holds) named)
+            (filter p (range_with_len (a + 1) n)))) (n * 10 ^ 25)
             → AtMost (addend plan (full_reading plan seen holds) named a) (10 ^ 25)
             → AtMost (total (map (addend plan (full_reading plan seen holds) named)
-            (if b then a ∷ filter p (range_with_len (a + 1) n) else filter p (range_with_len (a + 1) n)))) (suc n * 10 ^ 25)
+            (if b then a ∷ filter p (range_with_len (a + 1) n) else filter p (range_with_len (a + 1) n))))
+            (suc n * 10 ^ 25)
         by true later first =
             let w = addend plan (full_reading plan seen holds) named in
             let rest = total (map w (filter p (range_with_len (a + 1) n))) in
             at_most_more (joined Plus (w a) rest) (10 ^ 25 + n * 10 ^ 25) (suc n * 10 ^ 25)
             (joined_if Plus (w a) rest (10 ^ 25) (n * 10 ^ 25) first later) (omega arith)
         by false later first =
-            at_most_more (total (map (addend plan (full_reading plan seen holds) named) (filter p (range_with_len (a + 1) n))))
+            at_most_more (total (map (addend plan (full_reading plan seen holds) named)
+            (filter p (range_with_len (a + 1) n))))
             (n * 10 ^ 25) (suc n * 10 ^ 25) later (omega arith)
 
     pub addition_fits : (named : Option ℕ) (p : ℕ → Bool) (j a n : ℕ) → n ≤ 40
@@ -152,7 +172,8 @@ module _ (plan : Plan) (fit : TermsFit plan) (seen : Seen) (lies : LiesInGrains 
     total_small : (i : ℕ) (named : Option ℕ) → length plan.slots ≤ 40
         → AtMost (part_total plan seen (full_reading plan seen holds) i named) (10 ^ 27)
     total_small i named few =
-        at_most_more (part_total plan seen (full_reading plan seen holds) i named) (length plan.slots * 10 ^ 25) (10 ^ 27)
+        at_most_more (part_total plan seen (full_reading plan seen holds) i named) (length plan.slots * 10 ^ 25)
+        (10 ^ 27)
         (total_within named (adds plan seen i named) 0 (length plan.slots)) (omega (arith, few))
 
 -- the sums of the definitions are totals of what parts add
@@ -160,7 +181,8 @@ pub sum_is : (plan : Plan) (seen : Seen) (reading : Reading) (i c : ℕ)
     → part_total plan seen reading i (Some c) ≡ sum_of_parts plan seen reading i c
 sum_is plan seen reading i c =
     sym (ap (λ js. total (map (part_weight plan reading c) js))
-    (filter_both (λ j. is_part plan i j && seen.here j) (λ j. is_some (var_of plan j c)) (numbers_below (length plan.slots))))
+    (filter_both (λ j. is_part plan i j && seen.here j) (λ j. is_some (var_of plan j c))
+    (numbers_below (length plan.slots))))
 
 pub count_is : (plan : Plan) (seen : Seen) (reading : Reading) (i : ℕ)
     → part_total plan seen reading i None ≡ count_of_parts plan seen reading i

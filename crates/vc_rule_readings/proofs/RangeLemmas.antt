@@ -1,5 +1,6 @@
 -- Walks over the numbers below a limit: what the numbers from one on give, by the first of them and those after it.
-use Rattle.std.proofs.Common.{◌≡◌, ℕ, suc, ◌+◌, ◌-◌, ◌<◌, ◌≤◌, ℤ, Bool, true, false, cond, ◌&&◌, List, [], ◌∷◌, map, refl, sym, ◌∙◌, ap, arith}
+use Rattle.std.proofs.Common.{◌≡◌, ℕ, suc, ◌+◌, ◌-◌, ◌<◌, ◌≤◌, ℤ, Bool, true, false, cond, ◌&&◌, List, [], ◌∷◌, map}
+use Rattle.std.proofs.Common.{refl, sym, ◌∙◌, ap, arith}
 use Rattle.std.specs.Prelude.{if◌then◌else◌, Option, None, Some}
 use Rattle.std.specs.List.{filter, find, range_with_len}
 use Rattle.vc_plan.specs.declared.terms.Operator.TheVariants.{Plus}
@@ -30,12 +31,15 @@ pub ruleset finding = (find_next, find_here, find_done)
 -- a total over the numbers that pass: that over those from one on, with the number before it
 pub total_next : (w : ℕ → Option ℤ) (p : ℕ → Bool) (g n : ℕ) → g < n
     → total (map w (filter p (range_with_len g (n - g))))
-    ≡ (let later = total (map w (filter p (range_with_len (g + 1) (n - (g + 1))))) in if p g then joined Plus (w g) later else later)
+    ≡ (let later = total (map w (filter p (range_with_len (g + 1) (n - (g + 1))))) in if p g
+    then joined Plus (w g) later else later)
 total_next w p g n below =
     let rest = range_with_len (g + 1) (n - (g + 1)) in
     ap (λ gs. total (map w (filter p gs))) (range_next g n below) ∙ by (filter p rest) (p g)
   where
-    by : (kept : List ℕ) (b : Bool) → total (map w (if b then g ∷ kept else kept)) ≡ (if b then joined Plus (w g) (total (map w kept)) else total (map w kept))
+    by : (kept : List ℕ) (b : Bool)
+        → total (map w (if b then g ∷ kept else kept))
+        ≡ (if b then joined Plus (w g) (total (map w kept)) else total (map w kept))
     by kept true = refl
     by kept false = refl
 
@@ -53,7 +57,8 @@ total_down w p g n s t some within e f =
           ∙ sym (total_next w p (g - 1) n (omega (arith, some, within)))),
     )
 
-pub total_begun : (w : ℕ → Option ℤ) (p : ℕ → Bool) (g n : ℕ) → n ≤ g → total (map w (filter p (range_with_len g (n - g)))) ≡ total []
+pub total_begun : (w : ℕ → Option ℤ) (p : ℕ → Bool) (g n : ℕ) → n ≤ g
+    → total (map w (filter p (range_with_len g (n - g)))) ≡ total []
 total_begun w p g n past = ap (λ gs. total (map w (filter p gs))) (range_done g n past)
 
 -- those that pass two tests pass both at once
@@ -62,7 +67,8 @@ filter_both p q [] = refl
 filter_both p q (g ∷ gs) = by (p g) (q g) (filter_both p q gs)
   where
     by : (b c : Bool) → filter q (filter p gs) ≡ filter (λ h. p h && q h) gs
-        → filter q (if b then g ∷ filter p gs else filter p gs) ≡ (if b && q g then g ∷ filter (λ h. p h && q h) gs else filter (λ h. p h && q h) gs)
+        → filter q (if b then g ∷ filter p gs else filter p gs)
+        ≡ (if b && q g then g ∷ filter (λ h. p h && q h) gs else filter (λ h. p h && q h) gs)
     by true c e = ap (λ hs. if q g then g ∷ hs else hs) e
     by false c e = e
 

@@ -22,25 +22,30 @@ module _ (holds : ℕ → Bool) where
   put_if text t texts false = refl
 
   same_held : (t text : ℕ) → (t == text) ≡ true → holds t ≡ holds text
-  same_held t text e = elim (eqb_tells t text) [ inl same ↦ ap holds same.1 | inr apart ↦ absurd (let other = apart.0 in cc) ]
+  same_held t text e =
+      elim (eqb_tells t text) [ inl same ↦ ap holds same.1 | inr apart ↦ absurd (let other = apart.0 in cc) ]
 
   -- a text is among those that are held where it is one of all, and held
-  kept : (text : ℕ) (texts : List ℕ) → list_any (λ x. x == text) (filter holds texts) ≡ (list_any (λ x. x == text) texts && holds text)
+  kept : (text : ℕ) (texts : List ℕ)
+      → list_any (λ x. x == text) (filter holds texts) ≡ (list_any (λ x. x == text) texts && holds text)
   kept text [] = refl
   kept text (t ∷ texts) =
       put_if text t (filter holds texts) (holds t)
-      ∙ tests (holds t) (holds text) (t == text) (list_any (λ x. x == text) texts) (list_any (λ x. x == text) (filter holds texts))
+      ∙ tests (holds t) (holds text) (t == text) (list_any (λ x. x == text) texts)
+      (list_any (λ x. x == text) (filter holds texts))
       (same_held t text) (kept text texts)
 
   none_kept : (texts : List ℕ) → list_any holds texts ≡ false → filter holds texts ≡ []
   none_kept [] e = refl
   none_kept (t ∷ texts) e = by (holds t) (list_any holds texts) e (none_kept texts)
     where
-      by : (b c : Bool) → (b || c) ≡ false → (c ≡ false → filter holds texts ≡ []) → (if b then t ∷ filter holds texts else filter holds texts) ≡ []
+      by : (b c : Bool) → (b || c) ≡ false → (c ≡ false → filter holds texts ≡ [])
+          → (if b then t ∷ filter holds texts else filter holds texts) ≡ []
       by true c e h = absurd (cc)
       by false c e h = h e
 
-  some_kept : (texts : List ℕ) → list_any holds texts ≡ true → (x : ℕ) × (rest : List ℕ) × (filter holds texts ≡ x ∷ rest)
+  some_kept : (texts : List ℕ) → list_any holds texts ≡ true
+      → (x : ℕ) × (rest : List ℕ) × (filter holds texts ≡ x ∷ rest)
   some_kept [] e = absurd (cc)
   some_kept (t ∷ texts) e = by (holds t) (list_any holds texts) e (some_kept texts)
     where
@@ -50,16 +55,19 @@ module _ (holds : ℕ → Bool) where
       by false c e h = h e
 
 -- an empty set has neither the text nor any; another has the text where that is one of all, and held
-pub none_held : (holds : ℕ → Bool) (text : ℕ) (texts : List ℕ) → list_any holds texts ≡ false → set_holds text (filter holds texts) ≡ Unknown
+pub none_held : (holds : ℕ → Bool) (text : ℕ) (texts : List ℕ) → list_any holds texts ≡ false
+    → set_holds text (filter holds texts) ≡ Unknown
 none_held holds text texts e = ap (set_holds text) (none_kept holds texts e)
 
 pub some_held : (holds : ℕ → Bool) (text : ℕ) (texts : List ℕ) → list_any holds texts ≡ true
     → set_holds text (filter holds texts) ≡ truth_of (list_any (λ x. x == text) texts && holds text)
 some_held holds text texts e =
     let some = some_kept holds texts e in
-    (ap (set_holds text) some.2 ∙ ap (λ xs. truth_of (list_any (λ x. x == text) xs)) (sym some.2)) ∙ ap truth_of (kept holds text texts)
+    (ap (set_holds text) some.2 ∙ ap (λ xs. truth_of (list_any (λ x. x == text) xs)) (sym some.2))
+    ∙ ap truth_of (kept holds text texts)
 
-pub filled : (holds : ℕ → Bool) (texts : List ℕ) → set_filled False (filter holds texts) ≡ truth_of (list_any holds texts)
+pub filled : (holds : ℕ → Bool) (texts : List ℕ)
+    → set_filled False (filter holds texts) ≡ truth_of (list_any holds texts)
 filled holds texts = by (list_any holds texts) refl
   where
     by : (b : Bool) → list_any holds texts ≡ b → set_filled False (filter holds texts) ≡ truth_of b

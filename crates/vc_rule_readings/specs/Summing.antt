@@ -1,5 +1,6 @@
 -- What the parts of an instance add to a sum over them: their quantities, or these times their values.
-use Rattle.std.specs.Prelude.{ℕ, ℤ, ◌≤◌, ◌<◌, ◌^◌, Bool, true, ◌&&◌, length, map, Option, None, Some, is_some, option_map}
+use Rattle.std.specs.Prelude.{ℕ, ℤ, ◌≤◌, ◌<◌, ◌^◌, Bool, true, ◌&&◌, length, map, Option, None, Some, is_some}
+use Rattle.std.specs.Prelude.{option_map}
 use Rattle.std.specs.List.{filter}
 use Rattle.vc_value.specs.declared.decimal.Dec.{Dec}
 use Rattle.vc_plan.specs.declared.plans.Plan.{Plan}

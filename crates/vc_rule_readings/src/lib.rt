@@ -16,6 +16,3 @@ pub use beside::{Beside, Marks};
 pub use parts::amount;
 pub use procedures::{procedure_number, procedure_truth, procedure_value};
 pub use whole::full_truth;
-
-#[cfg(test)]
-mod tests;

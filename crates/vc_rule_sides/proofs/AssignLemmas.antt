@@ -1,5 +1,6 @@
 -- Which values the grains of a variable hold, and which numbers of terms can be rounded.
-use Rattle.std.proofs.Common.{◌≡◌, ℕ, suc, ◌+◌, ◌^◌, ◌<◌, ◌≤◌, leb, ℤ, unsigned_abs, Bool, true, false, cond, not, ◌||◌, List, [], ◌∷◌, length, map, refl, sym, ◌∙◌, ap, subst, inl, inr, arith}
+use Rattle.std.proofs.Common.{◌≡◌, ℕ, suc, ◌+◌, ◌^◌, ◌<◌, ◌≤◌, leb, ℤ, unsigned_abs, Bool, true, false, cond, not, ◌||◌}
+use Rattle.std.proofs.Common.{List, [], ◌∷◌, length, map, refl, sym, ◌∙◌, ap, subst, inl, inr, arith}
 use Rattle.std.specs.Prelude.{◌==◌, nat_lt, Option, None, Some, is_some, option_map, slice_get}
 use Rattle.std.specs.List.{list_all, list_any, position, position_or_len}
 use Rattle.std.specs.Int.Signed.{le_z}
@@ -34,11 +35,13 @@ pub text_held : (t : ℕ) (texts : List ℕ) → list_any (λ s. s == t) texts �
 text_held t [] = refl
 text_held t (s ∷ texts) = ap (λ b. (s == t) || b) (text_held t texts)
 
-pub texts_hold : (texts list : List ℕ) (domain : Domain) (t : ℕ) (a : Value) → list ≡ texts → domain ≡ Texts texts → a ≡ Text t
+pub texts_hold : (texts list : List ℕ) (domain : Domain) (t : ℕ) (a : Value) → list ≡ texts → domain ≡ Texts texts
+    → a ≡ Text t
     → list_any (λ s. s == t) list ≡ lies_in_some (grains_in (Some domain)) a
 texts_hold texts list domain t a e f g =
     ap (list_any (λ s. s == t)) e
-    ∙ (text_held t texts ∙ sym (ap (λ d. lies_in_some (grains_in (Some d)) a) f ∙ ap (lies_in_some (map OneText texts)) g))
+    ∙ (text_held t texts
+    ∙ sym (ap (λ d. lies_in_some (grains_in (Some d)) a) f ∙ ap (lies_in_some (map OneText texts)) g))
 
 pub no_number : (n : Dec) (texts : List ℕ) → lies_in_some (map OneText texts) (Num n) ≡ false
 no_number n [] = refl
@@ -68,40 +71,49 @@ in_stretches : (n : Dec) (list : List Grain) → list_any (grains.holds n) list 
 in_stretches n [] = refl
 in_stretches n (grain ∷ list) = ap (λ b. grains.holds n grain || b) (in_stretches n list)
 
-pub number_held : (n : Dec) (list : List Grain) → is_some (position (grains.holds n) list) ≡ lies_in_some (map Stretch list) (Num n)
+pub number_held : (n : Dec) (list : List Grain)
+    → is_some (position (grains.holds n) list) ≡ lies_in_some (map Stretch list) (Num n)
 number_held n list = there_is (grains.holds n) list ∙ in_stretches n list
 
 -- a number that a plan's grain holds is small enough to be stored
-stretches_stored : (n : Dec) (list : List Grain) → list_all grain_there list ≡ true → lies_in_some (map Stretch list) (Num n) ≡ true
+stretches_stored : (n : Dec) (list : List Grain) → list_all grain_there list ≡ true
+    → lies_in_some (map Stretch list) (Num n) ≡ true
     → unsigned_abs n.millionths < 10 ^ 15
 stretches_stored n [] all e = absurd (cc)
 stretches_stored n (grain ∷ list) all e =
-    let h : (grain_there grain ≡ true) × (list_all grain_there list ≡ true) = and_parts (grain_there grain) (list_all grain_there list) all in
+    let h : (grain_there grain ≡ true) × (list_all grain_there list ≡ true)
+    = and_parts (grain_there grain) (list_all grain_there list) all in
     elim (or_cases (grains.holds n grain) (lies_in_some (map Stretch list) (Num n)) e) [
       | inl first ↦
-          let ends : (is_stored grain.low ≡ true) × (is_stored grain.high ≡ true) = and_parts (is_stored grain.low) (is_stored grain.high) h.0 in
+          let ends : (is_stored grain.low ≡ true) × (is_stored grain.high ≡ true)
+          = and_parts (is_stored grain.low) (is_stored grain.high) h.0 in
           let k : (le_z grain.low.millionths n.millionths ≡ true) × (le_z n.millionths grain.high.millionths ≡ true) =
           and_parts (le_z grain.low.millionths n.millionths) (le_z n.millionths grain.high.millionths) first in
           between grain.low.millionths n.millionths grain.high.millionths (10 ^ 15) k.0 k.1
-          (ltb-true (unsigned_abs grain.low.millionths) (10 ^ 15) ends.0) (ltb-true (unsigned_abs grain.high.millionths) (10 ^ 15) ends.1)
+          (ltb-true (unsigned_abs grain.low.millionths) (10 ^ 15) ends.0)
+          (ltb-true (unsigned_abs grain.high.millionths) (10 ^ 15) ends.1)
       | inr later ↦ stretches_stored n list h.1 later
     ]
   where
-    between : (low z high : ℤ) (m : ℕ) → le_z low z ≡ true → le_z z high ≡ true → unsigned_abs low < m → unsigned_abs high < m → unsigned_abs z < m
+    between : (low z high : ℤ) (m : ℕ) → le_z low z ≡ true → le_z z high ≡ true → unsigned_abs low < m
+        → unsigned_abs high < m → unsigned_abs z < m
     between low z high m p q r s = grind (arith, ints)
 
-domain_stored : (plan : Plan) (domain : Option Domain) (n : Dec) → PassesIf (domain_there plan) domain → lies_in_some (grains_in domain) (Num n) ≡ true
+domain_stored : (plan : Plan) (domain : Option Domain) (n : Dec) → PassesIf (domain_there plan) domain
+    → lies_in_some (grains_in domain) (Num n) ≡ true
     → unsigned_abs n.millionths < 10 ^ 15
 domain_stored plan None n there e = absurd (cc)
 domain_stored plan (Some (Texts texts)) n there e = absurd (let none = no_number n texts in cc)
 domain_stored plan (Some (Nums decimals list)) n there e =
-    let h : (leb decimals 6 ≡ true) × (list_all grain_there list ≡ true) = and_parts (leb decimals 6) (list_all grain_there list) there in
+    let h : (leb decimals 6 ≡ true) × (list_all grain_there list ≡ true)
+    = and_parts (leb decimals 6) (list_all grain_there list) there in
     stretches_stored n list h.1 e
 
 var_stored : (plan : Plan) → list_all (domain_there plan) plan.domains ≡ true → (x : Option Var) (n : Dec)
     → lies_in_some (grains_in (domain_of plan x)) (Num n) ≡ true → unsigned_abs n.millionths < 10 ^ 15
 var_stored plan all None n e = absurd (cc)
-var_stored plan all (Some x) n e = domain_stored plan (slice_get plan.domains x.domain) n (all_get (domain_there plan) plan.domains x.domain all) e
+var_stored plan all (Some x) n e =
+    domain_stored plan (slice_get plan.domains x.domain) n (all_get (domain_there plan) plan.domains x.domain all) e
 
 -- what is stored is the value itself, and what can't be stored no grain holds
 pub stored_is : (a b : Value) → stored_value a ≡ Some b → a ≡ b
@@ -112,12 +124,14 @@ stored_is (Num n) b e = by (nat_lt (unsigned_abs n.millionths) (10 ^ 15)) e
     by true k = cc
     by false k = absurd (cc)
 
-pub not_stored : (plan : Plan) → TermsFit plan → (v : ℕ) (a : Value) → stored_value a ≡ None → lies_in_some (grains_of plan v) a ≡ false
+pub not_stored : (plan : Plan) → TermsFit plan → (v : ℕ) (a : Value) → stored_value a ≡ None
+    → lies_in_some (grains_of plan v) a ≡ false
 not_stored plan fit v (Text t) e = absurd (cc)
 not_stored plan fit v (Num n) e = by (lies_in_some (grains_of plan v) (Num n)) refl
   where
     too_large : nat_lt (unsigned_abs n.millionths) (10 ^ 15) ≡ true → stored_value (Num n) ≡ None → ⊥
-    too_large k q = let same = ap (λ c. option_map Num (cond c (Some (record { millionths = n.millionths })) None)) k in absurd (cc)
+    too_large k q = let same = ap (λ c. option_map Num (cond c (Some (record { millionths = n.millionths })) None)) k in
+        absurd (cc)
 
     by : (b : Bool) → lies_in_some (grains_of plan v) (Num n) ≡ b → b ≡ false
     by false k = refl
@@ -130,7 +144,8 @@ value_has : (o : Option ℤ) → number_of_value (value_of_number o) ≡ o
 value_has None = refl
 value_has (Some z) = refl
 
-number_is : (seen : Seen) (term : Term) → number_of_value (term_value (net_reading seen) term) ≡ number (net_reading seen) term
+number_is : (seen : Seen) (term : Term)
+    → number_of_value (term_value (net_reading seen) term) ≡ number (net_reading seen) term
 number_is seen (Literal a) = refl
 number_is seen (Read v) = refl
 number_is seen (PartSum slot characteristic) = refl
@@ -146,7 +161,8 @@ fits (Some z) n s small = omega arith
 pub side_fits : (plan : Plan) → TermsFit plan → (seen : Seen) → LiesInGrains plan seen → (n : ℕ)
     → ArgumentFits (number_of_value (value_at plan (net_reading seen) n))
 side_fits plan fit seen lies n =
-    by (slice_get plan.terms n) (all_get (term_there plan) plan.terms n fit.terms_there) (all_get (is_small plan) plan.terms n fit.terms_small)
+    by (slice_get plan.terms n) (all_get (term_there plan) plan.terms n fit.terms_there)
+    (all_get (is_small plan) plan.terms n fit.terms_small)
   where
     by : (o : Option Term) → PassesIf (term_there plan) o → PassesIf (is_small plan) o
         → ArgumentFits (number_of_value (value_in_term (net_reading seen) o))
@@ -154,4 +170,5 @@ side_fits plan fit seen lies n =
     by (Some term) there small =
         let both = term_computes plan fit.domains_there seen lies term there small in
         subst ArgumentFits (sym (number_is seen term))
-        (fits (number (net_reading seen) term) (term_size plan term) both.1 (size_small plan fit.domains_there term there small))
+        (fits (number (net_reading seen) term) (term_size plan term) both.1
+        (size_small plan fit.domains_there term there small))

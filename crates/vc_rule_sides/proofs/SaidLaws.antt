@@ -24,7 +24,8 @@ atoms_kept premises [] = refl
 atoms_kept premises (x ∷ xs) = ap (λ ys. x ∷ ys) (atoms_kept premises xs)
 
 -- two that are said together are given beside each other
-given_together : (seen : Seen) (premises more : List Atom) (given next : Given Atom) (s t : Said) → s ≡ said_from seen premises given → t ≡ said_from seen more next
+given_together : (seen : Seen) (premises more : List Atom) (given next : Given Atom) (s t : Said)
+    → s ≡ said_from seen premises given → t ≡ said_from seen more next
     → given_of (together s t) ≡ fresh seen (beside given next)
 given_together seen premises more clash next s t e f = ap (λ z. given_of (together z t)) e
 given_together seen premises more (atoms xs) clash s t e f =
@@ -33,8 +34,10 @@ given_together seen premises more (atoms xs) (atoms ys) s t e f =
     let new = λ (zs : List Atom). filter (λ a. not (says seen a)) zs in
     ap (λ z. given_of (together z t)) e
     ∙ (ap (λ z. given_of (together (said_from seen premises (atoms xs)) z)) f
-    ∙ ap atoms (map-append (λ (c : Conclusion). c.atom) (map (conclusion_from premises) (new xs)) (map (conclusion_from more) (new ys))
-    ∙ (ap (λ zs. zs ++ map (λ (c : Conclusion). c.atom) (map (conclusion_from more) (new ys))) (atoms_kept premises (new xs))
+    ∙ ap atoms (map-append (λ (c : Conclusion). c.atom) (map (conclusion_from premises) (new xs))
+    (map (conclusion_from more) (new ys))
+    ∙ (ap (λ zs. zs ++ map (λ (c : Conclusion). c.atom) (map (conclusion_from more) (new ys)))
+    (atoms_kept premises (new xs))
     ∙ (ap (λ zs. new xs ++ zs) (atoms_kept more (new ys)) ∙ sym (filter-append (λ a. not (says seen a)) xs ys)))))
 
 pub compare_is_said : CompareIsSaid
@@ -47,12 +50,15 @@ compare_is_said plan seen rule r a b =
     let q = related_premises plan seen (turned r) w (values_in plan seen a) first in
     elim (is_false (compared r first second)) as (λ c.
     given_of (clash_when c (values_in plan seen a ++ values_in plan seen b)
-    (together (related_said plan seen r v (values_in plan seen b) second) (related_said plan seen (turned r) w (values_in plan seen a) first)))
+    (together (related_said plan seen r v (values_in plan seen b) second)
+    (related_said plan seen (turned r) w (values_in plan seen a) first)))
     ≡ fresh seen (clash_if c (beside (related plan seen r v second) (related plan seen (turned r) w first)))) [
       | true ↦ refl
       | false ↦ given_together seen p q (related plan seen r v second) (related plan seen (turned r) w first)
-          (related_said plan seen r v (values_in plan seen b) second) (related_said plan seen (turned r) w (values_in plan seen a) first)
-          (from_premises plan seen r v (values_in plan seen b) second) (from_premises plan seen (turned r) w (values_in plan seen a) first)
+          (related_said plan seen r v (values_in plan seen b) second)
+          (related_said plan seen (turned r) w (values_in plan seen a) first)
+          (from_premises plan seen r v (values_in plan seen b) second)
+          (from_premises plan seen (turned r) w (values_in plan seen a) first)
     ]
 
 pub equate_is_said : EquateIsSaid
@@ -68,5 +74,6 @@ equate_is_said plan seen rule a b =
     given_of (clash_when c (values_in plan seen a ++ values_in plan seen b) (together of_a of_b))
     ≡ fresh seen (clash_if c (beside (equal_to plan v second) (equal_to plan w first)))) [
       | true ↦ refl
-      | false ↦ given_together seen (values_in plan seen b) (values_in plan seen a) (equal_to plan v second) (equal_to plan w first) of_a of_b refl refl
+      | false ↦ given_together seen (values_in plan seen b) (values_in plan seen a) (equal_to plan v second)
+          (equal_to plan w first) of_a of_b refl refl
     ]

@@ -1,4 +1,5 @@
--- What comparisons and equations say with what it follows from, computed. Each variable has the grains 1, 2 .. 3 and 4 of whole
+-- What comparisons and equations say with what it follows from, computed. Each variable has the grains 1, 2 .. 3 and 4
+-- of whole
 -- numbers; term 2 is 2.4, term 3 is 9 and term 4 the sum of both variables.
 use Rattle.std.proofs.Common.{◌≡◌, ℕ, pos, List, [], ◌∷◌, refl}
 use Rattle.std.specs.Prelude.{◌≢◌, Box}
@@ -23,7 +24,8 @@ plan_of p vars = record empty {
   domains = three_grains ∷ three_grains ∷ [];
   slots = root ∷ [];
   vars = vars;
-  terms = Read 0 ∷ Read 1 ∷ Literal (number (pos 2_400_000)) ∷ Literal (whole 9) ∷ Joined' Plus p (Read 0) p (Read 1) ∷ [];
+  terms = Read 0 ∷ Read 1 ∷ Literal (number (pos 2_400_000)) ∷ Literal (whole 9) ∷ Joined' Plus p (Read 0) p (Read 1)
+      ∷ [];
 }
 
 abbrev open_vars : List Var
@@ -48,14 +50,16 @@ by_the_left : (p : Box (Unit {0}) Global) → comparing p open_vars (0 ∷ 1 ∷
 by_the_left p = refl
 
 -- a grain with a number that may stand so stays
-a_grain_in_part : (p : Box (Unit {0}) Global) → comparing p open_vars (0 ∷ []) Unequal (Is 1 (whole 2) ∷ []) ≡ concluding []
+a_grain_in_part : (p : Box (Unit {0}) Global)
+    → comparing p open_vars (0 ∷ []) Unequal (Is 1 (whole 2) ∷ []) ≡ concluding []
 a_grain_in_part p = refl
 
 -- what isn't inferred isn't narrowed, and what stands isn't said again
 not_inferred : (p : Box (Unit {0}) Global) → comparing p open_vars (1 ∷ []) AtMost (Is 1 (whole 2) ∷ []) ≡ concluding []
 not_inferred p = refl
 
-what_is_new : (p : Box (Unit {0}) Global) → comparing p open_vars (0 ∷ []) AtMost (Out 0 2 ∷ Is 1 (whole 2) ∷ []) ≡ concluding []
+what_is_new : (p : Box (Unit {0}) Global)
+    → comparing p open_vars (0 ∷ []) AtMost (Out 0 2 ∷ Is 1 (whole 2) ∷ []) ≡ concluding []
 what_is_new p = refl
 
 -- where the net may not exclude grains: the value of the one that is left, or a clash, also by the grains that are out
@@ -63,7 +67,8 @@ one_is_left : (p : Box (Unit {0}) Global) → comparing p fixed_vars (0 ∷ []) 
     ≡ concluding ((record { atom = Is 0 (whole 1); premises = Is 1 (whole 1) ∷ [] }) ∷ [])
 one_is_left p = refl
 
-one_is_not_out : (p : Box (Unit {0}) Global) → comparing p fixed_vars (0 ∷ []) AtMost (Out 0 1 ∷ Out 0 2 ∷ Is 1 (whole 3) ∷ [])
+one_is_not_out : (p : Box (Unit {0}) Global)
+    → comparing p fixed_vars (0 ∷ []) AtMost (Out 0 1 ∷ Out 0 2 ∷ Is 1 (whole 3) ∷ [])
     ≡ concluding ((record { atom = Is 0 (whole 1); premises = Is 1 (whole 3) ∷ (Out 0 1 ∷ []) }) ∷ [])
 one_is_not_out p = refl
 
@@ -72,11 +77,13 @@ none_is_left : (p : Box (Unit {0}) Global) → comparing p fixed_vars (0 ∷ [])
 none_is_left p = refl
 
 -- a relation that doesn't hold is a clash by the values of both sides
-does_not_hold : (p : Box (Unit {0}) Global) → comparing p open_vars (0 ∷ []) AtMost (Is 0 (whole 4) ∷ Is 1 (whole 1) ∷ [])
+does_not_hold : (p : Box (Unit {0}) Global)
+    → comparing p open_vars (0 ∷ []) AtMost (Is 0 (whole 4) ∷ Is 1 (whole 1) ∷ [])
     ≡ clashing (Is 0 (whole 4) ∷ (Is 1 (whole 1) ∷ []))
 does_not_hold p = refl
 
-by_one_side : (p : Box (Unit {0}) Global) → comparing p open_vars (0 ∷ []) AtMost (Is 0 (whole 4) ∷ Is 1 (whole 1) ∷ []) ≢ clashing (Is 1 (whole 1) ∷ [])
+by_one_side : (p : Box (Unit {0}) Global)
+    → comparing p open_vars (0 ∷ []) AtMost (Is 0 (whole 4) ∷ Is 1 (whole 1) ∷ []) ≢ clashing (Is 1 (whole 1) ∷ [])
 by_one_side p e = cc
 
 -- an equation: the value of the other side, rounded to whole numbers
@@ -84,25 +91,31 @@ equal_to_the_right : (p : Box (Unit {0}) Global) → equating p (0 ∷ []) 0 1 (
     ≡ concluding ((record { atom = Is 0 (whole 3); premises = Is 1 (whole 3) ∷ [] }) ∷ [])
 equal_to_the_right p = refl
 
-rounded_literal : (p : Box (Unit {0}) Global) → equating p (1 ∷ []) 2 1 [] ≡ concluding ((record { atom = Is 1 (whole 2); premises = [] }) ∷ [])
+rounded_literal : (p : Box (Unit {0}) Global)
+    → equating p (1 ∷ []) 2 1 [] ≡ concluding ((record { atom = Is 1 (whole 2); premises = [] }) ∷ [])
 rounded_literal p = refl
 
 -- in no grain: a clash by the other side alone
-in_no_grain : (p : Box (Unit {0}) Global) → equating p (0 ∷ []) 0 4 (Is 0 (whole 4) ∷ Is 1 (whole 1) ∷ []) ≡ clashing (Is 0 (whole 4) ∷ (Is 1 (whole 1) ∷ []))
+in_no_grain : (p : Box (Unit {0}) Global)
+    → equating p (0 ∷ []) 0 4 (Is 0 (whole 4) ∷ Is 1 (whole 1) ∷ []) ≡ clashing (Is 0 (whole 4) ∷ (Is 1 (whole 1) ∷ []))
 in_no_grain p = refl
 
 literal_in_no_grain : (p : Box (Unit {0}) Global) → equating p (0 ∷ []) 0 3 (Is 0 (whole 4) ∷ []) ≡ clashing []
 literal_in_no_grain p = refl
 
--- values that differ: a clash where no side may be narrowed, else two values of each side, of which the net tells a clash
-they_differ : (p : Box (Unit {0}) Global) → equating p [] 0 1 (Is 0 (whole 4) ∷ Is 1 (whole 1) ∷ []) ≡ clashing (Is 0 (whole 4) ∷ (Is 1 (whole 1) ∷ []))
+-- values that differ: a clash where no side may be narrowed, else two values of each side, of which the net tells a
+-- clash
+they_differ : (p : Box (Unit {0}) Global)
+    → equating p [] 0 1 (Is 0 (whole 4) ∷ Is 1 (whole 1) ∷ []) ≡ clashing (Is 0 (whole 4) ∷ (Is 1 (whole 1) ∷ []))
 they_differ p = refl
 
 both_are_narrowed : (p : Box (Unit {0}) Global) → equating p (0 ∷ 1 ∷ []) 0 1 (Is 0 (whole 4) ∷ Is 1 (whole 1) ∷ [])
-    ≡ concluding ((record { atom = Is 0 (whole 1); premises = Is 1 (whole 1) ∷ [] }) ∷ ((record { atom = Is 1 (whole 4); premises = Is 0 (whole 4) ∷ [] }) ∷ []))
+    ≡ concluding ((record { atom = Is 0 (whole 1); premises = Is 1 (whole 1) ∷ [] })
+    ∷ ((record { atom = Is 1 (whole 4); premises = Is 0 (whole 4) ∷ [] }) ∷ []))
 both_are_narrowed p = refl
 
-all_that_a_side_reads : (p : Box (Unit {0}) Global) → equating p [] 4 3 (Is 0 (whole 4) ∷ Is 1 (whole 1) ∷ []) ≡ clashing (Is 0 (whole 4) ∷ (Is 1 (whole 1) ∷ []))
+all_that_a_side_reads : (p : Box (Unit {0}) Global)
+    → equating p [] 4 3 (Is 0 (whole 4) ∷ Is 1 (whole 1) ∷ []) ≡ clashing (Is 0 (whole 4) ∷ (Is 1 (whole 1) ∷ []))
 all_that_a_side_reads p = refl
 
 -- with the fewer decimals they agree

@@ -32,7 +32,8 @@ related_said plan seen r (Some v) others None = silent
 related_said plan seen r (Some v) others (Some a) =
     said_from seen (others ++ why_confined plan seen v (may_relate r a)) (confined plan seen v (may_relate r a))
 
--- Compare: a clash from both sides where the relation doesn't hold; else what follows for a side that is a lone inferred
+-- Compare: a clash from both sides where the relation doesn't hold; else what follows for a side that is a lone
+-- inferred
 -- variable from the other
 abbrev pub compare_said : Plan → Seen → Rule → Relation → ℕ → ℕ → Said
 compare_said plan seen rule r a b =

@@ -28,7 +28,8 @@ EquateIsSaid = (plan : Plan) (seen : Seen) (rule : Rule) (a b : ℕ)
 
 -- each premise stands
 abbrev pub CompareStands : Type 0
-CompareStands = (plan : Plan) (seen : Seen) (rule : Rule) (r : Relation) (a b : ℕ) → Stands seen (compare_said plan seen rule r a b)
+CompareStands = (plan : Plan) (seen : Seen) (rule : Rule) (r : Relation) (a b : ℕ)
+    → Stands seen (compare_said plan seen rule r a b)
 
 abbrev pub EquateStands : Type 0
 EquateStands = (plan : Plan) (seen : Seen) (rule : Rule) (a b : ℕ) → Stands seen (equate_said plan seen rule a b)
@@ -39,11 +40,13 @@ CompareIsRead = (plan : Plan) (seen : Seen) (rule : Rule) (r : Relation) (a b : 
     → IsOf (map var_at (vars_of_sides plan a b)) (compare_said plan seen rule r a b)
 
 abbrev pub EquateIsRead : Type 0
-EquateIsRead = (plan : Plan) (seen : Seen) (rule : Rule) (a b : ℕ) → IsOf (map var_at (vars_of_sides plan a b)) (equate_said plan seen rule a b)
+EquateIsRead = (plan : Plan) (seen : Seen) (rule : Rule) (a b : ℕ)
+    → IsOf (map var_at (vars_of_sides plan a b)) (equate_said plan seen rule a b)
 
 -- no grain that holds its variable's value is out, as in every clear set
 abbrev pub ValuesAreLeft : Plan → Seen → Type 0
-ValuesAreLeft plan seen = (v g : ℕ) (a : Value) → seen.value v ≡ Some a → is_grain_with plan v (lies_in a) g ≡ true → seen.out v g ≡ false
+ValuesAreLeft plan seen = (v g : ℕ) (a : Value) → seen.value v ≡ Some a → is_grain_with plan v (lies_in a) g ≡ true
+    → seen.out v g ≡ false
 
 -- all that is said follows from its premises alone
 abbrev pub CompareFollows : Type 0

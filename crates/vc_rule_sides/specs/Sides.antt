@@ -13,4 +13,5 @@ abbrev pub side_given : Plan → Seen → Side → Given Atom
 side_given plan seen side = related plan seen side.relation side.var (meant_if side.value)
 
 abbrev pub side_said : Plan → Seen → Side → Said
-side_said plan seen side = related_said plan seen side.relation side.var (values_in plan seen side.other) (meant_if side.value)
+side_said plan seen side =
+    related_said plan seen side.relation side.var (values_in plan seen side.other) (meant_if side.value)

@@ -9,6 +9,3 @@ pub mod sides;
 
 pub use comparing::say_compare;
 pub use equating::say_equate;
-
-#[cfg(test)]
-mod tests;

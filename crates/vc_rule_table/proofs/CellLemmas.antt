@@ -1,5 +1,6 @@
 -- Lists of grains, and what is found among numbers.
-use Rattle.std.proofs.Common.{◌≡◌, ℕ, suc, ◌+◌, ◌-◌, ◌^◌, ◌<◌, ◌≤◌, Bool, true, false, ◌||◌, List, [], ◌∷◌, ◌++◌, length, map, refl, sym, ◌∙◌, ap, inl, inr, arith, append_assoc, length-append}
+use Rattle.std.proofs.Common.{◌≡◌, ℕ, suc, ◌+◌, ◌-◌, ◌^◌, ◌<◌, ◌≤◌, Bool, true, false, ◌||◌, List, [], ◌∷◌, ◌++◌}
+use Rattle.std.proofs.Common.{length, map, refl, sym, ◌∙◌, ap, inl, inr, arith, append_assoc, length-append}
 use Rattle.std.specs.Prelude.{if◌then◌else◌, slice_get, Some}
 use Rattle.std.specs.List.{filter, list_any, range_with_len}
 use Rattle.std.proofs.lemmas.Bool.{cases_lt}
@@ -31,7 +32,8 @@ pub range_ends : (g n : ℕ) → n ≤ g → range_with_len g (n - g) ≡ []
 range_ends g n past = let none : n - g ≡ 0 = omega arith in ap (range_with_len g) none
 
 -- whether a number from one on up to another passes: the first of them decides, or those after it
-pub any_next : (p : ℕ → Bool) (g n : ℕ) → g < n → p g ≡ false → list_any p (range_with_len g (n - g)) ≡ list_any p (range_with_len (g + 1) (n - (g + 1)))
+pub any_next : (p : ℕ → Bool) (g n : ℕ) → g < n → p g ≡ false
+    → list_any p (range_with_len g (n - g)) ≡ list_any p (range_with_len (g + 1) (n - (g + 1)))
 any_next p g n below e =
     let rest = list_any p (range_with_len (g + 1) (n - (g + 1))) in
     ap (list_any p) (range_first g n below) ∙ ap (λ b. b || rest) e
@@ -45,7 +47,8 @@ pub any_ends : (p : ℕ → Bool) (g n : ℕ) → n ≤ g → list_any p (range_
 any_ends p g n past = ap (list_any p) (range_ends g n past)
 
 -- the numbers that pass, likewise
-pub filter_next : (p : ℕ → Bool) (g n : ℕ) → g < n → p g ≡ false → filter p (range_with_len g (n - g)) ≡ filter p (range_with_len (g + 1) (n - (g + 1)))
+pub filter_next : (p : ℕ → Bool) (g n : ℕ) → g < n → p g ≡ false
+    → filter p (range_with_len g (n - g)) ≡ filter p (range_with_len (g + 1) (n - (g + 1)))
 filter_next p g n below e =
     let rest = filter p (range_with_len (g + 1) (n - (g + 1))) in
     ap (filter p) (range_first g n below) ∙ ap (λ b. if b then g ∷ rest else rest) e
@@ -60,32 +63,41 @@ pub filter_ends : (p : ℕ → Bool) (g n : ℕ) → n ≤ g → filter p (range
 filter_ends p g n past = ap (filter p) (range_ends g n past)
 
 -- a list's elements by their numbers: the elements from one on, where others come before
-pub element_after : {A : Type 0} (before after : List A) (x : A) → slice_get (before ++ x ∷ after) (length before) ≡ Some x
+pub element_after : {A : Type 0} (before after : List A) (x : A)
+    → slice_get (before ++ x ∷ after) (length before) ≡ Some x
 element_after [] after x = refl
 element_after (y ∷ before) after x = element_after before after x
 
 any_after : (test : Piece → Bool) (before after : List Piece)
-    → list_any (λ g. passes test (slice_get (before ++ after) g)) (range_with_len (length before) (length after)) ≡ list_any test after
+    → list_any (λ g. passes test (slice_get (before ++ after) g)) (range_with_len (length before) (length after))
+    ≡ list_any test after
 any_after test before [] = refl
 any_after test before (x ∷ after) =
     let whole : before ++ x ∷ after ≡ (before ++ x ∷ []) ++ after = sym (append_assoc before (x ∷ []) after) in
     let long : length (before ++ x ∷ []) ≡ length before + 1 = length-append before (x ∷ []) in
-    let first : passes test (slice_get (before ++ x ∷ after) (length before)) ≡ test x = ap (passes test) (element_after before after x) in
-    let later : list_any (λ g. passes test (slice_get (before ++ x ∷ after) g)) (range_with_len (length before + 1) (length after)) ≡ list_any test after =
+    let first : passes test (slice_get (before ++ x ∷ after) (length before)) ≡ test x
+    = ap (passes test) (element_after before after x) in
+    let later : list_any (λ g. passes test (slice_get (before ++ x ∷ after) g))
+    (range_with_len (length before + 1) (length after)) ≡ list_any test after =
     ap (λ xs. list_any (λ g. passes test (slice_get xs g)) (range_with_len (length before + 1) (length after))) whole
-    ∙ (ap (λ n. list_any (λ g. passes test (slice_get ((before ++ x ∷ []) ++ after) g)) (range_with_len n (length after))) (sym long)
+    ∙ (ap (λ n. list_any (λ g. passes test (slice_get ((before ++ x ∷ []) ++ after) g))
+    (range_with_len n (length after))) (sym long)
     ∙ any_after test (before ++ x ∷ []) after) in
-    ap (λ b. b || list_any (λ g. passes test (slice_get (before ++ x ∷ after) g)) (range_with_len (length before + 1) (length after))) first
+    ap (λ b. b || list_any (λ g. passes test (slice_get (before ++ x ∷ after) g))
+    (range_with_len (length before + 1) (length after))) first
     ∙ ap (λ b. test x || b) later
 
 -- whether a grain by its number holds the value is whether one does
-pub some_holds : (grains : List Piece) (a : Value) → list_any (grain_holds grains a) (numbers_below (length grains)) ≡ lies_in_some grains a
+pub some_holds : (grains : List Piece) (a : Value)
+    → list_any (grain_holds grains a) (numbers_below (length grains)) ≡ lies_in_some grains a
 some_holds grains a = any_after (lies_in a) [] grains
 
 -- where there are few atoms, each variable has few grains
 pub few_grains : (plan : Plan) → atom_count plan < 2 ^ 32 → FewGrains plan
 few_grains plan few v =
     elim (cases_lt v (length plan.vars)) [
-      | inl below ↦ let within = atoms_within plan (atoms_before plan v) v (count_of plan v) refl refl below in omega arith
-      | inr past ↦ let none : count_of plan v ≡ 0 = ap (λ x. length (grains_in (domain_of plan x))) (get_past plan.vars v past) in omega arith
+      | inl below ↦ let within = atoms_within plan (atoms_before plan v) v (count_of plan v) refl refl below in
+          omega arith
+      | inr past ↦ let none : count_of plan v
+          ≡ 0 = ap (λ x. length (grains_in (domain_of plan x))) (get_past plan.vars v past) in omega arith
     ]

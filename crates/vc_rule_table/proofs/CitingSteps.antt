@@ -1,5 +1,6 @@
 -- What is cited one by one is cited together.
-use Rattle.std.proofs.Common.{◌≡◌, ℕ, ◌+◌, ◌-◌, ◌<◌, ◌≤◌, Bool, true, false, cond, not, ◌&&◌, List, [], ◌∷◌, ◌++◌, length, take, drop, get_or, map, refl, sym, ◌∙◌, ap, arith}
+use Rattle.std.proofs.Common.{◌≡◌, ℕ, ◌+◌, ◌-◌, ◌<◌, ◌≤◌, Bool, true, false, cond, not, ◌&&◌, List, [], ◌∷◌, ◌++◌}
+use Rattle.std.proofs.Common.{length, take, drop, get_or, map, refl, sym, ◌∙◌, ap, arith}
 use Rattle.std.specs.Prelude.{flat_map, is_none, is_some, Option, None, Some}
 use Rattle.std.specs.List.{filter, find, list_all, range_with_len}
 use Rattle.std.proofs.lemmas.List.{map-append, take_all}
@@ -29,21 +30,27 @@ none_told (Some x) true e = absurd (cc)
 none_told (Some x) false e = refl
 
 -- what is cited for the first of a list, and then for those after it
-pub cited_first : {A : Type 0} (f : A → List Atom) (y m : Yielded) (rest : List A) (x : A) → 1 ≤ length rest → x ≡ get_or rest 0 x
-    → m ≡ cited_all y (f x) → cited_all m (flat_map f (take (length rest - 1) (drop 1 rest))) ≡ cited_all y (flat_map f rest)
+pub cited_first : {A : Type 0} (f : A → List Atom) (y m : Yielded) (rest : List A) (x : A) → 1 ≤ length rest
+    → x ≡ get_or rest 0 x
+    → m ≡ cited_all y (f x)
+    → cited_all m (flat_map f (take (length rest - 1) (drop 1 rest))) ≡ cited_all y (flat_map f rest)
 cited_first f y m [] x some is e = absurd (omega arith)
 cited_first f y m (z ∷ rest) x some is e =
     let more : take (length (z ∷ rest) - 1) rest ≡ rest = take_all (length (z ∷ rest) - 1) rest (omega arith) in
     ap (λ xs. cited_all m (flat_map f xs)) more
-    ∙ (ap (λ w. cited_all w (flat_map f rest)) (e ∙ ap (λ w. cited_all y (f w)) is) ∙ citing.cited_append y (f z) (flat_map f rest))
+    ∙ (ap (λ w. cited_all w (flat_map f rest)) (e ∙ ap (λ w. cited_all y (f w)) is)
+    ∙ citing.cited_append y (f z) (flat_map f rest))
 
 -- what is cited for a number, and then for those after it
-pub cited_number : (f : ℕ → Atom) (p : ℕ → Bool) (y m : Yielded) (g n : ℕ) → g < n → m ≡ cited_all y (map f (filter p (g ∷ [])))
-    → cited_all m (map f (filter p (range_with_len (g + 1) (n - (g + 1))))) ≡ cited_all y (map f (filter p (range_with_len g (n - g))))
+pub cited_number : (f : ℕ → Atom) (p : ℕ → Bool) (y m : Yielded) (g n : ℕ) → g < n
+    → m ≡ cited_all y (map f (filter p (g ∷ [])))
+    → cited_all m (map f (filter p (range_with_len (g + 1) (n - (g + 1)))))
+    ≡ cited_all y (map f (filter p (range_with_len g (n - g))))
 cited_number f p y m g n below e =
     let rest = range_with_len (g + 1) (n - (g + 1)) in
     let split : filter p (range_with_len g (n - g)) ≡ filter p (g ∷ []) ++ filter p rest =
     ap (filter p) (range_first g n below) ∙ filter-append p (g ∷ []) rest in
     ap (λ z. cited_all z (map f (filter p rest))) e
     ∙ (citing.cited_append y (map f (filter p (g ∷ []))) (map f (filter p rest))
-    ∙ (ap (cited_all y) (sym (map-append f (filter p (g ∷ [])) (filter p rest))) ∙ ap (λ gs. cited_all y (map f gs)) (sym split)))
+    ∙ (ap (cited_all y) (sym (map-append f (filter p (g ∷ [])) (filter p rest)))
+    ∙ ap (λ gs. cited_all y (map f gs)) (sym split)))

@@ -1,5 +1,6 @@
 -- What is concluded one by one is concluded together.
-use Rattle.std.proofs.Common.{◌≡◌, ℕ, ◌+◌, ◌-◌, ◌<◌, ◌≤◌, Bool, not, List, [], ◌∷◌, ◌++◌, length, take, drop, get_or, map, sym, ◌∙◌, ap, arith}
+use Rattle.std.proofs.Common.{◌≡◌, ℕ, ◌+◌, ◌-◌, ◌<◌, ◌≤◌, Bool, not, List, [], ◌∷◌, ◌++◌, length, take, drop, get_or}
+use Rattle.std.proofs.Common.{map, sym, ◌∙◌, ap, arith}
 use Rattle.std.specs.Prelude.{flat_map}
 use Rattle.std.specs.List.{filter, range_with_len}
 use Rattle.std.proofs.lemmas.Grind.{flat_map-append}
@@ -16,16 +17,19 @@ use Rattle.vc_rule_table.specs.TableSaid.{new_conclusions}
 use Rattle.vc_rule_table.proofs.CellLemmas.{range_first}
 
 -- what is cited for the first of those that pass, and then for those after it
-pub cited_those : {A : Type 0} (p : A → Bool) (f : A → List Atom) (y m : Yielded) (rest : List A) (x : A) → 1 ≤ length rest → x ≡ get_or rest 0 x
+pub cited_those : {A : Type 0} (p : A → Bool) (f : A → List Atom) (y m : Yielded) (rest : List A) (x : A)
+    → 1 ≤ length rest → x ≡ get_or rest 0 x
     → m ≡ cited_all y (flat_map f (filter p (x ∷ [])))
-    → cited_all m (flat_map f (filter p (take (length rest - 1) (drop 1 rest)))) ≡ cited_all y (flat_map f (filter p rest))
+    → cited_all m (flat_map f (filter p (take (length rest - 1) (drop 1 rest))))
+    ≡ cited_all y (flat_map f (filter p rest))
 cited_those p f y m [] x some is e = absurd (omega arith)
 cited_those p f y m (z ∷ rest) x some is e =
     let more : take (length (z ∷ rest) - 1) rest ≡ rest = take_all (length (z ∷ rest) - 1) rest (omega arith) in
     let split : flat_map f (filter p (z ∷ rest)) ≡ flat_map f (filter p (z ∷ [])) ++ flat_map f (filter p rest) =
     ap (flat_map f) (filter-append p (z ∷ []) rest) ∙ flat_map-append f (filter p (z ∷ [])) (filter p rest) in
     ap (λ xs. cited_all m (flat_map f (filter p xs))) more
-    ∙ (ap (λ w. cited_all w (flat_map f (filter p rest))) (e ∙ ap (λ w. cited_all y (flat_map f (filter p (w ∷ [])))) is)
+    ∙ (ap (λ w. cited_all w (flat_map f (filter p rest)))
+    (e ∙ ap (λ w. cited_all y (flat_map f (filter p (w ∷ [])))) is)
     ∙ (cited_append y (flat_map f (filter p (z ∷ []))) (flat_map f (filter p rest)) ∙ ap (cited_all y) (sym split)))
 
 -- what is concluded of the first of some numbers that pass, and then of those after it
@@ -38,17 +42,21 @@ concluded_number seen f p y m g n below e =
     let rest = range_with_len (g + 1) (n - (g + 1)) in
     let numbers : filter p (range_with_len g (n - g)) ≡ filter p (g ∷ []) ++ filter p rest =
     ap (filter p) (range_first g n below) ∙ filter-append p (g ∷ []) rest in
-    let split : new (map f (filter p (range_with_len g (n - g)))) ≡ new (map f (filter p (g ∷ []))) ++ new (map f (filter p rest)) =
+    let split : new (map f (filter p (range_with_len g (n - g))))
+    ≡ new (map f (filter p (g ∷ []))) ++ new (map f (filter p rest)) =
     ap (λ gs. new (map f gs)) numbers
     ∙ (ap new (map-append f (filter p (g ∷ [])) (filter p rest))
-    ∙ filter-append (λ conclusion. not (says seen conclusion.atom)) (map f (filter p (g ∷ []))) (map f (filter p rest))) in
+    ∙ filter-append (λ conclusion. not (says seen conclusion.atom)) (map f (filter p (g ∷ [])))
+    (map f (filter p rest))) in
     ap (λ w. take_conclusions w (new (map f (filter p rest)))) e
-    ∙ (conclusions_append y (new (map f (filter p (g ∷ [])))) (new (map f (filter p rest))) ∙ ap (take_conclusions y) (sym split))
+    ∙ (conclusions_append y (new (map f (filter p (g ∷ [])))) (new (map f (filter p rest)))
+    ∙ ap (take_conclusions y) (sym split))
 
 -- what is concluded for the first variable that passes, and then for those after it
 pub concluded_first : (p : ℕ → Bool) (f : ℕ → List Conclusion) (y m : Yielded) (rest : List ℕ) → 1 ≤ length rest
     → m ≡ take_conclusions y (flat_map f (filter p (get_or rest 0 0 ∷ [])))
-    → take_conclusions m (flat_map f (filter p (take (length rest - 1) (drop 1 rest)))) ≡ take_conclusions y (flat_map f (filter p rest))
+    → take_conclusions m (flat_map f (filter p (take (length rest - 1) (drop 1 rest))))
+    ≡ take_conclusions y (flat_map f (filter p rest))
 concluded_first p f y m [] some e = absurd (omega arith)
 concluded_first p f y m (x ∷ rest) some e =
     let more : take (length (x ∷ rest) - 1) rest ≡ rest = take_all (length (x ∷ rest) - 1) rest (omega arith) in
@@ -56,4 +64,5 @@ concluded_first p f y m (x ∷ rest) some e =
     ap (flat_map f) (filter-append p (x ∷ []) rest) ∙ flat_map-append f (filter p (x ∷ [])) (filter p rest) in
     ap (λ xs. take_conclusions m (flat_map f (filter p xs))) more
     ∙ (ap (λ w. take_conclusions w (flat_map f (filter p rest))) e
-    ∙ (conclusions_append y (flat_map f (filter p (x ∷ []))) (flat_map f (filter p rest)) ∙ ap (take_conclusions y) (sym split)))
+    ∙ (conclusions_append y (flat_map f (filter p (x ∷ []))) (flat_map f (filter p rest))
+    ∙ ap (take_conclusions y) (sym split)))

@@ -1,5 +1,6 @@
 -- Each premise of what is said is of a variable that a column is given.
-use Rattle.std.proofs.Common.{◌≡◌, ℕ, Bool, true, false, cond, not, ◌&&◌, List, [], ◌∷◌, ◌++◌, map, refl, sym, ◌∙◌, ap, subst}
+use Rattle.std.proofs.Common.{◌≡◌, ℕ, Bool, true, false, cond, not, ◌&&◌, List, [], ◌∷◌, ◌++◌, map, refl, sym, ◌∙◌, ap}
+use Rattle.std.proofs.Common.{subst}
 use Rattle.std.specs.Prelude.{flat_map, slice_get, Option, None, Some}
 use Rattle.std.specs.List.{filter, find, list_all}
 use Rattle.std.proofs.lemmas.Bool.{and_parts, and_from}
@@ -17,7 +18,8 @@ use Rattle.vc_plan.specs.Pieces.{lies_in}
 use Rattle.vc_plan.specs.Seen.{Seen}
 use Rattle.vc_plan.specs.TableRows.{is_possible, is_column_of, other_columns}
 use Rattle.vc_plan.proofs.PlanLaws.Lists.{all_filter}
-use Rattle.vc_plan_reasons.specs.Things.{Thing, var_at, same_thing, has_thing, thing_of, vars_of_operand, vars_of_column}
+use Rattle.vc_plan_reasons.specs.Things.{Thing, var_at, same_thing, has_thing, thing_of, vars_of_operand}
+use Rattle.vc_plan_reasons.specs.Things.{vars_of_column}
 use Rattle.vc_plan_reasons.proofs.ReasonLaws.Reaching.{thing_exact, thing_itself}
 use Rattle.vc_rule_table.specs.Laws.{TableIsRead}
 use Rattle.vc_rule_table.specs.Reasons.{cell_reasons, operand_reasons, misfit_reasons, row_reasons}
@@ -30,13 +32,16 @@ is_of things a = has_thing things (thing_of a)
 abbrev are_among : List Thing → List ℕ → Bool
 are_among things vs = list_all (λ v. has_thing things (var_at v)) vs
 
-cell_read : (things : List Thing) (plan : Plan) (v : ℕ) (a : Value) (o : Option Value) → has_thing things (var_at v) ≡ true
+cell_read : (things : List Thing) (plan : Plan) (v : ℕ) (a : Value) (o : Option Value)
+    → has_thing things (var_at v) ≡ true
     → list_all (is_of things) (cell_reasons plan v a o) ≡ true
 cell_read things plan v a None h =
-    all_mapped (is_of things) (Out v) (λ g. h) (filter (is_grain_with plan v (lies_in a)) (numbers_below (count_of plan v)))
+    all_mapped (is_of things) (Out v) (λ g. h)
+    (filter (is_grain_with plan v (lies_in a)) (numbers_below (count_of plan v)))
 cell_read things plan v a (Some b) h = and_from (has_thing things (var_at v)) true h refl
 
-operand_read : (things : List Thing) (plan : Plan) (seen : Seen) (operand : Operand) (cell : Option Value) → are_among things (vars_of_operand operand) ≡ true
+operand_read : (things : List Thing) (plan : Plan) (seen : Seen) (operand : Operand) (cell : Option Value)
+    → are_among things (vars_of_operand operand) ≡ true
     → list_all (is_of things) (operand_reasons plan seen operand cell) ≡ true
 operand_read things plan seen (Constant b) cell h = refl
 operand_read things plan seen (Variable v) None h = refl
@@ -45,7 +50,8 @@ operand_read things plan seen (Variable v) (Some a) h =
     cell_read things plan v a (seen.value v) p.0
 
 -- what all of a list pass, what is found passes
-found_passes : {A : Type 0} (p q : A → Bool) (xs : List A) (x : A) → find p xs ≡ Some x → list_all q xs ≡ true → q x ≡ true
+found_passes : {A : Type 0} (p q : A → Bool) (xs : List A) (x : A) → find p xs ≡ Some x → list_all q xs ≡ true
+    → q x ≡ true
 found_passes p q [] x e h = absurd (cc)
 found_passes p q (y ∷ xs) x e h =
     let parts : (q y ≡ true) × (list_all q xs ≡ true) = and_parts (q y) (list_all q xs) h in
@@ -55,7 +61,8 @@ found_passes p q (y ∷ xs) x e h =
     ] e
 
 row_read : (things : List Thing) (plan : Plan) (seen : Seen) (columns : List Binding) (row : List Value)
-    → list_all (λ column. are_among things (vars_of_column column)) columns ≡ true → list_all (is_of things) (row_reasons plan seen columns row) ≡ true
+    → list_all (λ column. are_among things (vars_of_column column)) columns ≡ true
+    → list_all (is_of things) (row_reasons plan seen columns row) ≡ true
 row_read things plan seen columns row h = by (find (λ column. not (is_possible plan seen row column)) columns) refl
   where
     by : (o : Option Binding) → find (λ column. not (is_possible plan seen row column)) columns ≡ o
@@ -63,15 +70,18 @@ row_read things plan seen columns row h = by (find (λ column. not (is_possible 
     by None e = refl
     by (Some column) e =
         operand_read things plan seen column.operand (slice_get row column.column)
-        (found_passes (λ c. not (is_possible plan seen row c)) (λ c. are_among things (vars_of_column c)) columns column e h)
+        (found_passes (λ c. not (is_possible plan seen row c)) (λ c. are_among things (vars_of_column c)) columns column
+        e h)
 
 -- each column's variable is among those of all
 given_first : (things : List Thing) (operand : Operand) (vs : List ℕ)
     → ((t : Thing) → has_thing (map var_at (vars_of_operand operand ++ vs)) t ≡ true → has_thing things t ≡ true)
-    → (are_among things (vars_of_operand operand) ≡ true) × ((t : Thing) → has_thing (map var_at vs) t ≡ true → has_thing things t ≡ true)
+    → (are_among things (vars_of_operand operand) ≡ true)
+    × ((t : Thing) → has_thing (map var_at vs) t ≡ true → has_thing things t ≡ true)
 given_first things (Constant b) vs within = (refl, within)
 given_first things (Variable v) vs within = (
-  and_from (has_thing things (var_at v)) true (within (var_at v) (has_first same_thing thing_exact thing_itself (var_at v) (map var_at vs))) refl,
+  and_from (has_thing things (var_at v)) true
+      (within (var_at v) (has_first same_thing thing_exact thing_itself (var_at v) (map var_at vs))) refl,
   λ t h. within t (has_more same_thing thing_exact thing_itself (var_at v) (map var_at vs) t h),
 )
 
@@ -81,12 +91,14 @@ all_given : (things : List Thing) (columns : List Binding)
 all_given things [] within = refl
 all_given things (column ∷ columns) within =
     let p = given_first things column.operand (flat_map vars_of_column columns) within in
-    and_from (are_among things (vars_of_column column)) (list_all (λ c. are_among things (vars_of_column c)) columns) p.0 (all_given things columns p.1)
+    and_from (are_among things (vars_of_column column)) (list_all (λ c. are_among things (vars_of_column c)) columns)
+    p.0 (all_given things columns p.1)
 
 pub table_is_read : TableIsRead
 table_is_read plan seen rule table columns =
     let things = map var_at (flat_map vars_of_column columns) in
-    let given : list_all (λ column. are_among things (vars_of_column column)) columns ≡ true = all_given things columns (λ t h. h) in
+    let given : list_all (λ column. are_among things (vars_of_column column)) columns ≡ true
+    = all_given things columns (λ t h. h) in
     each_passes (is_of things) plan seen rule table columns (λ row. row_read things plan seen columns row given)
     (λ v row. row_read things plan seen (other_columns v columns) row
     (all_filter (λ c. are_among things (vars_of_column c)) (λ column. not (is_column_of v column)) columns given))

@@ -13,7 +13,8 @@ use Rattle.vc_plan.specs.declared.rules.Binding.{Binding}
 use Rattle.vc_plan.specs.Answers.{clash_if, beside, gathered, fresh}
 use Rattle.vc_plan.specs.Domains.{is_restrictable}
 use Rattle.vc_plan.specs.Seen.{Seen, says}
-use Rattle.vc_plan.specs.TableRows.{rows_of, is_possible_in, columns_of, other_columns, rows_for, missing_grains, agreed, for_variable, narrowed}
+use Rattle.vc_plan.specs.TableRows.{rows_of, is_possible_in, columns_of, other_columns, rows_for, missing_grains}
+use Rattle.vc_plan.specs.TableRows.{agreed, for_variable, narrowed}
 use Rattle.vc_rule_yield.specs.Yielding.{Conclusion}
 use Rattle.vc_rule_premises.specs.Saying.{concluding, clash_when, given_of, conclusion_from}
 use Rattle.vc_rule_table.specs.Laws.{TableIsSaid}
@@ -48,18 +49,21 @@ variable_said plan seen table columns v =
     let outs = missing_grains plan v own rows in
     let cells = agreed plan v own rows in
     elim (is_restrictable plan v) as (λ b.
-    atoms_said (cond b (map (grain_out plan seen (rows_of plan table) columns v) outs) (map (cell_agreed plan seen (rows_of plan table) columns v) cells))
+    atoms_said (cond b (map (grain_out plan seen (rows_of plan table) columns v) outs)
+    (map (cell_agreed plan seen (rows_of plan table) columns v) cells))
     ≡ cond b (map (Out v) outs) cells) [
       | true ↦ grains_said plan seen (rows_of plan table) columns v outs
       | false ↦ cells_said (rows_reasons plan seen (other_columns v columns) (rows_of plan table)) cells
     ]
 
 -- the new conclusions conclude what is new
-new_said : (seen : Seen) (cs : List Conclusion) → atoms_said (new_conclusions seen cs) ≡ filter (λ a. not (says seen a)) (atoms_said cs)
+new_said : (seen : Seen) (cs : List Conclusion)
+    → atoms_said (new_conclusions seen cs) ≡ filter (λ a. not (says seen a)) (atoms_said cs)
 new_said seen [] = refl
 new_said seen (c ∷ cs) =
     elim (says seen c.atom) as (λ b. atoms_said (cond (not b) (c ∷ new_conclusions seen cs) (new_conclusions seen cs))
-    ≡ cond (not b) (c.atom ∷ filter (λ a. not (says seen a)) (atoms_said cs)) (filter (λ a. not (says seen a)) (atoms_said cs))) [
+    ≡ cond (not b) (c.atom ∷ filter (λ a. not (says seen a)) (atoms_said cs))
+    (filter (λ a. not (says seen a)) (atoms_said cs))) [
       | true ↦ new_said seen cs
       | false ↦ ap (λ xs. c.atom ∷ xs) (new_said seen cs)
     ]
@@ -76,11 +80,14 @@ all_said plan seen table columns [] = refl
 all_said plan seen table columns (v ∷ vs) =
     let newly = concluded_newly plan seen (rows_of plan table) columns in
     let first : atoms_said (newly v) ≡ filter (λ a. not (says seen a)) (given_for plan seen table columns v) =
-    new_said seen (concluded_for plan seen (rows_of plan table) columns v) ∙ ap (filter (λ a. not (says seen a))) (variable_said plan seen table columns v) in
+    new_said seen (concluded_for plan seen (rows_of plan table) columns v)
+    ∙ ap (filter (λ a. not (says seen a))) (variable_said plan seen table columns v) in
     map-append (λ (conclusion : Conclusion). conclusion.atom) (newly v) (flat_map newly vs)
     ∙ (ap (λ xs. xs ++ atoms_said (flat_map newly vs)) first
-    ∙ (ap (λ xs. filter (λ a. not (says seen a)) (given_for plan seen table columns v) ++ xs) (all_said plan seen table columns vs)
-    ∙ sym (filter-append (λ a. not (says seen a)) (given_for plan seen table columns v) (flat_map (given_for plan seen table columns) vs))))
+    ∙ (ap (λ xs. filter (λ a. not (says seen a)) (given_for plan seen table columns v) ++ xs)
+    (all_said plan seen table columns vs)
+    ∙ sym (filter-append (λ a. not (says seen a)) (given_for plan seen table columns v)
+    (flat_map (given_for plan seen table columns) vs))))
 
 pub table_is_said : TableIsSaid
 table_is_said plan seen rule table columns =
@@ -89,9 +96,11 @@ table_is_said plan seen rule table columns =
     let newly = concluded_newly plan seen rows columns in
     let given = gathered (for_variable plan seen table columns) vs in
     let said : given_of (concluding (flat_map newly vs)) ≡ fresh seen given =
-    ap atoms (all_said plan seen table columns vs) ∙ sym (ap (fresh seen) (gathered_atoms (given_for plan seen table columns) vs)) in
+    ap atoms (all_said plan seen table columns vs)
+    ∙ sym (ap (fresh seen) (gathered_atoms (given_for plan seen table columns) vs)) in
     elim (not (list_any (is_possible_in plan seen columns) rows)) as (λ b.
-    given_of (clash_when b (rows_reasons plan seen columns rows) (concluding (flat_map newly vs))) ≡ fresh seen (clash_if b given)) [
+    given_of (clash_when b (rows_reasons plan seen columns rows) (concluding (flat_map newly vs)))
+    ≡ fresh seen (clash_if b given)) [
       | true ↦ refl
       | false ↦ said
     ]

@@ -1,4 +1,5 @@
--- What table calls say with what it follows from, computed. The rows are 1,1 and 1,4 and 4,4 and 2,1.5; each variable has the
+-- What table calls say with what it follows from, computed. The rows are 1,1 and 1,4 and 4,4 and 2,1.5; each variable
+-- has the
 -- grains 1, 2 and 4.
 use Rattle.std.proofs.Common.{◌≡◌, ℕ, pos, List, [], ◌∷◌, refl}
 use Rattle.std.specs.Prelude.{◌≢◌}
@@ -10,7 +11,8 @@ use Rattle.vc_plan.specs.declared.rules.Binding.{Binding}
 use Rattle.vc_plan.specs.declared.rules.Kind.TheVariants.{ByTable}
 use Rattle.vc_plan.specs.declared.rules.Operand.TheVariants.{Constant}
 use Rattle.vc_plan.specs.Seen.{seen_of}
-use Rattle.vc_plan.proofs.PlanRows.Models.{empty, root, open_var, fixed_var, rule, column, table_of, whole, number, three_grains}
+use Rattle.vc_plan.proofs.PlanRows.Models.{empty, root, open_var, fixed_var, rule, column, table_of, whole, number}
+use Rattle.vc_plan.proofs.PlanRows.Models.{three_grains}
 use Rattle.vc_rule_premises.specs.Saying.{Said, clashing, concluding}
 use Rattle.vc_rule_table.specs.Reasons.{row_reasons}
 use Rattle.vc_rule_table.specs.TableSaid.{table_said}
@@ -19,7 +21,8 @@ abbrev plan_of : List Var → Plan
 plan_of vars = record empty {
   domains = three_grains ∷ three_grains ∷ [];
   tables = table_of (
-      (whole 1 ∷ whole 1 ∷ []) ∷ (whole 1 ∷ whole 4 ∷ []) ∷ (whole 4 ∷ whole 4 ∷ []) ∷ (whole 2 ∷ number (pos 1_500_000) ∷ []) ∷ []
+      (whole 1 ∷ whole 1 ∷ []) ∷ (whole 1 ∷ whole 4 ∷ []) ∷ (whole 4 ∷ whole 4 ∷ [])
+      ∷ (whole 2 ∷ number (pos 1_500_000) ∷ []) ∷ []
       ) ∷ [];
   slots = root ∷ [];
   vars = vars;
@@ -52,12 +55,14 @@ by_a_value : narrowing (Out 0 1 ∷ Out 1 1 ∷ Is 1 (whole 1) ∷ Here 0 ∷ []
 by_a_value = refl
 
 -- by a grain that is out, where there is no value
-by_a_grain : narrowing (Out 0 1 ∷ Out 1 1 ∷ Out 1 2 ∷ Here 0 ∷ []) ≡ concluding ((record { atom = Out 0 2; premises = Out 1 2 ∷ [] }) ∷ [])
+by_a_grain : narrowing (Out 0 1 ∷ Out 1 1 ∷ Out 1 2 ∷ Here 0 ∷ [])
+    ≡ concluding ((record { atom = Out 0 2; premises = Out 1 2 ∷ [] }) ∷ [])
 by_a_grain = refl
 
 -- a value follows from why all other rows aren't possible
 value_from_all_rows : inferring (Is 1 (whole 1) ∷ Here 0 ∷ [])
-    ≡ concluding ((record { atom = Is 0 (whole 1); premises = Is 1 (whole 1) ∷ (Is 1 (whole 1) ∷ (Is 1 (whole 1) ∷ [])) }) ∷ [])
+    ≡ concluding ((record
+    { atom = Is 0 (whole 1); premises = Is 1 (whole 1) ∷ (Is 1 (whole 1) ∷ (Is 1 (whole 1) ∷ [])) }) ∷ [])
 value_from_all_rows = refl
 
 -- a clash, each row by its first column that doesn't fit
@@ -73,5 +78,6 @@ no_row_by_grains : narrowing (Out 1 0 ∷ Out 1 2 ∷ Here 0 ∷ []) ≡ clashin
 no_row_by_grains = refl
 
 -- a literal that differs needs no reason
-by_a_literal : row_reasons (plan_of []) (seen_of []) (record { column = 0; operand = Constant (whole 4) } ∷ []) (whole 1 ∷ []) ≡ []
+by_a_literal : row_reasons (plan_of []) (seen_of []) (record { column = 0; operand = Constant (whole 4) } ∷ [])
+    (whole 1 ∷ []) ≡ []
 by_a_literal = refl

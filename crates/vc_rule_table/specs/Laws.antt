@@ -31,7 +31,8 @@ TableStands = (plan : Plan) (seen : Seen) (rule : Rule) (table : ℕ) (columns :
 
 -- no grain that holds its variable's value is out, as in every clear set
 abbrev pub ValuesAreLeft : Plan → Seen → Type 0
-ValuesAreLeft plan seen = (v g : ℕ) (a : Value) → seen.value v ≡ Some a → is_grain_with plan v (lies_in a) g ≡ true → seen.out v g ≡ false
+ValuesAreLeft plan seen = (v g : ℕ) (a : Value) → seen.value v ≡ Some a → is_grain_with plan v (lies_in a) g ≡ true
+    → seen.out v g ≡ false
 
 -- all that is said follows from its premises alone
 abbrev pub TableFollows : Type 0
@@ -41,7 +42,8 @@ TableFollows = (plan : Plan) (seen : Seen) (rule : Rule) (table : ℕ) (columns 
 -- each premise is of a variable that a column is given
 abbrev pub TableIsRead : Type 0
 TableIsRead = (plan : Plan) (seen : Seen) (rule : Rule) (table : ℕ) (columns : List Binding)
-    → each_premise (λ a. has_thing (map var_at (flat_map vars_of_column columns)) (thing_of a)) (table_said plan seen rule table columns) ≡ true
+    → each_premise (λ a. has_thing (map var_at (flat_map vars_of_column columns)) (thing_of a))
+    (table_said plan seen rule table columns) ≡ true
 
 -- of a clash there is at most one premise a row of the table, of a grain one a row that has it, of a value one a row
 abbrev pub premises_at_most : Plan → ℕ → List Binding → Atom → ℕ
@@ -52,7 +54,8 @@ premises_at_most plan table columns (Is v a) = length (rows_of plan table)
 abbrev pub IsFew : Plan → ℕ → List Binding → Said → Type 0
 IsFew plan table columns (clashing premises) = length premises ≤ length (rows_of plan table)
 IsFew plan table columns (concluding conclusions) =
-    AllByRecursion (λ conclusion. length conclusion.premises ≤ premises_at_most plan table columns conclusion.atom) conclusions
+    AllByRecursion (λ conclusion. length conclusion.premises ≤ premises_at_most plan table columns conclusion.atom)
+    conclusions
 
 abbrev pub TableIsFew : Type 0
 TableIsFew = (plan : Plan) (seen : Seen) (rule : Rule) (table : ℕ) (columns : List Binding) → IsValid plan

@@ -22,7 +22,8 @@ abbrev pub cell_reasons : Plan → ℕ → Value → Option Value → List Atom
 cell_reasons plan v a None = grains_out plan v a
 cell_reasons plan v a (Some b) = Is v b ∷ []
 
--- why a cell isn't possible with what the column is given: a literal that differs needs no reason, nor does a cell that isn't there
+-- why a cell isn't possible with what the column is given: a literal that differs needs no reason, nor does a cell that
+-- isn't there
 abbrev pub operand_reasons : Plan → Seen → Operand → Option Value → List Atom
 operand_reasons plan seen (Constant b) cell = []
 operand_reasons plan seen (Variable v) None = []
@@ -39,7 +40,8 @@ abbrev pub misfit_reasons : Plan → Seen → List Value → Option Binding → 
 misfit_reasons plan seen row None = []
 misfit_reasons plan seen row (Some column) = column_reasons plan seen row column
 
--- why a row isn't possible in the columns: by the first in which it isn't; of one that is possible there is nothing to say
+-- why a row isn't possible in the columns: by the first in which it isn't; of one that is possible there is nothing to
+-- say
 abbrev pub row_reasons : Plan → Seen → List Binding → List Value → List Atom
 row_reasons plan seen columns row = misfit_reasons plan seen row (first_misfit plan seen columns row)
 

@@ -9,7 +9,8 @@ use Rattle.vc_plan.specs.declared.rules.Binding.{Binding}
 use Rattle.vc_plan.specs.declared.rules.Rule.{Rule}
 use Rattle.vc_plan.specs.Domains.{is_restrictable}
 use Rattle.vc_plan.specs.Seen.{Seen, says}
-use Rattle.vc_plan.specs.TableRows.{rows_of, is_possible_in, is_column_of, columns_of, other_columns, has_grain, missing_grains, agreed, narrowed}
+use Rattle.vc_plan.specs.TableRows.{rows_of, is_possible_in, is_column_of, columns_of, other_columns, has_grain}
+use Rattle.vc_plan.specs.TableRows.{missing_grains, agreed, narrowed}
 use Rattle.vc_rule_yield.specs.Yielding.{Conclusion}
 use Rattle.vc_rule_premises.specs.Saying.{Said, concluding, clash_when, conclusion_from}
 use Rattle.vc_rule_table.specs.Reasons.{rows_reasons}
@@ -17,7 +18,8 @@ use Rattle.vc_rule_table.specs.Reasons.{rows_reasons}
 -- that a grain of the variable is out, as none of the rows that have it is possible in the other columns
 abbrev pub grain_out : Plan → Seen → List (List Value) → List Binding → ℕ → ℕ → Conclusion
 grain_out plan seen rows columns v g =
-    conclusion_from (rows_reasons plan seen (other_columns v columns) (filter (has_grain plan v (columns_of v columns) g) rows)) (Out v g)
+    conclusion_from (rows_reasons plan seen (other_columns v columns)
+    (filter (has_grain plan v (columns_of v columns) g) rows)) (Out v g)
 
 -- that the variable has the cell that all possible rows have, as no other row is possible in the other columns
 abbrev pub cell_agreed : Plan → Seen → List (List Value) → List Binding → ℕ → Atom → Conclusion

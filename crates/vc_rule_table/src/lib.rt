@@ -9,6 +9,3 @@ pub mod rows;
 pub mod tables;
 
 pub use tables::say_table;
-
-#[cfg(test)]
-mod tests;

@@ -1,5 +1,6 @@
 -- How large the numbers of operations and functions get.
-use Rattle.std.proofs.Common.{◌≡◌, ℕ, zero, suc, ◌+◌, ◌*◌, ◌/◌, ◌<◌, ◌≤◌, ℤ, pos, negsuc, ◌+ℤ◌, ◌-ℤ◌, ◌*ℤ◌, unsigned_abs, Bool, true, false, refl, arith}
+use Rattle.std.proofs.Common.{◌≡◌, ℕ, zero, suc, ◌+◌, ◌*◌, ◌/◌, ◌<◌, ◌≤◌, ℤ, pos, negsuc, ◌+ℤ◌, ◌-ℤ◌, ◌*ℤ◌}
+use Rattle.std.proofs.Common.{unsigned_abs, Bool, true, false, refl, arith}
 use Rattle.std.specs.Prelude.{neg_ℤ, if◌then◌else◌, Option, None, Some}
 use Rattle.std.specs.Int.{is_negative}
 use Rattle.std.proofs.Math.Nat.{mul-le-mul_left}
@@ -53,13 +54,15 @@ product_load a b m n p q =
     let more : unsigned_abs a * unsigned_abs b ≤ m * n = mul-le (unsigned_abs a) (unsigned_abs b) m n p q in
     omega (arith, size, more)
 
-pub load_within : (operator : Operator) (a b : ℤ) (m n : ℕ) → unsigned_abs a ≤ m → unsigned_abs b ≤ n → load operator a b ≤ joined_load operator m n
+pub load_within : (operator : Operator) (a b : ℤ) (m n : ℕ) → unsigned_abs a ≤ m → unsigned_abs b ≤ n
+    → load operator a b ≤ joined_load operator m n
 load_within Plus a b m n p q = sum_size a b m n p q
 load_within Minus a b m n p q = difference_size a b m n p q
 load_within Times a b m n p q = product_load a b m n p q
 load_within Over a b m n p q = omega arith
 
-product_size : (a b : ℤ) (m n : ℕ) → unsigned_abs a ≤ m → unsigned_abs b ≤ n → unsigned_abs (product a b) ≤ m * n / one + 1
+product_size : (a b : ℤ) (m n : ℕ) → unsigned_abs a ≤ m → unsigned_abs b ≤ n
+    → unsigned_abs (product a b) ≤ m * n / one + 1
 product_size a b m n p q =
     let sign = with_sign_size (is_negative (a *ℤ b)) (nearest (unsigned_abs (a *ℤ b)) one) in
     let loaded = product_load a b m n p q in
@@ -69,13 +72,15 @@ product_size a b m n p q =
     product_near k l size small e = omega arith
 
 scaled_size : (a : ℤ) (m : ℕ) → unsigned_abs a ≤ m → unsigned_abs (a *ℤ pos one) ≤ one * m
-scaled_size a m p = let size : unsigned_abs (a *ℤ pos one) ≡ unsigned_abs a * one = unsigned_abs-mul a (pos one) in omega (arith, size)
+scaled_size a m p = let size : unsigned_abs (a *ℤ pos one)
+    ≡ unsigned_abs a * one = unsigned_abs-mul a (pos one) in omega (arith, size)
 
 quotient_size : (a b : ℤ) (m : ℕ) → unsigned_abs a ≤ m → AtMost (quotient a b) (one * m)
 quotient_size a (pos zero) m p = tt
 quotient_size a (pos (suc n)) m p = divided_small (a *ℤ pos one) (suc n) (one * m) (omega arith) (scaled_size a m p)
 quotient_size a (negsuc n) m p =
-    divided_small (neg_ℤ (a *ℤ pos one)) (suc n) (one * m) (omega arith) (let e = negative_size (a *ℤ pos one) in let s = scaled_size a m p in omega arith)
+    divided_small (neg_ℤ (a *ℤ pos one)) (suc n) (one * m) (omega arith)
+    (let e = negative_size (a *ℤ pos one) in let s = scaled_size a m p in omega arith)
 
 pub operated_within : (operator : Operator) (a b : ℤ) (m n : ℕ) → unsigned_abs a ≤ m → unsigned_abs b ≤ n
     → AtMost (operated operator a b) (joined_size operator m n)
@@ -104,7 +109,8 @@ other_small : (b : Bool) (n m : ℕ) → n ≤ m → (if b then whole_below n el
 other_small true n m p = let s = whole_below_small n in omega arith
 other_small false n m p = let s = whole_above_small n in omega arith
 
-fraction_above : (b : Bool) (n : ℕ) → b ≡ false → unsigned_abs (pos n -ℤ (if b then neg_ℤ (pos (whole_below n)) else pos (whole_below n))) ≤ one
+fraction_above : (b : Bool) (n : ℕ) → b ≡ false
+    → unsigned_abs (pos n -ℤ (if b then neg_ℤ (pos (whole_below n)) else pos (whole_below n))) ≤ one
 fraction_above true n e = absurd (cc)
 fraction_above false n e = omega (arith, ints)
 
@@ -123,12 +129,14 @@ fraction_size : (z : ℤ) → unsigned_abs (applied Frac z) ≤ one
 fraction_size (pos n) = fraction_above (is_negative (pos n)) n (not_negative n)
 fraction_size (negsuc n) = fraction_below (is_negative (negsuc n)) n (is_below n)
 
-pub applied_within : (function : Function) (z : ℤ) (n : ℕ) → unsigned_abs z ≤ n → unsigned_abs (applied function z) ≤ applied_size function n
+pub applied_within : (function : Function) (z : ℤ) (n : ℕ) → unsigned_abs z ≤ n
+    → unsigned_abs (applied function z) ≤ applied_size function n
 applied_within Negative z n p = let e = negative_size z in omega arith
 applied_within Abs z n p = p
 applied_within Sign z n p = sign_size z
 applied_within Trunc z n p =
-    let e = with_sign_size (is_negative z) (whole_below (unsigned_abs z)) in let s = whole_below_small (unsigned_abs z) in omega arith
+    let e = with_sign_size (is_negative z) (whole_below (unsigned_abs z)) in let s
+    = whole_below_small (unsigned_abs z) in omega arith
 applied_within Floor z n p = rw with_sign_size (either_small (is_negative z) (unsigned_abs z) n p)
 applied_within Ceil z n p = rw with_sign_size (other_small (is_negative z) (unsigned_abs z) n p)
 applied_within Frac z n p = fraction_size z

@@ -13,6 +13,3 @@ pub use conditions::compared;
 pub use plan_terms::{number, term_value, truth};
 pub use relations::{is_inside, lies_in, lies_in_some, of_value, opposite, relates, turned};
 pub use values::TermValue;
-
-#[cfg(test)]
-mod tests;

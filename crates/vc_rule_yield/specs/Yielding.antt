@@ -1,5 +1,6 @@
 -- What an evaluation yields, as it is filled: conclusions with their premises, or the premises of a clash.
-use Rattle.std.specs.Prelude.{ℕ, ◌+◌, ◌-◌, Bool, true, false, ◌&&◌, ◌||◌, nat_le, if◌then◌else◌, List, [], ◌∷◌, ◌++◌, length, take, drop, map, Option, None, Some}
+use Rattle.std.specs.Prelude.{ℕ, ◌+◌, ◌-◌, Bool, true, false, ◌&&◌, ◌||◌, nat_le, if◌then◌else◌, List, [], ◌∷◌, ◌++◌}
+use Rattle.std.specs.Prelude.{length, take, drop, map, Option, None, Some}
 use Rattle.vc_base.specs.Sets.{has}
 use Rattle.vc_plan.specs.declared.atoms.Atom.{Atom}
 use Rattle.vc_plan.specs.declared.atoms.Atom.TheVariants.{Here}
@@ -18,7 +19,8 @@ pub record Rooms : Type 0 where
   pub atoms : ℕ
   pub premises : ℕ
 
--- the conclusions, the premises of a clash where there is one, how many premises these have, and the premises that are cited:
+-- the conclusions, the premises of a clash where there is one, how many premises these have, and the premises that are
+-- cited:
 -- those of what is concluded next
 pub record Yielded : Type 0 where
   pub found : List Conclusion

@@ -8,6 +8,3 @@ pub mod yields;
 pub use atoms::{has_atom, same_atom};
 pub use bounded::Bounded;
 pub use yields::Yield;
-
-#[cfg(test)]
-mod tests;

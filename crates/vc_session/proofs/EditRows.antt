@@ -62,7 +62,8 @@ no_such_set = refl
 another_length : given before (Var 0) (whole 6) ≡ record { values = Some (whole 6) ∷ None ∷ []; sets = before.sets }
 another_length = refl
 
-the_other_length : given before (Var 1) (whole 6) ≡ record { values = Some (whole 5) ∷ Some (whole 6) ∷ []; sets = before.sets }
+the_other_length : given before (Var 1) (whole 6)
+    ≡ record { values = Some (whole 5) ∷ Some (whole 6) ∷ []; sets = before.sets }
 the_other_length = refl
 
 beside : given before (Set 0) (Text 1) ≡ record {
@@ -134,7 +135,8 @@ no_number_is_held : has_chosen before (Set 0) (whole 0) ≡ false
 no_number_is_held = refl
 
 -- while a stage is broken, all may be given that is listed
-all_here_where_broken : (plan : Plan) (session : Opened) (stage : ℕ) (named : Named) → session.stages.broken ≡ Some stage
+all_here_where_broken : (plan : Plan) (session : Opened) (stage : ℕ) (named : Named)
+    → session.stages.broken ≡ Some stage
     → is_away plan session named ≡ false
 all_here_where_broken plan session stage named e = rw e
 

@@ -1,2 +1,3 @@
 pub mod EditRows
+pub mod ExplainLaws
 pub mod UserLaws

@@ -1,5 +1,6 @@
 -- What a user chooses stays of the plan, edit by edit.
-use Rattle.std.proofs.Common.{◌≡◌, ℕ, zero, suc, ◌≤◌, Bool, true, false, ◌||◌, List, [], ◌∷◌, length, map, refl, sym, ap, ◌∙◌, inl, inr, arith}
+use Rattle.std.proofs.Common.{◌≡◌, ℕ, zero, suc, ◌≤◌, Bool, true, false, ◌||◌, List, [], ◌∷◌, length, map, refl, sym}
+use Rattle.std.proofs.Common.{ap, ◌∙◌, inl, inr, arith}
 use Rattle.std.specs.Prelude.{Option, None, Some, nat_eq, slice_get, slice_index_or, slice_set, ◌==◌, if◌then◌else◌}
 use Rattle.std.specs.List.{filter, list_all, list_any}
 use Rattle.std.proofs.lemmas.Bool.{and_from, and_parts, cases_lt, eq-eqb}
@@ -15,7 +16,8 @@ use Rattle.vc_plan.specs.declared.plans.TextSet.{TextSet}
 use Rattle.vc_plan.specs.declared.plans.Var.{Var as Variable}
 use Rattle.vc_plan.specs.Domains.{domain_of_set, numbers_below, texts_in, texts_of}
 use Rattle.vc_plan.specs.Fitting.{may_have_if, may_hold, users_fit}
-use Rattle.vc_plan_users.specs.Choosing.{Chosen, held_texts, let_go, listed_at, marked, none_chosen, not_held, set_at, users_of, with_value}
+use Rattle.vc_plan_users.specs.Choosing.{Chosen, held_texts, let_go, listed_at, marked, none_chosen, not_held, set_at}
+use Rattle.vc_plan_users.specs.Choosing.{users_of, with_value}
 use Rattle.vc_plan_users.specs.declared.users.SetText.{SetText}
 use Rattle.vc_session.specs.Edits.{given, given_alone, may_be_given, taken, taken_value}
 use Rattle.vc_session.specs.Sessions.{AreUsersOf, Opened, is_away, listed, set_fault}
@@ -27,12 +29,14 @@ set_same [] k d = refl
 set_same (x ∷ xs) zero d = refl
 set_same (x ∷ xs) (suc k) d = ap (λ rest. x ∷ rest) (set_same xs k d)
 
-index_map : (sets : List (List SetText)) (k : ℕ) → listed (slice_index_or sets k []) ≡ slice_index_or (map listed sets) k []
+index_map : (sets : List (List SetText)) (k : ℕ)
+    → listed (slice_index_or sets k []) ≡ slice_index_or (map listed sets) k []
 index_map [] k = refl
 index_map (x ∷ sets) zero = refl
 index_map (x ∷ sets) (suc k) = index_map sets k
 
-listed_same : (f : SetText → SetText) → ((t : SetText) → (f t).text ≡ t.text) → (texts : List SetText) → listed (map f texts) ≡ listed texts
+listed_same : (f : SetText → SetText) → ((t : SetText) → (f t).text ≡ t.text) → (texts : List SetText)
+    → listed (map f texts) ≡ listed texts
 listed_same f same [] = refl
 listed_same f same (t ∷ texts) = λ j. same t j ∷ listed_same f same texts j
 
@@ -57,7 +61,8 @@ marked_text text there t = by (t.text == text)
 each_number : (p : ℕ → Bool) (n v : ℕ) → list_all p (numbers_below n) ≡ true → (n ≤ v → p v ≡ true) → p v ≡ true
 each_number p n v all past =
     elim (cases_lt v n) [
-      | inl below ↦ all_at nat_eq number_exact number_itself p (numbers_below n) v all (range_has 0 n v (omega arith) (omega (arith, below)))
+      | inl below ↦ all_at nat_eq number_exact number_itself p (numbers_below n) v all
+          (range_has 0 n v (omega arith) (omega (arith, below)))
       | inr h ↦ past h
     ]
 
@@ -100,9 +105,11 @@ held_listed [] = refl
 held_listed (t ∷ texts) = by t.held (more_listed t.text (listed texts) (held_texts texts) (held_listed texts))
   where
     by : (b : Bool) → list_all (λ x. list_any (λ l. l == x) (t.text ∷ listed texts)) (held_texts texts) ≡ true
-        → list_all (λ x. list_any (λ l. l == x) (t.text ∷ listed texts)) (map (λ s. s.text) (if b then t ∷ filter (λ s. s.held) texts else filter (λ s. s.held) texts)) ≡ true
+        → list_all (λ x. list_any (λ l. l == x) (t.text ∷ listed texts))
+        (map (λ s. s.text) (if b then t ∷ filter (λ s. s.held) texts else filter (λ s. s.held) texts)) ≡ true
     by true more =
-        and_from (list_any (λ l. l == t.text) (t.text ∷ listed texts)) (list_all (λ x. list_any (λ l. l == x) (t.text ∷ listed texts)) (held_texts texts))
+        and_from (list_any (λ l. l == t.text) (t.text ∷ listed texts))
+        (list_all (λ x. list_any (λ l. l == x) (t.text ∷ listed texts)) (held_texts texts))
         (ap (λ b. b || list_any (λ l. l == t.text) (listed texts)) (eq-eqb t.text t.text refl)) more
     by false more = more
 
@@ -116,7 +123,8 @@ list_at plan [] u = refl
 list_at plan (x ∷ xs) zero = unheld (texts_in (domain_of_set plan (Some x)))
 list_at plan (x ∷ xs) (suc u) = list_at plan xs u
 
-held_at : (sets : List (List SetText)) (u : ℕ) → slice_index_or (map held_texts sets) u [] ≡ held_texts (slice_index_or sets u [])
+held_at : (sets : List (List SetText)) (u : ℕ)
+    → slice_index_or (map held_texts sets) u [] ≡ held_texts (slice_index_or sets u [])
 held_at [] u = refl
 held_at (x ∷ sets) zero = refl
 held_at (x ∷ sets) (suc u) = held_at sets u
@@ -130,14 +138,18 @@ sets_fit plan sets same u =
     ∙ ap (λ texts. list_all (λ t. list_any (λ l. l == t) texts) (held_texts (slice_index_or sets u []))) (sym list)
     ∙ held_listed (slice_index_or sets u [])
 
-fit_from : (plan : Plan) (chosen : Chosen) → Values plan chosen.values → map listed chosen.sets ≡ map listed (none_chosen plan).sets
+fit_from : (plan : Plan) (chosen : Chosen) → Values plan chosen.values
+    → map listed chosen.sets ≡ map listed (none_chosen plan).sets
     → users_fit plan (users_of chosen) ≡ true
 fit_from plan chosen values sets =
     let held = map held_texts chosen.sets in
-    and_from (list_all (λ v. may_have_if plan v (slice_index_or chosen.values v None)) (numbers_below (length chosen.values)))
+    and_from (list_all (λ v. may_have_if plan v (slice_index_or chosen.values v None))
+    (numbers_below (length chosen.values)))
     (list_all (λ set. may_hold plan set (slice_index_or held set [])) (numbers_below (length held)))
-    (all_pass (λ v. may_have_if plan v (slice_index_or chosen.values v None)) (numbers_below (length chosen.values)) values)
-    (all_pass (λ set. may_hold plan set (slice_index_or held set [])) (numbers_below (length held)) (sets_fit plan chosen.sets sets))
+    (all_pass (λ v. may_have_if plan v (slice_index_or chosen.values v None)) (numbers_below (length chosen.values))
+    values)
+    (all_pass (λ set. may_hold plan set (slice_index_or held set [])) (numbers_below (length held))
+    (sets_fit plan chosen.sets sets))
 
 values_of : (plan : Plan) (chosen : Chosen) → AreUsersOf plan chosen → Values plan chosen.values
 values_of plan chosen of v =
@@ -147,7 +159,8 @@ values_of plan chosen of v =
     (list_all (λ set. may_hold plan set (slice_index_or held set [])) (numbers_below (length held))) of.fit in
     each_number p (length chosen.values) v parts.0 (λ past. ap (may_have_if plan v) (past_none chosen.values v past))
 
-with_value_of : (plan : Plan) (chosen : Chosen) (v : ℕ) (a : Option Value) → AreUsersOf plan chosen → may_have_if plan v a ≡ true
+with_value_of : (plan : Plan) (chosen : Chosen) (v : ℕ) (a : Option Value) → AreUsersOf plan chosen
+    → may_have_if plan v a ≡ true
     → AreUsersOf plan (with_value chosen v a)
 with_value_of plan chosen v a of may = record {
   values = length-set chosen.values v a ∙ of.values;
@@ -156,34 +169,42 @@ with_value_of plan chosen v a of may = record {
       (put_in (λ u x. may_have_if plan u x ≡ true) chosen.values v a (values_of plan chosen of) may) of.sets;
 }
 
-with_texts_of : (plan : Plan) (chosen : Chosen) (k : ℕ) (f : SetText → SetText) → ((t : SetText) → (f t).text ≡ t.text) → AreUsersOf plan chosen
+with_texts_of : (plan : Plan) (chosen : Chosen) (k : ℕ) (f : SetText → SetText) → ((t : SetText) → (f t).text ≡ t.text)
+    → AreUsersOf plan chosen
     → AreUsersOf plan (record { values = chosen.values; sets = slice_set chosen.sets k (map f (set_at chosen k)) })
 with_texts_of plan chosen k f same of =
     let sets = lists_kept f same chosen.sets k ∙ of.sets in
     record {
       values = of.values;
       sets = sets;
-      fit = fit_from plan (record { values = chosen.values; sets = slice_set chosen.sets k (map f (set_at chosen k)) }) (values_of plan chosen of) sets;
+      fit = fit_from plan (record { values = chosen.values; sets = slice_set chosen.sets k (map f (set_at chosen k)) })
+          (values_of plan chosen of) sets;
     }
 
 -- so what a user chose stays of the plan
-pub given_of : (plan : Plan) (chosen : Chosen) (named : Named) (a : Value) → AreUsersOf plan chosen → may_be_given plan named a ≡ true
+pub given_of : (plan : Plan) (chosen : Chosen) (named : Named) (a : Value) → AreUsersOf plan chosen
+    → may_be_given plan named a ≡ true
     → AreUsersOf plan (given chosen named a)
 given_of plan chosen (Var v) a of may = with_value_of plan chosen v (Some a) of may
 given_of plan chosen (Set set) (Text t) of may = with_texts_of plan chosen set (marked t true) (marked_text t true) of
 given_of plan chosen (Set set) (Num a) of may = of
 
-pub taken_of : (plan : Plan) (chosen : Chosen) (named : Named) → AreUsersOf plan chosen → AreUsersOf plan (taken chosen named)
+pub taken_of : (plan : Plan) (chosen : Chosen) (named : Named) → AreUsersOf plan chosen
+    → AreUsersOf plan (taken chosen named)
 taken_of plan chosen (Var v) of = with_value_of plan chosen v None of refl
 taken_of plan chosen (Set set) of = with_texts_of plan chosen set let_go (λ t. refl) of
 
-pub given_alone_of : (plan : Plan) (chosen : Chosen) (named : Named) (a : Value) → AreUsersOf plan chosen → may_be_given plan named a ≡ true
+pub given_alone_of : (plan : Plan) (chosen : Chosen) (named : Named) (a : Value) → AreUsersOf plan chosen
+    → may_be_given plan named a ≡ true
     → AreUsersOf plan (given_alone chosen named a)
-given_alone_of plan chosen named a of may = given_of plan (taken chosen named) named a (taken_of plan chosen named of) may
+given_alone_of plan chosen named a of may =
+    given_of plan (taken chosen named) named a (taken_of plan chosen named of) may
 
-pub taken_value_of : (plan : Plan) (chosen : Chosen) (named : Named) (a : Value) → AreUsersOf plan chosen → AreUsersOf plan (taken_value chosen named a)
+pub taken_value_of : (plan : Plan) (chosen : Chosen) (named : Named) (a : Value) → AreUsersOf plan chosen
+    → AreUsersOf plan (taken_value chosen named a)
 taken_value_of plan chosen (Var v) a of = with_value_of plan chosen v None of refl
-taken_value_of plan chosen (Set set) (Text t) of = with_texts_of plan chosen set (marked t false) (marked_text t false) of
+taken_value_of plan chosen (Set set) (Text t) of =
+    with_texts_of plan chosen set (marked t false) (marked_text t false) of
 taken_value_of plan chosen (Set set) (Num a) of = of
 
 abbrev no_values : List Variable → List (Option Value)
@@ -202,9 +223,12 @@ none_of plan = record {
 }
 
 -- a value that isn't refused may be given
-pub may_give : (plan : Plan) (session : Opened) (named : Named) (a : Value) → set_fault plan session named a ≡ None → may_be_given plan named a ≡ true
+pub may_give : (plan : Plan) (session : Opened) (named : Named) (a : Value) → set_fault plan session named a ≡ None
+    → may_be_given plan named a ≡ true
 may_give plan session named a e = by (may_be_given plan named a) e
   where
-    by : (b : Bool) → (if b then (if is_away plan session named then Some faults.NotHere else None) else Some faults.NotInList) ≡ None → b ≡ true
+    by : (b : Bool) → (if b
+        then (if is_away plan session named then Some faults.NotHere else None) else Some faults.NotInList) ≡ None
+        → b ≡ true
     by true e = refl
     by false e = absurd (cc e)

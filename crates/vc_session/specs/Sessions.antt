@@ -1,5 +1,6 @@
 -- A session: what the user chose, evaluated.
-use Rattle.std.specs.Prelude.{◌≡◌, ℕ, Bool, true, false, not, ◌&&◌, List, [], length, map, slice_get, Option, None, Some, Result, Ok, Err, is_none, pred, if◌then◌else◌}
+use Rattle.std.specs.Prelude.{◌≡◌, ℕ, Bool, true, false, not, ◌&&◌, List, [], length, map, slice_get, Option, None}
+use Rattle.std.specs.Prelude.{Some, Result, Ok, Err, is_none, pred, if◌then◌else◌}
 use Rattle.vc_value.specs.declared.value.Value.{Value}
 use Rattle.vc_plan.specs.declared.atoms.Outcome.{Outcome}
 use Rattle.vc_plan.specs.declared.atoms.Outcome.TheVariants as outcomes

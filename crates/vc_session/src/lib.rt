@@ -2,10 +2,8 @@
 #![tactic(auto)]
 
 pub mod choosing;
+pub mod explaining;
 pub mod listing;
 pub mod session;
 
 pub use session::{NotSet, Session, SetFault};
-
-#[cfg(test)]
-mod tests;

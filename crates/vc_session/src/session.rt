@@ -6,17 +6,18 @@ ghost use Rattle.vc_plan_users.specs.Choosing.{none_chosen};
 ghost use Rattle.vc_session.specs.Sessions.{IsSessionOf};
 
 use crate::choosing::{give, give_alone, has_choice, has_chosen, take, take_value};
+use crate::explaining::{chain, clash, log};
 use crate::listing::may_be_given;
 use std::alloc::{AllocError, Global};
 use std::marker::{Brand, Model};
 use std::sync::ledger::{Blank, Ledger};
 use vc_net::Net;
-use vc_plan::{Named, Outcome, Plan, Reading, View};
+use vc_plan::{Atom, Clash, Named, Outcome, Plan, Reading, Step, View};
 use vc_plan_users::UserValues;
 use vc_proc::Overlay;
 use vc_session_evaluation::Stages;
 use vc_show::naming::slot_of_named;
-use vc_value::Value;
+use vc_value::{Listed, Value};
 use vc_value_steps::Steps;
 
 /// Why a value can't be given.
@@ -195,6 +196,52 @@ impl Session {
             },
             None => Outcome::Settled,
         }
+    }
+}
+
+impl Session {
+    ghost use Rattle.std.specs.Prelude.{◌≡◌, IfOk};
+    ghost use Rattle.vc_plan.specs.Valid.{IsValid};
+    ghost use Rattle.vc_net_chains.specs.Explaining.{IsClash, IsLog, IsWhy};
+    ghost use Rattle.vc_net.specs.Nets.{outcome_by};
+    ghost use Rattle.vc_plan_users.specs.Choosing.{users_of};
+    ghost use Rattle.vc_session.specs.Explained.{blamed_by};
+    ghost use Rattle.vc_session.specs.Sessions.{IsSessionOf, outcome_of};
+
+    /// A chain of reasons for an atom: its steps lead to the last, which concludes it, and none of them is in vain.
+    /// There is one just where no stage is broken and the atom was inferred in the last.
+    pub fn why(
+        &self,
+        alloc: Global,
+        plan: &Plan,
+        atom: Atom,
+    ) -> Result<Option<Listed<Step>>, AllocError>
+        requires valid { IsValid plan.now }
+        requires of { IsSessionOf plan.now self.now }
+        ensures { IfOk result (λ chain. IsWhy plan.now (users_of self.now.users) atom chain) }
+    {
+        chain(alloc, &self.stages, atom)
+    }
+
+    /// The steps of the last stage, of which nothing more follows, if no stage is broken.
+    pub fn log(&self, alloc: Global, plan: &Plan) -> Result<Option<Listed<Step>>, AllocError>
+        requires valid { IsValid plan.now }
+        requires of { IsSessionOf plan.now self.now }
+        ensures { IfOk result (λ log. IsLog plan.now (users_of self.now.users) log) }
+    {
+        log(alloc, &self.stages)
+    }
+
+    /// What contradicts in the first stage that is broken, if one is: the steps that lead to it, and who is to blame,
+    /// as `outcome` names it.
+    pub fn clash(&self, alloc: Global, plan: &Plan) -> Result<Option<Clash>, AllocError>
+        requires valid { IsValid plan.now }
+        requires of { IsSessionOf plan.now self.now }
+        ensures explains { IfOk result (λ clash. IsClash plan.now (users_of self.now.users) clash) }
+        ensures blames { IfOk result (λ clash. outcome_by (blamed_by clash)
+            ≡ outcome_of self.now.stages self.now.stages.broken) }
+    {
+        clash(alloc, &self.stages)
     }
 }
 

@@ -1,6 +1,8 @@
 -- How an evaluation goes from stage to stage, and ends.
-use Rattle.std.proofs.Common.{◌≡◌, ℕ, zero, suc, ◌+◌, ◌-◌, ◌<◌, ◌≤◌, Bool, true, false, not, ◌&&◌, List, [], ◌∷◌, ◌++◌, length, map, take, replicate, refl, sym, ap, ◌∙◌, subst, arith}
-use Rattle.std.specs.Prelude.{Option, None, Some, max, ◌==◌, if◌then◌else◌, option_map, slice_get, slice_index_or, slice_set, min}
+use Rattle.std.proofs.Common.{◌≡◌, ℕ, zero, suc, ◌+◌, ◌-◌, ◌<◌, ◌≤◌, Bool, true, false, not, ◌&&◌, List, [], ◌∷◌, ◌++◌}
+use Rattle.std.proofs.Common.{length, map, take, replicate, refl, sym, ap, ◌∙◌, subst, arith}
+use Rattle.std.specs.Prelude.{Option, None, Some, max, ◌==◌, if◌then◌else◌, option_map, slice_get, slice_index_or}
+use Rattle.std.specs.Prelude.{slice_set, min}
 use Rattle.std.specs.List.{AllByRecursion}
 use Rattle.std.proofs.lemmas.Bool.{eq-eqb, eqb-true, eqb-false}
 use Rattle.std.proofs.lemmas.List.FromFn.{length-map-range_with_len}
@@ -38,8 +40,10 @@ use Rattle.vc_proc.specs.Stages.{stage_written}
 use Rattle.vc_proc.proofs.LyingLemmas.{nothing_lies}
 use Rattle.vc_proc.proofs.StageLaws.{depths_are_written, none_are_replicas, stages_keep_lengths, sums_are_written}
 use Rattle.vc_session_stages.specs.Stages.{HaveAllSettled, HaveSettled, is_late_seen, seen_at, was_seen}
-use Rattle.vc_session_stages.proofs.StageLaws.{sets_say_the_same, stages_begin, stages_break, stages_go_on, stages_settle, was_is}
-use Rattle.vc_session_evaluation.specs.Evaluating.{AreStagesOf, HasBroken, HasEnded, HasSettled, IsRefuted, said_by}
+use Rattle.vc_session_stages.proofs.StageLaws.{sets_say_the_same, stages_begin, stages_break, stages_go_on}
+use Rattle.vc_session_stages.proofs.StageLaws.{stages_settle, was_is}
+use Rattle.vc_session_evaluation.specs.Evaluating.{AreStagesOf, HasBroken, HasEnded, HasSettled, IsCalm}
+use Rattle.vc_session_evaluation.specs.Evaluating.{IsRefuted, said_by}
 use Rattle.vc_session_evaluation.specs.Going.{FlagsLateOnes, LiesAt, SettlesAt, WritesAfter, flags_before, with_late}
 use Rattle.vc_session_evaluation.specs.declared.stages.Stages.{Stages}
 use Rattle.vc_session_evaluation.proofs.ListLemmas.{all_set, seen_below, seen_there, set_there, take_set, told_below}
@@ -47,7 +51,8 @@ use Rattle.vc_session_evaluation.proofs.ListLemmas.{all_set, seen_below, seen_th
 -- the clash of a net, by whom it blames
 abbrev clash_of_culprit : Netted → Option Culprit → Option Clash
 clash_of_culprit net culprit =
-    clash_from (steps_with net.work.log.steps net.work.breaker.fact net.work.breaker.reasons.items) net.work.breaker.premises.items culprit
+    clash_from (steps_with net.work.log.steps net.work.breaker.fact net.work.breaker.reasons.items)
+    net.work.breaker.premises.items culprit
 
 -- before a stage of this number: those before it have settled, and what is written fits
 pub record IsAt (plan : Plan) (users : Users) (stages : Stages) (k : ℕ) : Type 0 where
@@ -80,7 +85,8 @@ pub lies_at : (plan : Plan) (users : Users) (k : ℕ) (old new : Stages) → IsV
 lies_at plan users k old new valid there s net at =
     let lies : LiesInGrains plan (said_by s.net) =
     subst (LiesInGrains plan) (sym s.settled.2) (settled_lies plan users old.overlay s.settled.0 valid s.settled.1) in
-    let here : Some s.net ≡ Some net = sym (set_there old.nets.items k s.net there) ∙ ap (λ nets. slice_get nets k) (sym s.nets) ∙ at in
+    let here : Some s.net ≡ Some net
+    = sym (set_there old.nets.items k s.net there) ∙ ap (λ nets. slice_get nets k) (sym s.nets) ∙ at in
     let same : s.net ≡ net = cc in
     subst (λ n. LiesInGrains plan (said_by n)) same lies
 
@@ -97,7 +103,8 @@ stages_are plan old new of nets many overlay sources late = record {
 }
 
 -- a net has settled in its place
-pub settled_at : (plan : Plan) (users : Users) (k : ℕ) (old new : Stages) (net : Netted) (whole : Bool) → AreStagesOf plan old
+pub settled_at : (plan : Plan) (users : Users) (k : ℕ) (old new : Stages) (net : Netted) (whole : Bool)
+    → AreStagesOf plan old
     → length users.values ≡ length plan.vars → IsNetOf plan net → new.nets.items ≡ slice_set old.nets.items k net
     → new.sources ≡ sources_of users old.overlay → HasSettled plan new.sources net whole
     → new.overlay ≡ old.overlay → new.late ≡ old.late → new.broken ≡ old.broken → SettlesAt plan users k old new whole
@@ -105,7 +112,8 @@ settled_at plan users k old new net whole of values its nets sources done overla
   of = stages_are plan old new of
       (subst (AllByRecursion (IsNetOf plan)) (sym nets) (all_set (IsNetOf plan) old.nets.items k net of.nets its))
       (ap length nets ∙ length-set old.nets.items k net) (ap length overlay)
-      (subst (AreFor plan) (sym sources) (values, length-map old.overlay (option_map entry_in) ∙ of.overlay)) (ap length late);
+      (subst (AreFor plan) (sym sources) (values, length-map old.overlay (option_map entry_in) ∙ of.overlay))
+      (ap length late);
   net = net;
   nets = nets;
   settled = subst (λ s. HasSettled plan s net whole) sources done;
@@ -115,7 +123,8 @@ settled_at plan users k old new net whole of values its nets sources done overla
 }
 
 -- an evaluation begins with nothing written
-pub begins : (plan : Plan) (users : Users) (old new : Stages) → IsValid plan → users_fit plan users ≡ true → AreStagesOf plan old
+pub begins : (plan : Plan) (users : Users) (old new : Stages) → IsValid plan → users_fit plan users ≡ true
+    → AreStagesOf plan old
     → new.nets.items ≡ old.nets.items → new.sources ≡ old.sources → new.late ≡ old.late
     → new.overlay ≡ replicate (length old.overlay) None → IsAt plan users new 0
 begins plan users old new valid fit of nets sources late cleared =
@@ -123,9 +132,11 @@ begins plan users old new valid fit of nets sources late cleared =
     cleared ∙ ap (λ n. replicate n None) of.overlay ∙ sym (none_are_replicas plan) in
     record {
       of = stages_are plan old new of (subst (AllByRecursion (IsNetOf plan)) (sym nets) of.nets) (ap length nets)
-          (ap length cleared ∙ length-replicate (length old.overlay) None) (subst (AreFor plan) (sym sources) of.sources) (ap length late);
+          (ap length cleared ∙ length-replicate (length old.overlay) None)
+          (subst (AreFor plan) (sym sources) of.sources) (ap length late);
       settled = subst (HaveSettled plan users []) (sym nothing) (stages_begin plan users);
-      fits = ap (λ entries. sources_fit plan (sources_of users entries)) nothing ∙ (stages_fit plan users valid.own_writes fit).first;
+      fits = ap (λ entries. sources_fit plan (sources_of users entries)) nothing
+          ∙ (stages_fit plan users valid.own_writes fit).first;
       lie = subst (EntriesLie plan) (sym nothing) (nothing_lies plan plan);
     }
 
@@ -136,7 +147,8 @@ count plan stages k of h =
     length-map (take k stages.nets.items) said_by ∙ length-take k stages.nets.items ∙ omega (arith, of.many)
 
 -- the stages with the one that settles
-with_next : (plan : Plan) (users : Users) (k : ℕ) (old new : Stages) (net : Netted) (set : List Atom) → k < length old.nets.items
+with_next : (plan : Plan) (users : Users) (k : ℕ) (old new : Stages) (net : Netted) (set : List Atom)
+    → k < length old.nets.items
     → new.nets.items ≡ slice_set old.nets.items k net → said_by net ≡ seen_of set
     → map said_by (take (suc k) new.nets.items) ≡ map said_by (take k old.nets.items) ++ seen_of set ∷ []
 with_next plan users k old new net set there nets said =
@@ -149,8 +161,11 @@ flags : (plan : Plan) (users : Users) (k : ℕ) (old mid new : Stages) (at : IsA
     → suc k ≡ last_stage plan → SettlesAt plan users k old mid true → WritesAfter plan users k mid new
     → FlagsLate plan at.settled.sets (seen_of set) new.late
 flags plan users k old mid new at set last s w i below here =
-    let told : new.late ≡ map (λ j. not (was_seen plan (map said_by mid.nets.items) j)) (numbers_below (length plan.slots)) =
-    w.late ∙ ap (λ b. if b then map (λ j. not (was_seen plan (map said_by mid.nets.items) j)) (numbers_below (length plan.slots)) else mid.late)
+    let told : new.late ≡ map (λ j. not (was_seen plan (map said_by mid.nets.items) j))
+    (numbers_below (length plan.slots)) =
+    w.late ∙ ap (λ b. if b
+    then map (λ j. not (was_seen plan (map said_by mid.nets.items) j)) (numbers_below (length plan.slots))
+    else mid.late)
     (eq_yes (suc k) (last_stage plan) last) in
     let d = depth_of plan i in
     let shallow : d < k = omega (arith, deepest plan.slots i, last) in
@@ -165,12 +180,14 @@ flags plan users k old mid new at set last s w i below here =
     eq_yes a b e = eq-eqb a b e
 
 -- what is written after a stage is what the definition has there
-written : (plan : Plan) (users : Users) (k : ℕ) (old mid new : Stages) (at : IsAt plan users old k) → k < last_stage plan
+written : (plan : Plan) (users : Users) (k : ℕ) (old mid new : Stages) (at : IsAt plan users old k)
+    → k < last_stage plan
     → k < length old.nets.items → (s : SettlesAt plan users k old mid true) → WritesAfter plan users k mid new
     → new.overlay ≡ between plan users (last_stage plan - suc k) at.settled.sets s.settled.0 old.overlay
 written plan users k old mid new at below there s w =
     let set = s.settled.0 in
-    let found : slice_get mid.nets.items k ≡ Some s.net = ap (λ nets. slice_get nets k) s.nets ∙ set_there old.nets.items k s.net there in
+    let found : slice_get mid.nets.items k ≡ Some s.net
+    = ap (λ nets. slice_get nets k) s.nets ∙ set_there old.nets.items k s.net there in
     w.written s.net found
     ∙ ap (λ seen. stage_written plan (holds users) (suc k) new.late seen mid.overlay) s.settled.2
     ∙ ap (stage_written plan (holds users) (suc k) new.late (seen_of set)) s.overlay
@@ -189,7 +206,8 @@ written plan users k old mid new at below there s w =
         let last : suc k ≡ last_stage plan = eqb-true (suc k) (last_stage plan) e in
         let none : last_stage plan - suc k ≡ 0 = omega (arith, last) in
         ap (λ n. stage_written plan (holds users) n new.late (seen_of s.settled.0) old.overlay) last
-        ∙ sums_are_written plan (holds users) new.late sets s.settled.0 old.overlay (flags plan users k old mid new at s.settled.0 last s w)
+        ∙ sums_are_written plan (holds users) new.late sets s.settled.0 old.overlay
+        (flags plan users k old mid new at s.settled.0 last s w)
         ∙ ap (λ n. between plan users n sets s.settled.0 old.overlay) (sym none)
     by false e =
         let other = eqb-false (suc k) (last_stage plan) e in
@@ -200,7 +218,8 @@ written plan users k old mid new at below there s w =
 
 -- a stage that settles, and what is written after it, lead on to the next
 pub goes_on : (plan : Plan) (users : Users) (k : ℕ) (old mid new : Stages) → IsValid plan → users_fit plan users ≡ true
-    → k < last_stage plan → IsAt plan users old k → SettlesAt plan users k old mid true → WritesAfter plan users k mid new
+    → k < last_stage plan → IsAt plan users old k → SettlesAt plan users k old mid true
+    → WritesAfter plan users k mid new
     → IsAt plan users new (k + 1)
 goes_on plan users k old mid new valid fit below at s w =
     let set = s.settled.0 in
@@ -212,11 +231,14 @@ goes_on plan users k old mid new valid fit below at s w =
     let views : map said_by (take (k + 1) new.nets.items) ≡ map said_by (take k old.nets.items) ++ seen_of set ∷ [] =
     ap (λ n. map said_by (take n new.nets.items)) (sym next)
     ∙ with_next plan users k old new s.net set there (w.nets ∙ s.nets) s.settled.2 in
-    let so_far = stages_go_on plan users (map said_by (take k old.nets.items)) old.overlay set later at.settled (omega (arith, long, below)) s.settled.1 in
+    let so_far
+    = stages_go_on plan users (map said_by (take k old.nets.items)) old.overlay set later at.settled
+    (omega (arith, long, below)) s.settled.1 in
     record {
       of = w.of;
       settled = subst (λ entries. HaveSettled plan users (map said_by (take (k + 1) new.nets.items)) entries) (sym is)
-          (subst (λ views. HaveSettled plan users views (between plan users later at.settled.sets set old.overlay)) (sym views) so_far);
+          (subst (λ views. HaveSettled plan users views (between plan users later at.settled.sets set old.overlay))
+          (sym views) so_far);
       fits = ap (λ entries. sources_fit plan (sources_of users entries)) is
           ∙ (stages_fit plan users valid.own_writes fit).next later at.settled.sets set old.overlay at.fits;
       lie = w.lie;
@@ -224,14 +246,16 @@ goes_on plan users k old mid new valid fit below at s w =
 
 -- a stage that is broken ends it
 pub breaks : (plan : Plan) (users : Users) (k : ℕ) (old mid new : Stages) → k ≤ last_stage plan → IsAt plan users old k
-    → SettlesAt plan users k old mid false → new.nets.items ≡ mid.nets.items → new.overlay ≡ mid.overlay → HasBroken plan users new k
+    → SettlesAt plan users k old mid false → new.nets.items ≡ mid.nets.items → new.overlay ≡ mid.overlay
+    → HasBroken plan users new k
 breaks plan users k old mid new below at s nets overlay =
     let long = count plan old k at.of below in
     let there : k < length old.nets.items = omega (arith, at.of.many, below) in
     let same : new.overlay ≡ old.overlay = overlay ∙ s.overlay in
     record {
       breaks =
-          stages_break plan users (map said_by (take k old.nets.items)) old.overlay at.settled (omega (arith, long, below)) s.settled.0
+          stages_break plan users (map said_by (take k old.nets.items)) old.overlay at.settled
+          (omega (arith, long, below)) s.settled.0
           ∙ ap (λ n. broken_at n old.overlay) long ∙ ap (broken_at k) (sym same);
       net = s.net;
       its = ap (λ all. slice_get all k) (nets ∙ s.nets) ∙ set_there old.nets.items k s.net there;
@@ -247,52 +271,70 @@ ends plan users k old mid new last at s flagged =
     let there : k < length old.nets.items = omega (arith, at.of.many, last) in
     let same : new.overlay ≡ old.overlay = flagged.overlay ∙ s.overlay in
     let nets = flagged.nets ∙ s.nets in
-    let size : length new.nets.items ≡ suc k = ap length nets ∙ length-set old.nets.items k s.net ∙ omega (arith, at.of.many, last) in
+    let size : length new.nets.items ≡ suc k
+    = ap length nets ∙ length-set old.nets.items k s.net ∙ omega (arith, at.of.many, last) in
     let views : map said_by new.nets.items ≡ map said_by (take k old.nets.items) ++ seen_of set ∷ [] =
     ap (map said_by) (sym (take_all (suc k) new.nets.items (omega (arith, size))))
     ∙ with_next plan users k old new s.net set there nets s.settled.2 in
     record {
       settled = subst (HaveAllSettled plan users (map said_by new.nets.items)) (sym same)
           (subst (λ all. HaveAllSettled plan users all old.overlay) (sym views)
-          (stages_settle plan users (map said_by (take k old.nets.items)) old.overlay set at.settled (long ∙ last) s.settled.1));
-      late = flagged.late ∙ ap (λ all. map (is_late_seen plan (map said_by all)) (numbers_below (length plan.slots))) (sym flagged.nets);
+          (stages_settle plan users (map said_by (take k old.nets.items)) old.overlay set at.settled (long ∙ last)
+          s.settled.1));
+      late = flagged.late ∙ ap (λ all. map (is_late_seen plan (map said_by all)) (numbers_below (length plan.slots)))
+          (sym flagged.nets);
+      net = s.net;
+      its = ap (λ n. slice_get new.nets.items n) (sym last) ∙ ap (λ all. slice_get all k) nets
+          ∙ set_there old.nets.items k s.net there;
+      calm = subst (λ entries. IsCalm plan (sources_of users entries) s.net) (sym same) s.settled.3;
     }
 
 -- flags before the last stage
-pub flagged_before : (plan : Plan) (old : Stages) (stage last : ℕ) (nets : List Netted) (late : List Bool) → stage + 1 ≡ last → last ≡ last_stage plan
-    → nets ≡ old.nets.items → late ≡ map (λ i. not (was_seen plan (map said_by nets) i)) (numbers_below (length plan.slots))
+pub flagged_before : (plan : Plan) (old : Stages) (stage last : ℕ) (nets : List Netted) (late : List Bool)
+    → stage + 1 ≡ last → last ≡ last_stage plan
+    → nets ≡ old.nets.items
+    → late ≡ map (λ i. not (was_seen plan (map said_by nets) i)) (numbers_below (length plan.slots))
     → late ≡ flags_before plan stage old
 flagged_before plan old stage last nets late e f same told =
     let is : suc stage ≡ last_stage plan = omega (arith, e, f) in
     told ∙ ap (λ all. map (λ i. not (was_seen plan (map said_by all) i)) (numbers_below (length plan.slots))) same
-    ∙ ap (λ b. if b then map (λ i. not (was_seen plan (map said_by old.nets.items) i)) (numbers_below (length plan.slots)) else old.late)
+    ∙ ap (λ b. if b then map (λ i. not (was_seen plan (map said_by old.nets.items) i))
+    (numbers_below (length plan.slots)) else old.late)
     (sym (eq-eqb (suc stage) (last_stage plan) is))
 
-flags_long : (plan : Plan) (old : Stages) (k : ℕ) → AreStagesOf plan old → length (flags_before plan k old) ≡ length old.late
+flags_long : (plan : Plan) (old : Stages) (k : ℕ) → AreStagesOf plan old
+    → length (flags_before plan k old) ≡ length old.late
 flags_long plan old k of = by (suc k == last_stage plan)
   where
     flags : List Bool
     flags = map (λ i. not (was_seen plan (map said_by old.nets.items) i)) (numbers_below (length plan.slots))
 
     by : (b : Bool) → length (if b then flags else old.late) ≡ length old.late
-    by true = length-map-range_with_len (λ i. not (was_seen plan (map said_by old.nets.items) i)) 0 (length plan.slots) ∙ sym of.late
+    by true = length-map-range_with_len (λ i. not (was_seen plan (map said_by old.nets.items) i)) 0 (length plan.slots)
+        ∙ sym of.late
     by false = refl
 
 -- what is written after a stage, where flags come first
-pub wrote : (plan : Plan) (users : Users) (k stage : ℕ) (old flagged new : Stages) (net : Netted) (late : List Bool) → AreStagesOf plan old
-    → flagged ≡ with_late old (flags_before plan k old) → stage ≡ k + 1 → slice_get flagged.nets.items k ≡ Some net → late ≡ flagged.late
-    → new.nets.items ≡ flagged.nets.items → new.sources ≡ flagged.sources → new.late ≡ flagged.late → new.broken ≡ flagged.broken
-    → new.overlay ≡ stage_written plan (holds users) stage late (said_by net) flagged.overlay → EntriesLie plan new.overlay
+pub wrote : (plan : Plan) (users : Users) (k stage : ℕ) (old flagged new : Stages) (net : Netted) (late : List Bool)
+    → AreStagesOf plan old
+    → flagged ≡ with_late old (flags_before plan k old) → stage ≡ k + 1 → slice_get flagged.nets.items k ≡ Some net
+    → late ≡ flagged.late
+    → new.nets.items ≡ flagged.nets.items → new.sources ≡ flagged.sources → new.late ≡ flagged.late
+    → new.broken ≡ flagged.broken
+    → new.overlay ≡ stage_written plan (holds users) stage late (said_by net) flagged.overlay
+    → EntriesLie plan new.overlay
     → WritesAfter plan users k old new
 wrote plan users k stage old flagged new net late of is next found flags nets sources kept calm written lie =
     let all = nets ∙ ap (λ s. s.nets.items) is in
     let told : new.late ≡ flags_before plan k old = kept ∙ ap (λ s. s.late) is in
     let entries : flagged.overlay ≡ old.overlay = ap (λ s. s.overlay) is in
     let long : length new.overlay ≡ length old.overlay =
-    ap length written ∙ stages_keep_lengths plan (holds users) stage late (said_by net) flagged.overlay ∙ ap length entries in
+    ap length written ∙ stages_keep_lengths plan (holds users) stage late (said_by net) flagged.overlay
+    ∙ ap length entries in
     record {
       of = stages_are plan old new of (subst (AllByRecursion (IsNetOf plan)) (sym all) of.nets) (ap length all) long
-          (subst (AreFor plan) (sym (sources ∙ ap (λ s. s.sources) is)) of.sources) (ap length told ∙ flags_long plan old k of);
+          (subst (AreFor plan) (sym (sources ∙ ap (λ s. s.sources) is)) of.sources)
+          (ap length told ∙ flags_long plan old k of);
       nets = all;
       late = told;
       written = λ other at.
@@ -308,13 +350,17 @@ wrote plan users k stage old flagged new net late of is next found flags nets so
     }
 
 -- who is late is flagged, and nothing else changes
-pub marked : (plan : Plan) (old new : Stages) → AreStagesOf plan old → new.nets.items ≡ old.nets.items → new.sources ≡ old.sources
+pub marked : (plan : Plan) (old new : Stages) → AreStagesOf plan old → new.nets.items ≡ old.nets.items
+    → new.sources ≡ old.sources
     → new.overlay ≡ old.overlay → new.broken ≡ old.broken
-    → new.late ≡ map (is_late_seen plan (map said_by old.nets.items)) (numbers_below (length plan.slots)) → FlagsLateOnes plan old new
+    → new.late ≡ map (is_late_seen plan (map said_by old.nets.items)) (numbers_below (length plan.slots))
+    → FlagsLateOnes plan old new
 marked plan old new of nets sources overlay calm told = record {
-  of = stages_are plan old new of (subst (AllByRecursion (IsNetOf plan)) (sym nets) of.nets) (ap length nets) (ap length overlay)
+  of = stages_are plan old new of (subst (AllByRecursion (IsNetOf plan)) (sym nets) of.nets) (ap length nets)
+      (ap length overlay)
       (subst (AreFor plan) (sym sources) of.sources)
-      (ap length told ∙ length-map-range_with_len (is_late_seen plan (map said_by old.nets.items)) 0 (length plan.slots) ∙ sym of.late);
+      (ap length told ∙ length-map-range_with_len (is_late_seen plan (map said_by old.nets.items)) 0 (length plan.slots)
+      ∙ sym of.late);
   nets = nets;
   late = told;
   overlay = overlay;
@@ -322,12 +368,15 @@ marked plan old new of nets sources overlay calm told = record {
 }
 
 -- flags of who is late, read off the net of the last stage
-pub late_told : (plan : Plan) (nets : List Netted) (k : ℕ) (net : Netted) (late : List Bool) → k ≡ last_stage plan → slice_get nets k ≡ Some net
-    → late ≡ map (λ i. (said_by net).here i && not (was_seen plan (map said_by nets) i)) (numbers_below (length plan.slots))
+pub late_told : (plan : Plan) (nets : List Netted) (k : ℕ) (net : Netted) (late : List Bool) → k ≡ last_stage plan
+    → slice_get nets k ≡ Some net
+    → late ≡ map (λ i. (said_by net).here i && not (was_seen plan (map said_by nets) i))
+    (numbers_below (length plan.slots))
     → late ≡ map (is_late_seen plan (map said_by nets)) (numbers_below (length plan.slots))
 late_told plan nets k net late last found told =
     told
-    ∙ ap (λ seen. map (λ i. seen.here i && not (was_seen plan (map said_by nets) i)) (numbers_below (length plan.slots)))
+    ∙ ap (λ seen. map (λ i. seen.here i && not (was_seen plan (map said_by nets) i))
+    (numbers_below (length plan.slots)))
     (sym (seen_there said_by nets k net found) ∙ ap (seen_at (map said_by nets)) last)
 
 -- how settling a net ends: at what its log says, or with a clash that refutes
@@ -335,25 +384,34 @@ pub settles : (plan : Plan) (sources : Sources) (net : Netted) → IsValid plan 
     → outcome_by net.work.breaker.culprit ≡ outcomes.Settled → HasSettled plan sources net true
 settles plan sources net valid done calm = by net.work.breaker.culprit refl calm
   where
-    by : (o : Option Culprit) → net.work.breaker.culprit ≡ o → outcome_by o ≡ outcomes.Settled → HasSettled plan sources net true
+    by : (o : Option Culprit) → net.work.breaker.culprit ≡ o → outcome_by o ≡ outcomes.Settled
+        → HasSettled plan sources net true
     by None is e =
         let end : EndsAs plan sources net.work None =
         subst (λ c. EndsAs plan sources net.work (clash_of_culprit net c)) is done.ends in
         let clear = (rounds_suffice plan sources end.0 (some_slot plan valid) end.1).clear in
-        (end.0, end.1, sym (sets_say_the_same plan end.0 (set_of net.work.log) clear end.2))
+        let calm : clash_of net.work ≡ None = ap (clash_of_culprit net) is in (
+          end.0,
+          end.1,
+          sym (sets_say_the_same plan end.0 (set_of net.work.log) clear end.2),
+          record { done = done; calm = calm },
+        )
     by (Some culprit) is e = absurd (cc e)
 
 pub refutes_so : (plan : Plan) (sources : Sources) (net : Netted) (culprit : Culprit) → IsSettled plan sources net.work
     → outcome_by net.work.breaker.culprit ≡ outcomes.Broken culprit → HasSettled plan sources net false
 refutes_so plan sources net culprit done broke = by net.work.breaker.culprit refl broke
   where
-    by : (o : Option Culprit) → net.work.breaker.culprit ≡ o → outcome_by o ≡ outcomes.Broken culprit → HasSettled plan sources net false
+    by : (o : Option Culprit) → net.work.breaker.culprit ≡ o → outcome_by o ≡ outcomes.Broken culprit
+        → HasSettled plan sources net false
     by None is e = absurd (cc e)
     by (Some blamed) is e =
         let kept : clash_of net.work ≡ clash_of_culprit net (Some blamed) = ap (clash_of_culprit net) is in
-        of (clash_of_culprit net (Some blamed)) kept refl (subst (λ c. EndsAs plan sources net.work (clash_of_culprit net c)) is done.ends)
+        of (clash_of_culprit net (Some blamed)) kept refl
+        (subst (λ c. EndsAs plan sources net.work (clash_of_culprit net c)) is done.ends)
       where
-        of : (o : Option Clash) → clash_of net.work ≡ o → clash_of_culprit net (Some blamed) ≡ o → EndsAs plan sources net.work o
+        of : (o : Option Clash) → clash_of net.work ≡ o → clash_of_culprit net (Some blamed) ≡ o
+            → EndsAs plan sources net.work o
             → HasSettled plan sources net false
         of None kept same end = absurd (cc same)
-        of (Some clash) kept same end = (end.0, record { clash = clash; kept = kept; refuting = end.1 })
+        of (Some clash) kept same end = (end.0, record { done = done; clash = clash; kept = kept; refuting = end.1 })

@@ -1,5 +1,6 @@
 -- Lists of which one element is put in the place of another.
-use Rattle.std.proofs.Common.{◌≡◌, ℕ, zero, suc, ◌+◌, ◌<◌, ◌≤◌, List, [], ◌∷◌, ◌++◌, length, map, take, drop, refl, sym, ap, ◌∙◌, arith}
+use Rattle.std.proofs.Common.{◌≡◌, ℕ, zero, suc, ◌+◌, ◌<◌, ◌≤◌, List, [], ◌∷◌, ◌++◌, length, map, take, drop, refl, sym}
+use Rattle.std.proofs.Common.{ap, ◌∙◌, arith}
 use Rattle.std.specs.Prelude.{Some, None, Option, slice_get, slice_index_or, slice_set}
 use Rattle.std.specs.List.{AllByRecursion, range_with_len}
 use Rattle.vc_plan.specs.Domains.{numbers_below}
@@ -7,7 +8,8 @@ use Rattle.vc_plan.specs.Seen.{Seen, seen_of}
 use Rattle.vc_session_stages.specs.Stages.{seen_at}
 
 -- up to the place the list is as before
-pub take_set : {A : Type 0} (xs : List A) (k : ℕ) (x : A) → k < length xs → take (suc k) (slice_set xs k x) ≡ take k xs ++ x ∷ []
+pub take_set : {A : Type 0} (xs : List A) (k : ℕ) (x : A) → k < length xs
+    → take (suc k) (slice_set xs k x) ≡ take k xs ++ x ∷ []
 take_set [] k x h = absurd (omega arith)
 take_set (y ∷ xs) zero x h = refl
 take_set (y ∷ xs) (suc k) x h = ap (λ rest. y ∷ rest) (take_set xs k x (omega arith))
@@ -18,7 +20,8 @@ set_there [] k x h = absurd (omega arith)
 set_there (y ∷ xs) zero x h = refl
 set_there (y ∷ xs) (suc k) x h = set_there xs k x (omega arith)
 
-pub all_set : {A : Type 0} (P : A → Type 0) (xs : List A) (k : ℕ) (x : A) → AllByRecursion P xs → P x → AllByRecursion P (slice_set xs k x)
+pub all_set : {A : Type 0} (P : A → Type 0) (xs : List A) (k : ℕ) (x : A) → AllByRecursion P xs → P x
+    → AllByRecursion P (slice_set xs k x)
 all_set P [] k x all one = tt
 all_set P (y ∷ xs) zero x all one = (one, all.1)
 all_set P (y ∷ xs) (suc k) x all one = (all.0, all_set P xs k x all.1 one)
@@ -37,7 +40,8 @@ seen_below f (y ∷ xs) (suc k) x zero h = refl
 seen_below f (y ∷ xs) (suc k) x (suc d) h = seen_below f xs k x d (omega arith)
 
 -- what is seen at a place
-pub seen_there : {A : Type 0} (f : A → Seen) (xs : List A) (k : ℕ) (x : A) → slice_get xs k ≡ Some x → seen_at (map f xs) k ≡ f x
+pub seen_there : {A : Type 0} (f : A → Seen) (xs : List A) (k : ℕ) (x : A) → slice_get xs k ≡ Some x
+    → seen_at (map f xs) k ≡ f x
 seen_there f [] k x e = absurd (cc e)
 seen_there f (y ∷ xs) zero x e = let same : y ≡ x = cc in ap f same
 seen_there f (y ∷ xs) (suc k) x e = seen_there f xs k x e
@@ -48,7 +52,8 @@ seen_past f (y ∷ xs) zero h = absurd (omega arith)
 seen_past f (y ∷ xs) (suc k) h = seen_past f xs k (omega arith)
 
 -- what is told for each number of a range, at one
-pub told_at : {A : Type 0} (f : ℕ → A) (a n i : ℕ) (d : A) → i < n → slice_index_or (map f (range_with_len a n)) i d ≡ f (a + i)
+pub told_at : {A : Type 0} (f : ℕ → A) (a n i : ℕ) (d : A) → i < n
+    → slice_index_or (map f (range_with_len a n)) i d ≡ f (a + i)
 told_at f a zero i d h = absurd (omega arith)
 told_at f a (suc n) zero d h = let same : a ≡ a + 0 = omega arith in ap f same
 told_at f a (suc n) (suc i) d h =

@@ -14,7 +14,7 @@ use Rattle.vc_plan.specs.Sources.{Sources}
 use Rattle.vc_plan.specs.Writes.{last_stage}
 use Rattle.vc_plan_reasons.specs.Refuting.{refutes}
 use Rattle.vc_net_log.specs.Logs.{seen_by}
-use Rattle.vc_net.specs.Ending.{clash_of}
+use Rattle.vc_net.specs.Ending.{IsSettled, clash_of}
 use Rattle.vc_net.specs.Nets.{AreFor, IsNetOf, Netted}
 use Rattle.vc_session_stages.specs.Stages.{HaveAllSettled, is_late_seen}
 use Rattle.vc_session_evaluation.specs.declared.stages.Stages.{Stages}
@@ -23,15 +23,22 @@ use Rattle.vc_session_evaluation.specs.declared.stages.Stages.{Stages}
 abbrev pub said_by : Netted → Seen
 said_by net = seen_by net.work.log
 
--- something contradicts in a net: its clash refutes the sources
+-- something contradicts in a net, which came to an end: its clash refutes the sources
 pub record IsRefuted (plan : Plan) (sources : Sources) (net : Netted) : Type 0 where
+  pub done : IsSettled plan sources net.work
   pub clash : Clash
   pub kept : clash_of net.work ≡ Some clash
   pub refuting : refutes plan sources clash ≡ true
 
+-- nothing contradicts in a net, which came to an end
+pub record IsCalm (plan : Plan) (sources : Sources) (net : Netted) : Type 0 where
+  pub done : IsSettled plan sources net.work
+  pub calm : clash_of net.work ≡ None
+
 -- a net has settled with sources at just what its log says, or broken
 abbrev pub HasSettled : Plan → Sources → Netted → Bool → Type 0
-HasSettled plan sources net true = (set : List Atom) × (settlement_of plan sources ≡ settled set) × (said_by net ≡ seen_of set)
+HasSettled plan sources net true = (set : List Atom) × (settlement_of plan sources ≡ settled set)
+    × (said_by net ≡ seen_of set) × IsCalm plan sources net
 HasSettled plan sources net false = (settlement_of plan sources ≡ broken) × IsRefuted plan sources net
 
 -- a net for each stage of the plan, and room for what is written and for who is late
@@ -42,11 +49,14 @@ pub record AreStagesOf (plan : Plan) (stages : Stages) : Type 0 where
   pub sources : AreFor plan stages.sources
   pub late : length stages.late ≡ length plan.slots
 
--- how an evaluation of the user's values ended: all stages settled at what the nets say, and who is late is flagged; or
--- one is broken, and what contradicts in its net refutes its sources
+-- how an evaluation of the user's values ended: all stages settled at what the nets say, the last with all that was
+-- written, and who is late is flagged; or one is broken, and what contradicts in its net refutes its sources
 pub record HasEnded (plan : Plan) (users : Users) (stages : Stages) : Type 0 where
   pub settled : HaveAllSettled plan users (map said_by stages.nets.items) stages.overlay
   pub late : stages.late ≡ map (is_late_seen plan (map said_by stages.nets.items)) (numbers_below (length plan.slots))
+  pub net : Netted
+  pub its : slice_get stages.nets.items (last_stage plan) ≡ Some net
+  pub calm : IsCalm plan (sources_of users stages.overlay) net
 
 pub record HasBroken (plan : Plan) (users : Users) (stages : Stages) (k : ℕ) : Type 0 where
   pub breaks : evaluation_of plan users ≡ broken_at k stages.overlay

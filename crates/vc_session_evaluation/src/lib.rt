@@ -7,6 +7,3 @@ pub mod settling;
 pub mod stages;
 
 pub use stages::Stages;
-
-#[cfg(test)]
-mod tests;

@@ -1,7 +1,7 @@
 //! Laws of the stages of an evaluation, each the contract of a function that does nothing.
 
-ghost use Rattle.vc_session_stages.specs.Stages.{LateIsSeen, StagesBegin, StagesBreak, StagesGoOn, StagesSettle};
-ghost use Rattle.vc_session_stages.specs.Stages.{SetsSayTheSame, WasHereIsSeen};
+ghost use Rattle.vc_session_stages.specs.Stages.{LastSetSettles, LateIsSeen, SetsSayTheSame, StagesBegin, StagesBreak};
+ghost use Rattle.vc_session_stages.specs.Stages.{StagesGoOn, StagesSettle, WasHereIsSeen};
 
 /// An evaluation begins with no stage and nothing written; each stage that settles leads on to the next.
 pub fn stages_go_on()
@@ -13,6 +13,11 @@ pub fn stages_go_on()
 pub fn stages_end()
     ensures breaks { StagesBreak }
     ensures settles { StagesSettle }
+{}
+
+/// Its last set is where the last stage settled.
+pub fn last_sets_settle()
+    ensures { LastSetSettles }
 {}
 
 /// Which instances were here when their procedures ran, and which are late, is told by what the stages' sets say.

@@ -1,6 +1,7 @@
 -- What is asked for is what is marked, or what a selection condition demands: whether something is open is found by one
 -- pass over the variables, one over the sets and one over the selection conditions.
-use Rattle.std.proofs.Common.{◌≡◌, ◌<◌, ℕ, Bool, true, false, not, ◌&&◌, ◌||◌, List, [], ◌∷◌, length, refl, sym, ◌∙◌, ap, subst, inl, inr}
+use Rattle.std.proofs.Common.{◌≡◌, ◌<◌, ℕ, Bool, true, false, not, ◌&&◌, ◌||◌, List, [], ◌∷◌, length, refl, sym, ◌∙◌}
+use Rattle.std.proofs.Common.{ap, subst, inl, inr}
 use Rattle.std.specs.Prelude.{Option, None, Some, slice_get}
 use Rattle.std.specs.List.{list_any}
 use Rattle.std.proofs.lemmas.Bool.{and_from, and_parts, or_cases, or_left, or_right}
@@ -16,7 +17,8 @@ use Rattle.vc_plan.specs.declared.plans.Var.{Var as Variable}
 use Rattle.vc_plan.specs.Domains.{numbers_below}
 use Rattle.vc_plan.specs.Readings.{Reading}
 use Rattle.vc_plan.specs.Seen.{Seen, is_slot_here, slot_in}
-use Rattle.vc_plan.specs.Showing.{characteristic_of, has_open, has_value, is_hidden, is_marked, is_named_here, is_open, same_named, slot_of_set}
+use Rattle.vc_plan.specs.Showing.{characteristic_of, has_open, has_value, is_hidden, is_marked, is_named_here, is_open}
+use Rattle.vc_plan.specs.Showing.{same_named, slot_of_set}
 use Rattle.vc_show.specs.Asking.{is_bare, is_demanding, lacks_demanded, lacks_marked, lacks_some}
 use Rattle.vc_show.proofs.HidingLemmas.{same_is, same_itself}
 use Rattle.vc_show.proofs.RangeLemmas.{some_below}
@@ -64,7 +66,8 @@ collected false false c d = refl
 
 module _ (plan : Plan) (seen : Seen) (reading : Reading) where
   abbrev demanded : Named → Bool
-  demanded named = list_any (λ (r : Requirement). same_named r.at named && is_demanding plan reading r) plan.requirements
+  demanded named = list_any (λ (r : Requirement). same_named r.at named && is_demanding plan reading r)
+      plan.requirements
 
   -- its instance is here, and it is demanded, not hidden and without value
   abbrev owed : Named → Bool
@@ -87,15 +90,18 @@ module _ (plan : Plan) (seen : Seen) (reading : Reading) where
   -- what is owed is demanded by some selection condition
   owed_demanded : (named : Named) → owed named ≡ true → some_demanded ≡ true
   owed_demanded named e =
-      let outer = and_parts (is_bare plan seen reading named) (demanded named && not (is_hidden plan reading named)) e in
+      let outer
+      = and_parts (is_bare plan seen reading named) (demanded named && not (is_hidden plan reading named)) e in
       let inner = and_parts (demanded named) (not (is_hidden plan reading named)) outer.1 in
-      let found : (r : Requirement) × IsIn r plan.requirements × ((same_named r.at named && is_demanding plan reading r) ≡ true) =
+      let found : (r : Requirement) × IsIn r plan.requirements
+      × ((same_named r.at named && is_demanding plan reading r) ≡ true) =
       any_at (λ (r : Requirement). same_named r.at named && is_demanding plan reading r) plan.requirements inner.0 in
       let r = found.0 in
       let both = and_parts (same_named r.at named) (is_demanding plan reading r) found.2 in
       let is : named ≡ r.at = sym (same_is r.at named both.0) in
       let bare : is_bare plan seen reading r.at ≡ true = subst (λ n. is_bare plan seen reading n ≡ true) is outer.0 in
-      let shown : not (is_hidden plan reading r.at) ≡ true = subst (λ n. not (is_hidden plan reading n) ≡ true) is inner.1 in
+      let shown : not (is_hidden plan reading r.at) ≡ true
+      = subst (λ n. not (is_hidden plan reading n) ≡ true) is inner.1 in
       at_any (lacks_demanded plan seen reading) r plan.requirements found.1
       (and_from (is_bare plan seen reading r.at) (is_demanding plan reading r && not (is_hidden plan reading r.at)) bare
       (and_from (is_demanding plan reading r) (not (is_hidden plan reading r.at)) both.1 shown))
@@ -106,7 +112,8 @@ module _ (plan : Plan) (seen : Seen) (reading : Reading) where
       let here = (and_parts (is_named_here plan seen (Var v)) (not (has_value reading (Var v))) e).0 in
       by (slice_get plan.vars v) refl here
     where
-      by : (o : Option Variable) → slice_get plan.vars v ≡ o → is_slot_here seen (slot_in o) ≡ true → v < length plan.vars
+      by : (o : Option Variable) → slice_get plan.vars v ≡ o → is_slot_here seen (slot_in o) ≡ true
+          → v < length plan.vars
       by None is here = absurd (cc)
       by (Some x) is here = slice_get_within plan.vars v x is
 
@@ -115,11 +122,13 @@ module _ (plan : Plan) (seen : Seen) (reading : Reading) where
       let here = (and_parts (is_named_here plan seen (Set s)) (not (has_value reading (Set s))) e).0 in
       by (slice_get plan.sets s) refl here
     where
-      by : (o : Option TextSet) → slice_get plan.sets s ≡ o → is_slot_here seen (slot_of_set o) ≡ true → s < length plan.sets
+      by : (o : Option TextSet) → slice_get plan.sets s ≡ o → is_slot_here seen (slot_of_set o) ≡ true
+          → s < length plan.sets
       by None is here = absurd (cc)
       by (Some x) is here = slice_get_within plan.sets s x is
 
-  owed_named : (named : Named) → is_bare plan seen reading named ≡ true → owed named ≡ true → (var_owed || set_owed) ≡ true
+  owed_named : (named : Named) → is_bare plan seen reading named ≡ true → owed named ≡ true
+      → (var_owed || set_owed) ≡ true
   owed_named (Var v) bare e =
       or_left var_owed set_owed (some_below (λ w. owed (Var w)) (length plan.vars) v (var_inside v bare) e)
   owed_named (Set s) bare e =
@@ -130,7 +139,9 @@ module _ (plan : Plan) (seen : Seen) (reading : Reading) where
       let found : (r : Requirement) × IsIn r plan.requirements × (lacks_demanded plan seen reading r ≡ true) =
       any_at (lacks_demanded plan seen reading) plan.requirements e in
       let r = found.0 in
-      let outer = and_parts (is_bare plan seen reading r.at) (is_demanding plan reading r && not (is_hidden plan reading r.at)) found.2 in
+      let outer
+      = and_parts (is_bare plan seen reading r.at)
+      (is_demanding plan reading r && not (is_hidden plan reading r.at)) found.2 in
       let inner = and_parts (is_demanding plan reading r) (not (is_hidden plan reading r.at)) outer.1 in
       let asked : demanded r.at ≡ true =
       at_any (λ (s : Requirement). same_named s.at r.at && is_demanding plan reading s) r plan.requirements found.1
@@ -139,26 +150,33 @@ module _ (plan : Plan) (seen : Seen) (reading : Reading) where
       (and_from (is_bare plan seen reading r.at) (demanded r.at && not (is_hidden plan reading r.at)) outer.0
       (and_from (demanded r.at) (not (is_hidden plan reading r.at)) asked inner.1))
 
-  some_owed : (b c : Bool) → (b || c) ≡ true → (b ≡ true → some_demanded ≡ true) → (c ≡ true → some_demanded ≡ true) → some_demanded ≡ true
+  some_owed : (b c : Bool) → (b || c) ≡ true → (b ≡ true → some_demanded ≡ true) → (c ≡ true → some_demanded ≡ true)
+      → some_demanded ≡ true
   some_owed b c e f g = elim (or_cases b c e) [ inl h ↦ f h | inr h ↦ g h ]
 
   owed_is : (var_owed || set_owed) ≡ some_demanded
   owed_is =
       same_test (var_owed || set_owed) some_demanded
       (λ e. some_owed var_owed set_owed e
-      (λ h. let found = any_at (λ v. owed (Var v)) (numbers_below (length plan.vars)) h in owed_demanded (Var found.0) found.2)
-      (λ h. let found = any_at (λ s. owed (Set s)) (numbers_below (length plan.sets)) h in owed_demanded (Set found.0) found.2))
+      (λ h. let found = any_at (λ v. owed (Var v)) (numbers_below (length plan.vars)) h in
+      owed_demanded (Var found.0) found.2)
+      (λ h. let found = any_at (λ s. owed (Set s)) (numbers_below (length plan.sets)) h in
+      owed_demanded (Set found.0) found.2))
       demanded_owed
 
   pub open_lacks : lacks_some plan seen reading ≡ has_open plan seen reading
   open_lacks =
       let marked_var = list_any (λ v. lacks_marked plan seen reading (Var v)) (numbers_below (length plan.vars)) in
       let marked_set = list_any (λ s. lacks_marked plan seen reading (Set s)) (numbers_below (length plan.sets)) in
-      let vars : list_any (λ v. is_open plan seen reading (Var v)) (numbers_below (length plan.vars)) ≡ (marked_var || var_owed) =
-      either_passes (λ v. is_open plan seen reading (Var v)) (λ v. lacks_marked plan seen reading (Var v)) (λ v. owed (Var v))
+      let vars : list_any (λ v. is_open plan seen reading (Var v)) (numbers_below (length plan.vars))
+      ≡ (marked_var || var_owed) =
+      either_passes (λ v. is_open plan seen reading (Var v)) (λ v. lacks_marked plan seen reading (Var v))
+      (λ v. owed (Var v))
       (λ v. open_parts (Var v)) (numbers_below (length plan.vars)) in
-      let sets : list_any (λ s. is_open plan seen reading (Set s)) (numbers_below (length plan.sets)) ≡ (marked_set || set_owed) =
-      either_passes (λ s. is_open plan seen reading (Set s)) (λ s. lacks_marked plan seen reading (Set s)) (λ s. owed (Set s))
+      let sets : list_any (λ s. is_open plan seen reading (Set s)) (numbers_below (length plan.sets))
+      ≡ (marked_set || set_owed) =
+      either_passes (λ s. is_open plan seen reading (Set s)) (λ s. lacks_marked plan seen reading (Set s))
+      (λ s. owed (Set s))
       (λ s. open_parts (Set s)) (numbers_below (length plan.sets)) in
       sym (ap (λ b. b || list_any (λ s. is_open plan seen reading (Set s)) (numbers_below (length plan.sets))) vars
       ∙ (ap (λ b. (marked_var || var_owed) || b) sets

@@ -1,8 +1,10 @@
 -- A valid plan is what the calls take for granted.
-use Rattle.std.proofs.Common.{◌≡◌, ℕ, zero, suc, ◌+◌, ◌*◌, ◌<◌, ◌≤◌, Bool, true, false, cond, not, ◌&&◌, List, [], ◌∷◌, length, refl, sym, ◌∙◌, ap, subst, inl, inr, arith}
+use Rattle.std.proofs.Common.{◌≡◌, ℕ, zero, suc, ◌+◌, ◌*◌, ◌<◌, ◌≤◌, Bool, true, false, cond, not, ◌&&◌, List, [], ◌∷◌}
+use Rattle.std.proofs.Common.{length, refl, sym, ◌∙◌, ap, subst, inl, inr, arith}
 use Rattle.std.specs.Prelude.{Option, None, Some, nat_le, nat_lt, slice_get, ◌==◌}
 use Rattle.std.specs.List.{filter, list_all, range_with_len, sum_by}
-use Rattle.std.proofs.lemmas.Bool.{and_from, and_parts, or_cases, eqb-true, eqb-false, leb-true, le-leb, lt-ltb, ltb-true}
+use Rattle.std.proofs.lemmas.Bool.{and_from, and_parts, or_cases, eqb-true, eqb-false, leb-true, le-leb, lt-ltb}
+use Rattle.std.proofs.lemmas.Bool.{ltb-true}
 use Rattle.std.proofs.lemmas.List.{length-map}
 use Rattle.std.proofs.lemmas.List.Filters.{length-filter_both}
 use Rattle.vc_base.specs.Numbers.{numbers_below}
@@ -11,7 +13,8 @@ use Rattle.vc_plan.specs.declared.plans.Object.{Object}
 use Rattle.vc_plan.specs.declared.plans.Plan.{Plan}
 use Rattle.vc_plan.specs.declared.plans.Slot.{Slot}
 use Rattle.vc_plan.specs.declared.plans.TextSet.{TextSet}
-use Rattle.vc_plan.specs.Classes.{are_guards_in_order, class_at, class_in, class_place, has_its_sets, has_sets, is_not_behind, sets_at, value_place}
+use Rattle.vc_plan.specs.Classes.{are_guards_in_order, class_at, class_in, class_place, has_its_sets, has_sets}
+use Rattle.vc_plan.specs.Classes.{is_not_behind, sets_at, value_place}
 use Rattle.vc_plan.specs.Domains.{atom_count, count_of}
 use Rattle.vc_plan.specs.Orders.{are_in_order, same_numbers}
 use Rattle.vc_plan.specs.Ranges.{is_of, set_there}
@@ -22,7 +25,8 @@ use Rattle.vc_show.specs.Fitting.{ValidPlansShow}
 use Rattle.vc_show.specs.Places.{are_by_slot, slot_of_guard}
 
 -- an order that follows from another is kept where that is
-pub all_weaker : {X : Type 0} (p q : X → Bool) → ((x : X) → p x ≡ true → q x ≡ true) → (xs : List X) → list_all p xs ≡ true → list_all q xs ≡ true
+pub all_weaker : {X : Type 0} (p q : X → Bool) → ((x : X) → p x ≡ true → q x ≡ true) → (xs : List X)
+    → list_all p xs ≡ true → list_all q xs ≡ true
 all_weaker p q f [] e = refl
 all_weaker p q f (x ∷ xs) e =
     let h : (p x ≡ true) × (list_all p xs ≡ true) = and_parts (p x) (list_all p xs) e in
@@ -32,7 +36,8 @@ pub order_weaker : {X : Type 0} (p q : X → X → Bool) → ((x y : X) → p x 
     → are_in_order p xs ≡ true → are_in_order q xs ≡ true
 order_weaker p q f [] e = refl
 order_weaker p q f (x ∷ xs) e =
-    let h : (list_all (p x) xs ≡ true) × (are_in_order p xs ≡ true) = and_parts (list_all (p x) xs) (are_in_order p xs) e in
+    let h : (list_all (p x) xs ≡ true) × (are_in_order p xs ≡ true)
+    = and_parts (list_all (p x) xs) (are_in_order p xs) e in
     and_from (list_all (q x) xs) (are_in_order q xs) (all_weaker (p x) (q x) (f x) xs h.0) (order_weaker p q f xs h.1)
 
 -- a place that isn't behind another begins with no greater number
@@ -41,7 +46,8 @@ first_rises m n ms ns e =
     elim (or_cases (nat_lt m n) ((m == n) && is_not_behind ms ns) e) [
       | inl low ↦ (let h = ltb-true m n low in le-leb m n (omega (arith, h)))
       | inr same ↦
-          (let parts : ((m == n) ≡ true) × (is_not_behind ms ns ≡ true) = and_parts (m == n) (is_not_behind ms ns) same in
+          (let parts : ((m == n) ≡ true)
+          × (is_not_behind ms ns ≡ true) = and_parts (m == n) (is_not_behind ms ns) same in
           let h = eqb-true m n parts.0 in
           le-leb m n (omega (arith, h)))
     ]
@@ -50,7 +56,8 @@ guards_rise : (plan : Plan) → IsValid plan → are_by_slot plan plan.guards �
 guards_rise plan valid =
     order_weaker (are_guards_in_order plan) (λ a b. nat_le (slot_of_guard plan a) (slot_of_guard plan b))
     (λ a b e.
-    first_rises (slot_of_guard plan a) (slot_of_guard plan b) (later_places a) (later_places b) e) plan.guards valid.guards_in_order
+    first_rises (slot_of_guard plan a) (slot_of_guard plan b) (later_places a) (later_places b) e) plan.guards
+    valid.guards_in_order
   where
     later_places : Guard → List ℕ
     later_places guard = class_place plan guard.at ∷ value_place plan guard.at guard.value ∷ []
@@ -75,7 +82,8 @@ no_longer : {X : Type 0} (p : X → Bool) (xs : List X) → length (filter p xs)
 no_longer p [] = omega arith
 no_longer p (x ∷ xs) = by (p x) (no_longer p xs)
   where
-    by : (b : Bool) → length (filter p xs) ≤ length xs → length (cond b (x ∷ filter p xs) (filter p xs)) ≤ suc (length xs)
+    by : (b : Bool) → length (filter p xs) ≤ length xs
+        → length (cond b (x ∷ filter p xs) (filter p xs)) ≤ suc (length xs)
     by true h = omega (arith, h)
     by false h = omega (arith, h)
 
@@ -108,13 +116,19 @@ module _ {X : Type 0} (slot : X → ℕ) where
     where
       by : (b : Bool) → (slot x == n) ≡ b → slot x < suc n
           → list_all (λ x. nat_lt (slot x) n) (filter (λ x. not (slot x == n)) xs) ≡ true
-          → list_all (λ x. nat_lt (slot x) n) (cond (not (slot x == n)) (x ∷ filter (λ x. not (slot x == n)) xs) (filter (λ x. not (slot x == n)) xs)) ≡ true
-      by true s low h = ap (λ b. list_all (λ x. nat_lt (slot x) n) (cond (not b) (x ∷ filter (λ x. not (slot x == n)) xs) (filter (λ x. not (slot x == n)) xs))) s ∙ h
+          → list_all (λ x. nat_lt (slot x) n)
+          (cond (not (slot x == n)) (x ∷ filter (λ x. not (slot x == n)) xs) (filter (λ x. not (slot x == n)) xs))
+          ≡ true
+      by true s low h = ap
+          (λ b. list_all (λ x. nat_lt (slot x) n)
+          (cond (not b) (x ∷ filter (λ x. not (slot x == n)) xs) (filter (λ x. not (slot x == n)) xs))) s ∙ h
       by false s low h =
           let apart = eqb-false (slot x) n s in
           let below : slot x < n = omega (arith, low, apart) in
-          ap (λ b. list_all (λ x. nat_lt (slot x) n) (cond (not b) (x ∷ filter (λ x. not (slot x == n)) xs) (filter (λ x. not (slot x == n)) xs))) s
-          ∙ and_from (nat_lt (slot x) n) (list_all (λ y. nat_lt (slot y) n) (filter (λ y. not (slot y == n)) xs)) (lt-ltb (slot x) n below) h
+          ap (λ b. list_all (λ x. nat_lt (slot x) n)
+          (cond (not b) (x ∷ filter (λ x. not (slot x == n)) xs) (filter (λ x. not (slot x == n)) xs))) s
+          ∙ and_from (nat_lt (slot x) n) (list_all (λ y. nat_lt (slot y) n) (filter (λ y. not (slot y == n)) xs))
+          (lt-ltb (slot x) n below) h
 
   -- so there are no more than the slots have together
   pub few_in_all : (most n : ℕ) (xs : List X) → list_all (λ x. nat_lt (slot x) n) xs ≡ true
@@ -130,18 +144,21 @@ module _ {X : Type 0} (slot : X → ℕ) where
       let parts = length-filter_both (λ (x : X). slot x == n) others (λ x. refl) xs in
       let here = each n (omega arith) in
       let rest = few_in_all most n (filter others xs) (lower_left n xs e)
-      (λ i low. let kept = fewer (λ (x : X). slot x == i) others xs in let all = each i (omega (arith, low)) in omega (arith, kept, all)) in
+      (λ i low. let kept = fewer (λ (x : X). slot x == i) others xs in let all = each i (omega (arith, low)) in
+      omega (arith, kept, all)) in
       omega (arith, parts, here, rest)
 
 -- numbers that all of a range pass
 pub each_below : (p : ℕ → Bool) (a n i : ℕ) → list_all p (range_with_len a n) ≡ true → i < n → p (a + i) ≡ true
 each_below p a zero i e low = absurd (omega (arith, low))
 each_below p a (suc n) zero e low =
-    let h : (p a ≡ true) × (list_all p (range_with_len (a + 1) n) ≡ true) = and_parts (p a) (list_all p (range_with_len (a + 1) n)) e in
+    let h : (p a ≡ true) × (list_all p (range_with_len (a + 1) n) ≡ true)
+    = and_parts (p a) (list_all p (range_with_len (a + 1) n)) e in
     let same : a ≡ a + 0 = omega arith in
     subst (λ m. p m ≡ true) same h.0
 each_below p a (suc n) (suc i) e low =
-    let h : (p a ≡ true) × (list_all p (range_with_len (a + 1) n) ≡ true) = and_parts (p a) (list_all p (range_with_len (a + 1) n)) e in
+    let h : (p a ≡ true) × (list_all p (range_with_len (a + 1) n) ≡ true)
+    = and_parts (p a) (list_all p (range_with_len (a + 1) n)) e in
     let same : (a + 1) + i ≡ a + suc i = omega arith in
     subst (λ m. p m ≡ true) same (each_below p (a + 1) n i h.1 (omega (arith, low)))
 
@@ -152,7 +169,8 @@ same_length (x ∷ xs) [] e = absurd (cc)
 same_length (x ∷ xs) (y ∷ ys) e = ap suc (same_length xs ys (and_parts (x == y) (same_numbers xs ys) e).1)
 
 module _ (plan : Plan) (valid : IsValid plan) where
-  class_small : (o : Option Object) → PassesIf (λ object. nat_le (length object.characteristics) 500) o → length (class_in o) ≤ 500
+  class_small : (o : Option Object) → PassesIf (λ object. nat_le (length object.characteristics) 500) o
+      → length (class_in o) ≤ 500
   class_small None h = omega arith
   class_small (Some object) h = leb-true (length object.characteristics) 500 h
 
@@ -160,13 +178,15 @@ module _ (plan : Plan) (valid : IsValid plan) where
   slot_class_small None = omega arith
   slot_class_small (Some slot) =
       class_small (slice_get plan.objects slot.object)
-      (all_get (λ (object : Object). nat_le (length object.characteristics) 500) plan.objects slot.object valid.class_limit)
+      (all_get (λ (object : Object). nat_le (length object.characteristics) 500) plan.objects slot.object
+      valid.class_limit)
 
   sets_small : (i : ℕ) → i < length plan.slots → length (filter (λ x. x.slot == i) plan.sets) ≤ 500
   sets_small i low =
       let same : 0 + i ≡ i = omega arith in
       let own : has_its_sets plan i ≡ true =
-      subst (λ j. has_its_sets plan j ≡ true) same (each_below (has_its_sets plan) 0 (length plan.slots) i valid.class_sets low) in
+      subst (λ j. has_its_sets plan j ≡ true) same
+      (each_below (has_its_sets plan) 0 (length plan.slots) i valid.class_sets low) in
       let class = class_at plan (slice_get plan.slots i) in
       let long = same_length (sets_at plan i) (filter (has_sets plan) class) own in
       let mapped : length (sets_at plan i) ≡ length (filter (λ (x : TextSet). x.slot == i) plan.sets) =
@@ -178,7 +198,8 @@ module _ (plan : Plan) (valid : IsValid plan) where
   slots_there : list_all (λ x. nat_lt x.slot (length plan.slots)) plan.sets ≡ true
   slots_there =
       all_weaker (set_there plan) (λ x. nat_lt x.slot (length plan.slots))
-      (λ x e. (and_parts (is_of plan.slots x.slot) (is_of plan.characteristics x.characteristic && is_of plan.domains x.domain) e).0)
+      (λ x e. (and_parts (is_of plan.slots x.slot)
+      (is_of plan.characteristics x.characteristic && is_of plan.domains x.domain) e).0)
       plan.sets valid.sets_there
 
   few_sets : length plan.sets ≤ 20_000

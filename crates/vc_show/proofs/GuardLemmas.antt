@@ -1,5 +1,6 @@
 -- Lists that stand by a key: where those of one key begin and end, and what a test of one key finds among them.
-use Rattle.std.proofs.Common.{◌≡◌, ℕ, zero, suc, ◌-◌, ◌<◌, ◌≤◌, Bool, true, false, cond, ◌||◌, List, [], ◌∷◌, length, get_or, take, drop, refl, sym, ◌∙◌, ap, subst, inl, inr, ◌⊎◌, arith}
+use Rattle.std.proofs.Common.{◌≡◌, ℕ, zero, suc, ◌-◌, ◌<◌, ◌≤◌, Bool, true, false, cond, ◌||◌, List, [], ◌∷◌, length}
+use Rattle.std.proofs.Common.{get_or, take, drop, refl, sym, ◌∙◌, ap, subst, inl, inr, ◌⊎◌, arith}
 use Rattle.std.specs.Prelude.{Some, nat_le, nat_lt, slice_get, ◌==◌}
 use Rattle.std.specs.List.{filter, list_all, list_any}
 use Rattle.std.specs.List.Sorted.{IsNonDecreasingBy, IsPartitionPoint}
@@ -19,33 +20,39 @@ module _ {X : Type 0} (key : X → ℕ) where
   keys_rise (x ∷ xs) e (suc i) zero d h low = absurd (omega (arith, h))
   keys_rise (x ∷ xs) e zero (suc j) d h low =
       let first = (and_parts (list_all (λ (y : X). nat_le (key x) (key y)) xs) (stands_by xs) e).0 in
-      leb-true (key x) (key (get_or xs j d)) (all_at (λ (y : X). nat_le (key x) (key y)) xs j d first (omega (arith, low)))
+      leb-true (key x) (key (get_or xs j d))
+      (all_at (λ (y : X). nat_le (key x) (key y)) xs j d first (omega (arith, low)))
   keys_rise (x ∷ xs) e (suc i) (suc j) d h low =
-      keys_rise xs (and_parts (list_all (λ (y : X). nat_le (key x) (key y)) xs) (stands_by xs) e).1 i j d (omega (arith, h)) (omega (arith, low))
+      keys_rise xs (and_parts (list_all (λ (y : X). nat_le (key x) (key y)) xs) (stands_by xs) e).1 i j d
+      (omega (arith, h)) (omega (arith, low))
 
   -- what stands before the first that isn't below the key, and from there on
   module _ (xs : List X) (i n : ℕ)
       (point : IsPartitionPoint (λ (x : X). nat_lt (key x) i ≡ true) (λ (x : X). nat_lt (key x) i ≡ false) xs n) where
     pub below_before : (k : ℕ) (x : X) → slice_get xs k ≡ Some x → k < n → key x < i
     below_before k x h low =
-        ltb-true (key x) i (subst (λ (y : X). nat_lt (key y) i ≡ true) (get_or_from_slice_get xs k x x h) (point.0 k x (omega arith) low))
+        ltb-true (key x) i (subst (λ (y : X). nat_lt (key y) i ≡ true) (get_or_from_slice_get xs k x x h)
+        (point.0 k x (omega arith) low))
 
     pub least_after : (k : ℕ) (x : X) → slice_get xs k ≡ Some x → n ≤ k → i ≤ key x
     least_after k x h past =
         let inside = slice_get_within xs k x h in
-        ltb-false (key x) i (subst (λ (y : X). nat_lt (key y) i ≡ false) (get_or_from_slice_get xs k x x h) (point.1 k x past inside))
+        ltb-false (key x) i (subst (λ (y : X). nat_lt (key y) i ≡ false) (get_or_from_slice_get xs k x x h)
+        (point.1 k x past inside))
 
   -- and the same of the first that is above it
   module _ (xs : List X) (i n : ℕ)
       (point : IsPartitionPoint (λ (x : X). nat_le (key x) i ≡ true) (λ (x : X). nat_le (key x) i ≡ false) xs n) where
     pub most_before : (k : ℕ) (x : X) → slice_get xs k ≡ Some x → k < n → key x ≤ i
     most_before k x h low =
-        leb-true (key x) i (subst (λ (y : X). nat_le (key y) i ≡ true) (get_or_from_slice_get xs k x x h) (point.0 k x (omega arith) low))
+        leb-true (key x) i (subst (λ (y : X). nat_le (key y) i ≡ true) (get_or_from_slice_get xs k x x h)
+        (point.0 k x (omega arith) low))
 
     pub above_after : (k : ℕ) (x : X) → slice_get xs k ≡ Some x → n ≤ k → i < key x
     above_after k x h past =
         let inside = slice_get_within xs k x h in
-        leb-false (key x) i (subst (λ (y : X). nat_le (key y) i ≡ false) (get_or_from_slice_get xs k x x h) (point.1 k x past inside))
+        leb-false (key x) i (subst (λ (y : X). nat_le (key y) i ≡ false) (get_or_from_slice_get xs k x x h)
+        (point.1 k x past inside))
 
   differs : (m i : ℕ) → (m ≡ i → ⊥) → (m == i) ≡ false
   differs m i apart =
@@ -68,12 +75,14 @@ module _ {X : Type 0} (key : X → ℕ) where
       → ((k : ℕ) (x : X) → slice_get xs k ≡ Some x → k < e → key x ≤ i)
       → ((k : ℕ) (x : X) → slice_get xs k ≡ Some x → e ≤ k → i < key x)
       → filter (λ x. key x == i) xs ≡ take (e - s) (drop s xs)
-  stretch_of_key i [] s e order end a b c d = let none : e - s ≡ 0 = omega (arith, end) in ap (λ n. take n (drop s [])) (sym none)
+  stretch_of_key i [] s e order end a b c d = let none : e - s
+      ≡ 0 = omega (arith, end) in ap (λ n. take n (drop s [])) (sym none)
   stretch_of_key i (x ∷ xs) zero zero order end a b c d =
       let out : i < key x = d 0 x refl (omega arith) in
       failed (λ y. key y == i) x xs (differs (key x) i (λ same. omega (arith, same, out)))
       ∙ (stretch_of_key i xs 0 0 (omega arith) (omega arith) (λ k y h low. absurd (omega (arith, low)))
-      (λ k y h least. b (suc k) y h (omega arith)) (λ k y h low. absurd (omega (arith, low))) (λ k y h past. d (suc k) y h (omega arith))
+      (λ k y h least. b (suc k) y h (omega arith)) (λ k y h low. absurd (omega (arith, low)))
+      (λ k y h past. d (suc k) y h (omega arith))
       ∙ nothing)
     where
       nothing : take (0 - 0) (drop 0 xs) ≡ take (0 - 0) (drop 0 (x ∷ xs))
@@ -83,8 +92,10 @@ module _ {X : Type 0} (key : X → ℕ) where
       let most : key x ≤ i = c 0 x refl (omega arith) in
       let same : key x ≡ i = omega (arith, least, most) in
       passed (λ y. key y == i) x xs (eq-eqb (key x) i same)
-      ∙ (ap (λ ys. x ∷ ys) (stretch_of_key i xs 0 e (omega arith) (omega (arith, end)) (λ k y h low. absurd (omega (arith, low)))
-      (λ k y h more. b (suc k) y h (omega arith)) (λ k y h low. c (suc k) y h (omega (arith, low))) (λ k y h past. d (suc k) y h (omega (arith, past))))
+      ∙ (ap (λ ys. x ∷ ys)
+      (stretch_of_key i xs 0 e (omega arith) (omega (arith, end)) (λ k y h low. absurd (omega (arith, low)))
+      (λ k y h more. b (suc k) y h (omega arith)) (λ k y h low. c (suc k) y h (omega (arith, low)))
+      (λ k y h past. d (suc k) y h (omega (arith, past))))
       ∙ longer)
     where
       longer : x ∷ take (e - 0) (drop 0 xs) ≡ take (suc e - 0) (drop 0 (x ∷ xs))
@@ -96,7 +107,8 @@ module _ {X : Type 0} (key : X → ℕ) where
   stretch_of_key i (x ∷ xs) (suc s) (suc e) order end a b c d =
       let out : key x < i = a 0 x refl (omega arith) in
       failed (λ y. key y == i) x xs (differs (key x) i (λ same. omega (arith, same, out)))
-      ∙ (stretch_of_key i xs s e (omega (arith, order)) (omega (arith, end)) (λ k y h low. a (suc k) y h (omega (arith, low)))
+      ∙ (stretch_of_key i xs s e (omega (arith, order)) (omega (arith, end))
+      (λ k y h low. a (suc k) y h (omega (arith, low)))
       (λ k y h least. b (suc k) y h (omega (arith, least))) (λ k y h low. c (suc k) y h (omega (arith, low)))
       (λ k y h past. d (suc k) y h (omega (arith, past)))
       ∙ (let as_much : e - s ≡ suc e - suc s = omega arith in ap (λ n. take n (drop s xs)) as_much))
@@ -110,7 +122,8 @@ module _ {X : Type 0} (key : X → ℕ) where
   none_of_key i (x ∷ xs) zero zero order a d =
       let out : i < key x = d 0 x refl (omega arith) in
       failed (λ y. key y == i) x xs (differs (key x) i (λ same. omega (arith, same, out)))
-      ∙ none_of_key i xs 0 0 (omega arith) (λ k y h low. absurd (omega (arith, low))) (λ k y h past. d (suc k) y h (omega arith))
+      ∙ none_of_key i xs 0 0 (omega arith) (λ k y h low. absurd (omega (arith, low)))
+      (λ k y h past. d (suc k) y h (omega arith))
   none_of_key i (x ∷ xs) zero (suc e) order a d = absurd (omega (arith, order))
   none_of_key i (x ∷ xs) (suc s) zero order a d =
       let low : key x < i = a 0 x refl (omega arith) in
@@ -119,7 +132,8 @@ module _ {X : Type 0} (key : X → ℕ) where
   none_of_key i (x ∷ xs) (suc s) (suc e) order a d =
       let out : key x < i = a 0 x refl (omega arith) in
       failed (λ y. key y == i) x xs (differs (key x) i (λ same. omega (arith, same, out)))
-      ∙ none_of_key i xs s e (omega (arith, order)) (λ k y h low. a (suc k) y h (omega (arith, low))) (λ k y h past. d (suc k) y h (omega (arith, past)))
+      ∙ none_of_key i xs s e (omega (arith, order)) (λ k y h low. a (suc k) y h (omega (arith, low)))
+      (λ k y h past. d (suc k) y h (omega (arith, past)))
 
 -- a test that only those of another pass finds the same among them
 pub found_among : {X : Type 0} (p q : X → Bool) → ((x : X) → p x ≡ true → q x ≡ true) → (xs : List X)
@@ -127,7 +141,8 @@ pub found_among : {X : Type 0} (p q : X → Bool) → ((x : X) → p x ≡ true 
 found_among p q only [] = refl
 found_among p q only (x ∷ xs) = by (q x) refl (found_among p q only xs)
   where
-    by : (b : Bool) → q x ≡ b → list_any p (filter q xs) ≡ list_any p xs → list_any p (filter q (x ∷ xs)) ≡ (p x || list_any p xs)
+    by : (b : Bool) → q x ≡ b → list_any p (filter q xs) ≡ list_any p xs
+        → list_any p (filter q (x ∷ xs)) ≡ (p x || list_any p xs)
     by true e later =
         ap (λ c. list_any p (cond c (x ∷ filter q xs) (filter q xs))) e ∙ ap (λ c. p x || c) later
     by false e later =

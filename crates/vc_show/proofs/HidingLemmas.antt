@@ -30,11 +30,13 @@ module _ (plan : Plan) (reading : Reading) (named : Named) where
   at_slot guard e =
       ap (λ n. slot_of plan n == slot_of plan named) (same_is guard.at named e) ∙ number_itself (slot_of plan named)
 
-  pub own_found : list_any (λ guard. same_named guard.at named && is_none guard.value && is_forbidden plan reading guard)
+  pub own_found : list_any
+      (λ guard. same_named guard.at named && is_none guard.value && is_forbidden plan reading guard)
       (filter (λ guard. slot_of_guard plan guard == slot_of plan named) plan.guards)
       ≡ is_hidden plan reading named
   own_found =
-      found_among (λ (guard : Guard). same_named guard.at named && is_none guard.value && is_forbidden plan reading guard)
+      found_among (λ (guard : Guard). same_named guard.at named && is_none guard.value
+      && is_forbidden plan reading guard)
       (λ (guard : Guard). slot_of_guard plan guard == slot_of plan named)
       (λ guard e.
       let outer = and_parts (same_named guard.at named && is_none guard.value) (is_forbidden plan reading guard) e in
@@ -47,10 +49,12 @@ module _ (plan : Plan) (reading : Reading) (named : Named) where
       (filter (λ guard. slot_of_guard plan guard == slot_of plan named) plan.guards)
       ≡ is_value_hidden plan reading named grain
   value_found grain =
-      found_among (λ (guard : Guard). same_named guard.at named && covers grain guard.value && is_forbidden plan reading guard)
+      found_among (λ (guard : Guard). same_named guard.at named && covers grain guard.value
+      && is_forbidden plan reading guard)
       (λ (guard : Guard). slot_of_guard plan guard == slot_of plan named)
       (λ guard e.
-      let outer = and_parts (same_named guard.at named && covers grain guard.value) (is_forbidden plan reading guard) e in
+      let outer
+      = and_parts (same_named guard.at named && covers grain guard.value) (is_forbidden plan reading guard) e in
       let inner = and_parts (same_named guard.at named) (covers grain guard.value) outer.0 in
       at_slot guard inner.0)
       plan.guards

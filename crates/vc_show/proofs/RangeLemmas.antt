@@ -1,5 +1,6 @@
 -- Whether one of the numbers below a limit passes a test, and what the numbers from one on give.
-use Rattle.std.proofs.Common.{◌≡◌, ℕ, suc, ◌+◌, ◌-◌, ◌<◌, ◌≤◌, Bool, true, false, ◌||◌, List, [], ◌++◌, sym, ◌∙◌, ap, append_assoc, inl, inr, arith}
+use Rattle.std.proofs.Common.{◌≡◌, ℕ, suc, ◌+◌, ◌-◌, ◌<◌, ◌≤◌, Bool, true, false, ◌||◌, List, [], ◌++◌, sym, ◌∙◌, ap}
+use Rattle.std.proofs.Common.{append_assoc, inl, inr, arith}
 use Rattle.std.specs.Prelude.{nat_eq}
 use Rattle.std.specs.List.{flat_map, list_any, range_with_len}
 use Rattle.vc_base.specs.Numbers.{numbers_below}
@@ -52,7 +53,8 @@ pub ruleset walking = (walk_next, walk_done)
 
 -- what is put so far, with what the numbers to come give, is all of it: also when the next has been put
 pub walk_on : {Y : Type 0} (g : ℕ → List Y) (n end : ℕ) (out next whole : List Y) → n < end → next ≡ out ++ g n
-    → out ++ flat_map g (range_with_len n (end - n)) ≡ whole → next ++ flat_map g (range_with_len (n + 1) (end - (n + 1))) ≡ whole
+    → out ++ flat_map g (range_with_len n (end - n)) ≡ whole
+    → next ++ flat_map g (range_with_len (n + 1) (end - (n + 1))) ≡ whole
 walk_on g n end out next whole low put so_far =
     let rest = flat_map g (range_with_len (n + 1) (end - (n + 1))) in
     ap (λ xs. xs ++ rest) put

@@ -12,6 +12,3 @@ pub mod statuses;
 pub use asking::required;
 pub use hiding::{hidden, hidden_value};
 pub use statuses::status_of;
-
-#[cfg(test)]
-mod tests;

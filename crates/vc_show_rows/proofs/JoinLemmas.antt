@@ -1,5 +1,6 @@
 -- Pieces of a list of intervals from a number on.
-use Rattle.std.proofs.Common.{◌≡◌, ℕ, zero, suc, ◌+◌, ◌≤◌, List, [], ◌∷◌, ◌++◌, drop, length, map, refl, sym, ◌∙◌, ap, append_assoc, arith}
+use Rattle.std.proofs.Common.{◌≡◌, ℕ, zero, suc, ◌+◌, ◌≤◌, List, [], ◌∷◌, ◌++◌, drop, length, map, refl, sym, ◌∙◌, ap}
+use Rattle.std.proofs.Common.{append_assoc, arith}
 use Rattle.std.specs.Prelude.{Some, slice_get}
 use Rattle.vc_value.specs.declared.grains.Grain.{Grain}
 use Rattle.vc_plan.specs.declared.conditions.Piece.{Piece}
@@ -21,12 +22,15 @@ pub stretch_next : (grains : List Grain) (n : ℕ) (grain : Grain) → slice_get
     → map Stretch (drop n grains) ≡ Stretch grain ∷ map Stretch (drop (n + 1) grains)
 stretch_next grains n grain e = ap (map Stretch) (left_from grains n grain e)
 
-pub stretch_put : (grains : List Grain) (n : ℕ) (grain : Grain) (out next whole : List Piece) → slice_get grains n ≡ Some grain
-    → next ≡ out ++ (Stretch grain ∷ []) → out ++ map Stretch (drop n grains) ≡ whole → next ++ map Stretch (drop (n + 1) grains) ≡ whole
+pub stretch_put : (grains : List Grain) (n : ℕ) (grain : Grain) (out next whole : List Piece)
+    → slice_get grains n ≡ Some grain
+    → next ≡ out ++ (Stretch grain ∷ []) → out ++ map Stretch (drop n grains) ≡ whole
+    → next ++ map Stretch (drop (n + 1) grains) ≡ whole
 stretch_put grains n grain out next whole e put so_far =
     let rest = map Stretch (drop (n + 1) grains) in
     ap (λ xs. xs ++ rest) put
-    ∙ (append_assoc out (Stretch grain ∷ []) rest ∙ (ap (λ xs. out ++ xs) (sym (stretch_next grains n grain e)) ∙ so_far))
+    ∙ (append_assoc out (Stretch grain ∷ []) rest
+    ∙ (ap (λ xs. out ++ xs) (sym (stretch_next grains n grain e)) ∙ so_far))
 
 pub none_left : (grains : List Grain) (n : ℕ) → length grains ≤ n → map Stretch (drop n grains) ≡ []
 none_left [] zero past = refl

@@ -17,18 +17,22 @@ use Rattle.vc_show_rows.specs.Texts.{instance_text, row_text}
 abbrev flow : ℕ → ℕ → Piece
 flow low high = Stretch (record { low = record { millionths = pos low }; high = record { millionths = pos high } })
 
--- STEP's FLOW, whose list is 0 .. 100 and whose grains are 0 .. 4.9, 5, 5.1 .. 9.9, 10 and 10.1 .. 100: the last two are out
+-- STEP's FLOW, whose list is 0 .. 100 and whose grains are 0 .. 4.9, 5, 5.1 .. 9.9, 10 and 10.1 .. 100: the last two
+-- are out
 abbrev whole_list : List Piece
 whole_list = flow 0 100_000_000 ∷ []
 
-three_left : joined 100_000 whole_list (flow 0 4_900_000 ∷ flow 5_000_000 5_000_000 ∷ flow 5_100_000 9_900_000 ∷ []) ≡ flow 0 9_900_000 ∷ []
+three_left : joined 100_000 whole_list (flow 0 4_900_000 ∷ flow 5_000_000 5_000_000 ∷ flow 5_100_000 9_900_000 ∷ [])
+    ≡ flow 0 9_900_000 ∷ []
 three_left = refl
 
 -- without the number between them two don't go on, and of two entries neither does
-with_a_gap : joined 100_000 whole_list (flow 0 4_900_000 ∷ flow 5_100_000 9_900_000 ∷ []) ≡ flow 0 4_900_000 ∷ flow 5_100_000 9_900_000 ∷ []
+with_a_gap : joined 100_000 whole_list (flow 0 4_900_000 ∷ flow 5_100_000 9_900_000 ∷ [])
+    ≡ flow 0 4_900_000 ∷ flow 5_100_000 9_900_000 ∷ []
 with_a_gap = refl
 
-of_two_entries : joined 100_000 (flow 0 4_900_000 ∷ flow 5_000_000 9_000_000 ∷ []) (flow 0 4_900_000 ∷ flow 5_000_000 9_000_000 ∷ [])
+of_two_entries : joined 100_000 (flow 0 4_900_000 ∷ flow 5_000_000 9_000_000 ∷ [])
+    (flow 0 4_900_000 ∷ flow 5_000_000 9_000_000 ∷ [])
     ≡ flow 0 4_900_000 ∷ flow 5_000_000 9_000_000 ∷ []
 of_two_entries = refl
 
@@ -54,11 +58,13 @@ pump = record empty {
 by_the_user : row_text pump (codes "user") (Valued 0 (Text 2)) ≡ codes "SIZE = 'L' user\n"
 by_the_user = refl
 
-a_number : row_text pump (codes "procedure") (Valued 1 (Num (record { millionths = pos 12_500_000 }))) ≡ codes "FLOW = 12.5 procedure\n"
+a_number : row_text pump (codes "procedure") (Valued 1 (Num (record { millionths = pos 12_500_000 })))
+    ≡ codes "FLOW = 12.5 procedure\n"
 unfolding digits
 a_number = refl
 
-asked_for : row_text pump [] (Asked 0 (OneText 0 ∷ OneText 1 ∷ OneText 2 ∷ []) true) ≡ codes "SIZE ? 'S' 'M' 'L' required\n"
+asked_for : row_text pump [] (Asked 0 (OneText 0 ∷ OneText 1 ∷ OneText 2 ∷ []) true)
+    ≡ codes "SIZE ? 'S' 'M' 'L' required\n"
 asked_for = refl
 
 an_interval : row_text pump [] (Asked 1 (flow 0 9_900_000 ∷ []) false) ≡ codes "FLOW ? 0 .. 9.9\n"

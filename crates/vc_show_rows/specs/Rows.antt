@@ -1,5 +1,7 @@
--- What `show` tells of an instance: a row for each characteristic of its class, but for those that are hidden without a value.
-use Rattle.std.specs.Prelude.{ℕ, Bool, false, not, ◌&&◌, ◌==◌, if◌then◌else◌, List, [], ◌∷◌, length, slice_get, option_to_list, Option, None, Some}
+-- What `show` tells of an instance: a row for each characteristic of its class, but for those that are hidden without a
+-- value.
+use Rattle.std.specs.Prelude.{ℕ, Bool, false, not, ◌&&◌, ◌==◌, if◌then◌else◌, List, [], ◌∷◌, length, slice_get}
+use Rattle.std.specs.Prelude.{option_to_list, Option, None, Some}
 use Rattle.std.specs.List.{find, flat_map}
 use Rattle.vc_value.specs.declared.value.Value.{Value}
 use Rattle.vc_value.specs.Grains.{unit_of}
@@ -36,7 +38,8 @@ abbrev pub entries_of : Plan → ℕ → List Piece
 entries_of plan v = grains_in (list_at plan (Var v))
 
 abbrev pub shown_pieces : Plan → Seen → Reading → ℕ → List Piece
-shown_pieces plan seen reading v = joined (unit_of (decimals_of plan v)) (entries_of plan v) (shown_grains plan seen reading v)
+shown_pieces plan seen reading v =
+    joined (unit_of (decimals_of plan v)) (entries_of plan v) (shown_grains plan seen reading v)
 
 -- the row of a variable by its value, and of a set by its texts
 abbrev pub var_row : Plan → Seen → Reading → ℕ → Option Value → List Row
@@ -60,7 +63,8 @@ is_set_of slot characteristic None = false
 is_set_of slot characteristic (Some x) = (x.slot == slot) && (x.characteristic == characteristic)
 
 abbrev pub set_of : Plan → ℕ → ℕ → Option ℕ
-set_of plan slot characteristic = find (λ s. is_set_of slot characteristic (slice_get plan.sets s)) (numbers_below (length plan.sets))
+set_of plan slot characteristic =
+    find (λ s. is_set_of slot characteristic (slice_get plan.sets s)) (numbers_below (length plan.sets))
 
 abbrev pub set_named : Option ℕ → Option Named
 set_named None = None
@@ -71,7 +75,8 @@ named_by None set = set
 named_by (Some v) set = Some (Var v)
 
 abbrev pub named_of : Plan → ℕ → ℕ → Option Named
-named_of plan slot characteristic = named_by (var_of plan slot characteristic) (set_named (set_of plan slot characteristic))
+named_of plan slot characteristic =
+    named_by (var_of plan slot characteristic) (set_named (set_of plan slot characteristic))
 
 abbrev pub row_if : Plan → Seen → Reading → Option Named → List Row
 row_if plan seen reading None = []

@@ -1,5 +1,6 @@
 -- The texts of values and rows.
-use Rattle.std.specs.Prelude.{ℕ, Bool, ◌==◌, if◌then◌else◌, List, [], ◌∷◌, ◌++◌, codes, decimal, slice_get, Option, None, Some}
+use Rattle.std.specs.Prelude.{ℕ, Bool, ◌==◌, if◌then◌else◌, List, [], ◌∷◌, ◌++◌, codes, decimal, slice_get, Option}
+use Rattle.std.specs.Prelude.{None, Some}
 use Rattle.std.specs.List.{flat_map}
 use Rattle.std.specs.Ordering.{int_eq}
 use Rattle.vc_value.specs.declared.value.Value.{Value}
@@ -56,11 +57,14 @@ end_of_row required = if required then codes " required\n" else codes "\n"
 
 -- `C = value WHO`, `C ? values` and `C { values }`; who gave the value is told by its text
 abbrev pub row_text : Plan → List ℕ → Row → List ℕ
-row_text plan who (Valued v a) = name_of plan (Var v) ++ (codes " = " ++ (value_text plan a ++ (codes " " ++ (who ++ codes "\n"))))
+row_text plan who (Valued v a) = name_of plan (Var v)
+    ++ (codes " = " ++ (value_text plan a ++ (codes " " ++ (who ++ codes "\n"))))
 row_text plan who (Asked v pieces required) =
-    name_of plan (Var v) ++ (codes " ?" ++ (flat_map (λ piece. codes " " ++ piece_text plan piece) pieces ++ end_of_row required))
+    name_of plan (Var v)
+    ++ (codes " ?" ++ (flat_map (λ piece. codes " " ++ piece_text plan piece) pieces ++ end_of_row required))
 row_text plan who (Chosen s texts required) =
-    name_of plan (Set s) ++ (codes " {" ++ (flat_map (λ t. codes " " ++ text_of plan t) texts ++ (codes " }" ++ end_of_row required)))
+    name_of plan (Set s)
+    ++ (codes " {" ++ (flat_map (λ t. codes " " ++ text_of plan t) texts ++ (codes " }" ++ end_of_row required)))
 
 -- `instance i MATERIAL`, with ` late` where it is late
 abbrev pub material_in : Option Object → List ℕ
@@ -75,4 +79,5 @@ abbrev pub late_text : Bool → List ℕ
 late_text late = if late then codes " late\n" else codes "\n"
 
 abbrev pub instance_text : Plan → ℕ → Bool → List ℕ
-instance_text plan i late = codes "instance " ++ (decimal i ++ (codes " " ++ (material_of plan (slice_get plan.slots i) ++ late_text late)))
+instance_text plan i late = codes "instance "
+    ++ (decimal i ++ (codes " " ++ (material_of plan (slice_get plan.slots i) ++ late_text late)))

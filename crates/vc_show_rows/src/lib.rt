@@ -9,7 +9,4 @@ pub mod rows;
 pub mod texts;
 
 pub use rows::{Row, rows_of};
-pub use texts::{put_instance, put_row, put_value};
-
-#[cfg(test)]
-mod tests;
+pub use texts::{put_instance, put_name, put_row, put_value};

@@ -10,7 +10,7 @@ ghost use Rattle.vc_show_rows.specs.Texts as told;
 
 use crate::rows::Row;
 use std::alloc::{AllocError, Global};
-use vc_plan::{Piece, Plan};
+use vc_plan::{Named, Piece, Plan};
 use vc_rule_terms::elements::element;
 use vc_value::{Dec, Grain, Value, Word};
 
@@ -105,6 +105,16 @@ fn put_set_name(out: &mut Word, plan: &Plan, set: u32) -> Result<(), AllocError>
     match element(plan.sets.as_slice(), set) {
         Some(x) => put_characteristic(out, plan, x.characteristic),
         None => Ok(()),
+    }
+}
+
+/// Puts the name of a characteristic last, by the variable or the set that it is at a slot.
+pub fn put_name(out: &mut Word, plan: &Plan, named: Named) -> Result<(), AllocError>
+    ensures { OnOk result (out.new ≡ out.old ++ told.name_of plan.now named) }
+{
+    match named {
+        Named::Var(var) => put_var_name(out, plan, var),
+        Named::Set(set) => put_set_name(out, plan, set),
     }
 }
 

@@ -1,5 +1,6 @@
 -- What a text is found to be is what it spells, or its fault.
-use Rattle.std.proofs.Common.{◌≡◌, ℕ, Bool, true, false, cond, List, length, refl, ap, sym, subst, ◌∙◌, Option, Some, None, Result, Ok, Err}
+use Rattle.std.proofs.Common.{◌≡◌, ℕ, Bool, true, false, cond, List, length, refl, ap, sym, subst, ◌∙◌, Option, Some}
+use Rattle.std.proofs.Common.{None, Result, Ok, Err}
 use Rattle.vc_syntax_tokens.specs.declared.token.Token.{Token}
 use Rattle.vc_syntax_tokens.specs.declared.fault.Kind.{Kind}
 use Rattle.vc_syntax_tokens.specs.declared.fault.SyntaxKind.{SyntaxKind}
@@ -24,35 +25,51 @@ pub data Found (kind : Kind) (text : List ℕ) : Result Dependency SyntaxFault �
   fault : {k : SyntaxKind} {place : ℕ} → IsFault kind text k place → Found kind text (Err (Bad k place))
   memory : Found kind text (Err OutOfMemory)
 
-found_spelled : (kind : Kind) (text : List ℕ) (ts : List Token) (o : Option Dependency) → tokens_of text ≡ Ok ts → is_too_long ts ≡ false → is_too_deep ts ≡ false
+found_spelled : (kind : Kind) (text : List ℕ) (ts : List Token) (o : Option Dependency) → tokens_of text ≡ Ok ts
+    → is_too_long ts ≡ false → is_too_deep ts ≡ false
     → dependency kind (length ts) ts ≡ o → Found kind text (spelled o)
 found_spelled kind text ts (Some t) cut short shallow e =
-    tree (record { tokens = ts; cut = cut; short = short; shallow = shallow; spelled = dependency_is kind (length ts) ts t e })
+    tree (record {
+      tokens = ts;
+      cut = cut;
+      short = short;
+      shallow = shallow;
+      spelled =
+          dependency_is kind (length ts) ts t e;
+    })
 found_spelled kind text ts None cut short shallow e =
-    fault (s.no_tree ts cut short shallow (λ t d. let again : dependency kind (length ts) ts ≡ Some t = reads_dependency kind ts t d in cc))
+    fault (s.no_tree ts cut short shallow
+    (λ t d. let again : dependency kind (length ts) ts ≡ Some t = reads_dependency kind ts t d in cc))
 
-found_deep : (kind : Kind) (text : List ℕ) (ts : List Token) (deep : Bool) → tokens_of text ≡ Ok ts → is_too_long ts ≡ false → is_too_deep ts ≡ deep
+found_deep : (kind : Kind) (text : List ℕ) (ts : List Token) (deep : Bool) → tokens_of text ≡ Ok ts
+    → is_too_long ts ≡ false → is_too_deep ts ≡ deep
     → Found kind text (cond deep (Err (Bad faults.TooDeep 0)) (spelled (dependency kind (length ts) ts)))
 found_deep kind text ts true cut short e = fault (s.too_deep ts cut short e)
 found_deep kind text ts false cut short e = found_spelled kind text ts (dependency kind (length ts) ts) cut short e refl
 
-found_long : (kind : Kind) (text : List ℕ) (ts : List Token) (long : Bool) → tokens_of text ≡ Ok ts → is_too_long ts ≡ long
-    → Found kind text (cond long (Err (Bad faults.TooLong 0)) (cond (is_too_deep ts) (Err (Bad faults.TooDeep 0)) (spelled (dependency kind (length ts) ts))))
+found_long : (kind : Kind) (text : List ℕ) (ts : List Token) (long : Bool) → tokens_of text ≡ Ok ts
+    → is_too_long ts ≡ long
+    → Found kind text (cond long (Err (Bad faults.TooLong 0))
+    (cond (is_too_deep ts) (Err (Bad faults.TooDeep 0)) (spelled (dependency kind (length ts) ts))))
 found_long kind text ts true cut e = fault (s.too_long ts cut e)
 found_long kind text ts false cut e = found_deep kind text ts (is_too_deep ts) cut e refl
 
-found_in : (kind : Kind) (text : List ℕ) (o : Result (List Token) SyntaxFault) → tokens_of text ≡ o → Found kind text (judged_if kind o)
+found_in : (kind : Kind) (text : List ℕ) (o : Result (List Token) SyntaxFault) → tokens_of text ≡ o
+    → Found kind text (judged_if kind o)
 found_in kind text (Ok ts) cut = found_long kind text ts (is_too_long ts) cut refl
 found_in kind text (Err (Bad k place)) cut = fault (s.bad_token cut)
 found_in kind text (Err OutOfMemory) cut = memory
 
 -- the first tokens tell what all of them tell
-judged_first : (kind : Kind) (all : Result (List Token) SyntaxFault) → judged_if kind (first_ones all) ≡ judged_if kind all
+judged_first : (kind : Kind) (all : Result (List Token) SyntaxFault)
+    → judged_if kind (first_ones all) ≡ judged_if kind all
 judged_first kind (Err bad) = refl
 judged_first kind (Ok tokens) =
-    decided (λ ts. cond (is_too_deep ts) (Err (Bad faults.TooDeep 0)) (spelled (dependency kind (length ts) ts))) (Err (Bad faults.TooLong 0)) tokens
+    decided (λ ts. cond (is_too_deep ts) (Err (Bad faults.TooDeep 0)) (spelled (dependency kind (length ts) ts)))
+    (Err (Bad faults.TooLong 0)) tokens
 
-pub judged_told : (kind : Kind) (all first : Result (List Token) SyntaxFault) → first_ones all ≡ first → judged_if kind all ≡ judged_if kind first
+pub judged_told : (kind : Kind) (all first : Result (List Token) SyntaxFault) → first_ones all ≡ first
+    → judged_if kind all ≡ judged_if kind first
 judged_told kind all first e = sym (judged_first kind all) ∙ ap (judged_if kind) e
 
 -- how a text is what it is found to be
@@ -60,40 +77,50 @@ pub found : (kind : Kind) (text : List ℕ) → Found kind text (dependency_in k
 found kind text = found_in kind text (tokens_of text) refl
 
 -- a tree that the text spells is found
-pub spelled_is_found : (kind : Kind) (text : List ℕ) (t : Dependency) → Spells kind text t → dependency_in kind text ≡ Ok t
+pub spelled_is_found : (kind : Kind) (text : List ℕ) (t : Dependency) → Spells kind text t
+    → dependency_in kind text ≡ Ok t
 spelled_is_found kind text t p =
     ap (judged_if kind) p.cut
-    ∙ ap (λ b. cond b (Err (Bad faults.TooLong 0)) (cond (is_too_deep p.tokens) (Err (Bad faults.TooDeep 0)) (spelled (dependency kind (length p.tokens) p.tokens)))) p.short
+    ∙ ap (λ b. cond b (Err (Bad faults.TooLong 0))
+    (cond (is_too_deep p.tokens) (Err (Bad faults.TooDeep 0)) (spelled (dependency kind (length p.tokens) p.tokens))))
+    p.short
     ∙ ap (λ b. cond b (Err (Bad faults.TooDeep 0)) (spelled (dependency kind (length p.tokens) p.tokens))) p.shallow
     ∙ ap spelled (reads_dependency kind p.tokens t p.spelled)
 
 -- no tree is read where the grammar has none
-none_read : (kind : Kind) (ts : List Token) (o : Option Dependency) → dependency kind (length ts) ts ≡ o → ((t : Dependency) → ¬ IsDependency kind ts t) → o ≡ None
+none_read : (kind : Kind) (ts : List Token) (o : Option Dependency) → dependency kind (length ts) ts ≡ o
+    → ((t : Dependency) → ¬ IsDependency kind ts t) → o ≡ None
 none_read kind ts None e no_tree = refl
 none_read kind ts (Some t) e no_tree = absurd (no_tree t (dependency_is kind (length ts) ts t e))
 
 -- a fault of the text is found
-pub fault_is_found : (kind : Kind) (text : List ℕ) (k : SyntaxKind) (place : ℕ) → IsFault kind text k place → dependency_in kind text ≡ Err (Bad k place)
+pub fault_is_found : (kind : Kind) (text : List ℕ) (k : SyntaxKind) (place : ℕ) → IsFault kind text k place
+    → dependency_in kind text ≡ Err (Bad k place)
 fault_is_found kind text _ _ (s.bad_token cut) = ap (judged_if kind) cut
 fault_is_found kind text _ _ (s.too_long ts cut long) =
     ap (judged_if kind) cut
-    ∙ ap (λ b. cond b (Err (Bad faults.TooLong 0)) (cond (is_too_deep ts) (Err (Bad faults.TooDeep 0)) (spelled (dependency kind (length ts) ts)))) long
+    ∙ ap (λ b. cond b (Err (Bad faults.TooLong 0))
+    (cond (is_too_deep ts) (Err (Bad faults.TooDeep 0)) (spelled (dependency kind (length ts) ts)))) long
 fault_is_found kind text _ _ (s.too_deep ts cut short deep) =
     ap (judged_if kind) cut
-    ∙ ap (λ b. cond b (Err (Bad faults.TooLong 0)) (cond (is_too_deep ts) (Err (Bad faults.TooDeep 0)) (spelled (dependency kind (length ts) ts)))) short
+    ∙ ap (λ b. cond b (Err (Bad faults.TooLong 0))
+    (cond (is_too_deep ts) (Err (Bad faults.TooDeep 0)) (spelled (dependency kind (length ts) ts)))) short
     ∙ ap (λ b. cond b (Err (Bad faults.TooDeep 0)) (spelled (dependency kind (length ts) ts))) deep
 fault_is_found kind text _ _ (s.no_tree ts cut short shallow none) =
     ap (judged_if kind) cut
-    ∙ ap (λ b. cond b (Err (Bad faults.TooLong 0)) (cond (is_too_deep ts) (Err (Bad faults.TooDeep 0)) (spelled (dependency kind (length ts) ts)))) short
+    ∙ ap (λ b. cond b (Err (Bad faults.TooLong 0))
+    (cond (is_too_deep ts) (Err (Bad faults.TooDeep 0)) (spelled (dependency kind (length ts) ts)))) short
     ∙ ap (λ b. cond b (Err (Bad faults.TooDeep 0)) (spelled (dependency kind (length ts) ts))) shallow
     ∙ ap spelled (none_read kind ts (dependency kind (length ts) ts) refl none)
 
-tree_of_found : (kind : Kind) (text : List ℕ) (r : Result Dependency SyntaxFault) (t : Dependency) → Found kind text r → r ≡ Ok t → Spells kind text t
+tree_of_found : (kind : Kind) (text : List ℕ) (r : Result Dependency SyntaxFault) (t : Dependency) → Found kind text r
+    → r ≡ Ok t → Spells kind text t
 tree_of_found kind text _ t (tree {t = u} p) e = let same : u ≡ t = cc in subst (λ x. Spells kind text x) same p
 tree_of_found kind text _ t (fault p) e = absurd (cc)
 tree_of_found kind text _ t memory e = absurd (cc)
 
-fault_of_found : (kind : Kind) (text : List ℕ) (r : Result Dependency SyntaxFault) (k : SyntaxKind) (place : ℕ) → Found kind text r → r ≡ Err (Bad k place) → IsFault kind text k place
+fault_of_found : (kind : Kind) (text : List ℕ) (r : Result Dependency SyntaxFault) (k : SyntaxKind) (place : ℕ)
+    → Found kind text r → r ≡ Err (Bad k place) → IsFault kind text k place
 fault_of_found kind text _ k place (tree p) e = absurd (cc)
 fault_of_found kind text _ k place (fault {k = l} {place = at} p) e =
     let same_kind : l ≡ k = cc in

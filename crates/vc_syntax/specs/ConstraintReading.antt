@@ -30,11 +30,13 @@ after_class_type (t ∷ ts) = cond (is_class_type t.lexeme) (Some ts) None
 
 -- `( 300 )`
 abbrev pub class_type : List Token → Option (List Token)
-class_type ts = then (after_sign signs.OpenParen ts) (λ first. then (after_class_type first) (after_sign signs.CloseParen))
+class_type ts = then (after_sign signs.OpenParen ts)
+    (λ first. then (after_class_type first) (after_sign signs.CloseParen))
 
 -- `( MATERIAL )`
 abbrev pub material_word : List Token → Option (List Token)
-material_word ts = then (after_sign signs.OpenParen ts) (λ first. then (after_word words.Material first) (after_sign signs.CloseParen))
+material_word ts = then (after_sign signs.OpenParen ts)
+    (λ first. then (after_word words.Material first) (after_sign signs.CloseParen))
 
 -- what stands behind IS_A
 abbrev pub class_kind : Reader ObjectKind
@@ -59,23 +61,27 @@ abbrev pub with_object : NameLeaf → ObjectKind → List Alias → Object
 with_object variable kind aliases = record { variable = variable; kind = kind; aliases = aliases }
 
 abbrev pub alias : Reader Alias
-alias ts = then (variable_ahead ts) (λ variable. then (after_sign signs.Equal variable.1) (λ rest. made (with_alias variable.0) (named rest)))
+alias ts = then (variable_ahead ts)
+    (λ variable. then (after_sign signs.Equal variable.1) (λ rest. made (with_alias variable.0) (named rest)))
 
 abbrev pub aliases : Reader (List Alias)
 aliases ts = either (after_word words.Where ts) (Some ([], ts)) (listed signs.Semicolon alias)
 
 abbrev pub object : Reader Object
-object ts = then (variable_ahead ts) (λ variable. then (object_kind variable.1) (λ kind. made (with_object variable.0 kind.0) (aliases kind.1)))
+object ts = then (variable_ahead ts)
+    (λ variable. then (object_kind variable.1) (λ kind. made (with_object variable.0 kind.0) (aliases kind.1)))
 
 -- a section's colon, what it holds, and its period
 abbrev pub section : {A : Type 0} → Reader A → Reader A
-section read ts = then (after_sign signs.Colon ts) (λ rest. then (read rest) (λ found. leaving_as found.0 (after_sign signs.Period found.1)))
+section read ts = then (after_sign signs.Colon ts)
+    (λ rest. then (read rest) (λ found. leaving_as found.0 (after_sign signs.Period found.1)))
 
 abbrev pub object_section : Reader (List Object)
 object_section ts = then (after_word words.Objects ts) (section (listed signs.Comma object))
 
 abbrev pub condition_section : ℕ → Reader (Option Condition)
-condition_section left ts = either (after_word words.Condition ts) (Some (None, ts)) (λ rest. made Some (section (condition left) rest))
+condition_section left ts =
+    either (after_word words.Condition ts) (Some (None, ts)) (λ rest. made Some (section (condition left) rest))
 
 abbrev pub restriction_word : List Token → Option (List Token)
 restriction_word ts = or_else (after_word words.Restriction ts) (after_word words.Restrictions ts)
@@ -87,7 +93,8 @@ abbrev pub inference_section : Reader (List Operand)
 inference_section ts = either (after_word words.Inferences ts) (Some ([], ts)) (section (listed signs.Comma operand))
 
 abbrev pub with_constraint : List Object → Option Condition → List Restriction → List Operand → Constraint
-with_constraint objects condition restrictions inferences = record { objects = objects; condition = condition; restrictions = restrictions; inferences = inferences }
+with_constraint objects condition restrictions inferences =
+    record { objects = objects; condition = condition; restrictions = restrictions; inferences = inferences }
 
 abbrev pub constraint : ℕ → Reader Constraint
 constraint left ts = then (object_section ts) (λ objects. then (condition_section left objects.1) (λ condition.

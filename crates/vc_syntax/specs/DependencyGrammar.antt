@@ -16,11 +16,15 @@ pub data IsStop : List Token → Type 0 where
   nothing : IsStop []
   period : {t : Token} → IsSign signs.Period t → IsStop (t ∷ [])
 
--- Precondition, Selection: condition [period]. Procedure: statement {, statement} [period]. Constraint: its sections. Term: term
+-- Precondition, Selection: condition [period]. Procedure: statement {, statement} [period]. Constraint: its sections.
+-- Term: term
 pub data IsDependency : Kind → List Token → Dependency → Type 0 where
-  precondition : (ts us : List Token) {x : Condition} → IsCondition ts x → IsStop us → IsDependency kinds.Precondition (ts ++ us) (trees.Precondition x)
-  selection : (ts us : List Token) {x : Condition} → IsCondition ts x → IsStop us → IsDependency kinds.Selection (ts ++ us) (trees.Selection x)
+  precondition : (ts us : List Token) {x : Condition} → IsCondition ts x → IsStop us
+      → IsDependency kinds.Precondition (ts ++ us) (trees.Precondition x)
+  selection : (ts us : List Token) {x : Condition} → IsCondition ts x → IsStop us
+      → IsDependency kinds.Selection (ts ++ us) (trees.Selection x)
   procedure : (ts us : List Token) {xs : List Statement} → IsListed signs.Comma IsStatement ts xs → IsStop us
       → IsDependency kinds.Procedure (ts ++ us) (trees.Procedure xs)
-  constraint : {ts : List Token} {x : Constraint} → IsConstraint ts x → IsDependency kinds.Constraint ts (trees.Constrains x)
+  constraint : {ts : List Token} {x : Constraint} → IsConstraint ts x
+      → IsDependency kinds.Constraint ts (trees.Constrains x)
   term : {ts : List Token} {x : Term} → IsSum ts x → IsDependency kinds.Term ts (trees.Counts x)

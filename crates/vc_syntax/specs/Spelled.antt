@@ -18,10 +18,13 @@ pub record Spells (kind : Kind) (text : List ℕ) (tree : Dependency) : Type 0 w
   pub shallow : is_too_deep tokens ≡ false
   pub spelled : IsDependency kind tokens tree
 
--- the fault of a text: its first bad token with its place, else too many tokens, else too deep nesting, else that the tokens spell no tree
+-- the fault of a text: its first bad token with its place, else too many tokens, else too deep nesting, else that the
+-- tokens spell no tree
 pub data IsFault (kind : Kind) (text : List ℕ) : SyntaxKind → ℕ → Type 0 where
   bad_token : {fault : SyntaxKind} {place : ℕ} → tokens_of text ≡ Err (Bad fault place) → IsFault kind text fault place
-  too_long : (tokens : List Token) → tokens_of text ≡ Ok tokens → is_too_long tokens ≡ true → IsFault kind text faults.TooLong 0
-  too_deep : (tokens : List Token) → tokens_of text ≡ Ok tokens → is_too_long tokens ≡ false → is_too_deep tokens ≡ true → IsFault kind text faults.TooDeep 0
+  too_long : (tokens : List Token) → tokens_of text ≡ Ok tokens → is_too_long tokens ≡ true
+      → IsFault kind text faults.TooLong 0
+  too_deep : (tokens : List Token) → tokens_of text ≡ Ok tokens → is_too_long tokens ≡ false → is_too_deep tokens ≡ true
+      → IsFault kind text faults.TooDeep 0
   no_tree : (tokens : List Token) → tokens_of text ≡ Ok tokens → is_too_long tokens ≡ false → is_too_deep tokens ≡ false
       → ((tree : Dependency) → ¬ IsDependency kind tokens tree) → IsFault kind text faults.NotADependency 0

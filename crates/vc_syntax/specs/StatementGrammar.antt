@@ -9,7 +9,8 @@ use Rattle.vc_syntax_terms.specs.TermGrammar.{IsSign, IsWord, IsDollar, IsName, 
 use Rattle.vc_syntax_terms.specs.ConditionGrammar.{IsListed, IsRelation, IsCondition}
 use Rattle.vc_syntax.specs.StatementReading.{bind, call, state, demand}
 use Rattle.vc_syntax_terms.specs.Trees as trees
-use Rattle.vc_syntax_terms.specs.Trees.{Term, Relation, Condition, Binding, TableCall, Action, Statement, Demand, Restriction}
+use Rattle.vc_syntax_terms.specs.Trees.{Term, Relation, Condition, Binding, TableCall, Action, Statement, Demand}
+use Rattle.vc_syntax_terms.specs.Trees.{Restriction}
 
 -- name = term
 pub data IsBinding : List Token → Binding → Type 0 where
@@ -19,7 +20,8 @@ pub data IsBinding : List Token → Binding → Type 0 where
 -- table = TABLE name ( name = term {, name = term} )
 pub data IsTable : List Token → TableCall → Type 0 where
   called : (t u opening : Token) (ts : List Token) (closing : Token) {table : NameLeaf} {bindings : List Binding}
-      → IsWord words.Table t → IsAnyName u table → IsSign OpenParen opening → IsListed Comma IsBinding ts bindings → IsSign CloseParen closing
+      → IsWord words.Table t → IsAnyName u table → IsSign OpenParen opening → IsListed Comma IsBinding ts bindings
+      → IsSign CloseParen closing
       → IsTable (t ∷ u ∷ opening ∷ (ts ++ closing ∷ [])) (call table bindings)
 
 -- $SELF dot name = term | $SET_DEFAULT ( $SELF , name , term ) | $DEL_DEFAULT ( $SELF , name , term ) | table
@@ -27,22 +29,28 @@ pub data IsAction : List Token → Action → Type 0 where
   assign : (t dot u equal : Token) (ts : List Token) {name : NameLeaf} {value : Term}
       → IsDollar dollars.Itself t → IsSign Dot dot → IsName u name → IsSign Equal equal → IsSum ts value
       → IsAction (t ∷ dot ∷ u ∷ equal ∷ ts) (trees.Assign name value)
-  set_default : (t : Token) (ts : List Token) (comma : Token) (us : List Token) (closing : Token) {name : NameLeaf} {value : Term}
-      → IsDollar dollars.SetDefault t → IsSelfAndName ts name → IsSign Comma comma → IsSum us value → IsSign CloseParen closing
+  set_default : (t : Token) (ts : List Token) (comma : Token) (us : List Token) (closing : Token) {name : NameLeaf}
+      {value : Term}
+      → IsDollar dollars.SetDefault t → IsSelfAndName ts name → IsSign Comma comma → IsSum us value
+      → IsSign CloseParen closing
       → IsAction (t ∷ (ts ++ comma ∷ (us ++ closing ∷ []))) (trees.SetDefault name value)
-  del_default : (t : Token) (ts : List Token) (comma : Token) (us : List Token) (closing : Token) {name : NameLeaf} {value : Term}
-      → IsDollar dollars.DelDefault t → IsSelfAndName ts name → IsSign Comma comma → IsSum us value → IsSign CloseParen closing
+  del_default : (t : Token) (ts : List Token) (comma : Token) (us : List Token) (closing : Token) {name : NameLeaf}
+      {value : Term}
+      → IsDollar dollars.DelDefault t → IsSelfAndName ts name → IsSign Comma comma → IsSum us value
+      → IsSign CloseParen closing
       → IsAction (t ∷ (ts ++ comma ∷ (us ++ closing ∷ []))) (trees.DelDefault name value)
   table : {ts : List Token} {call : TableCall} → IsTable ts call → IsAction ts (trees.Calls call)
 
 -- [ IF condition ]
 pub data IsIf : List Token → Option Condition → Type 0 where
   always : IsIf [] None
-  when : (t : Token) (ts : List Token) {condition : Condition} → IsWord words.If t → IsCondition ts condition → IsIf (t ∷ ts) (Some condition)
+  when : (t : Token) (ts : List Token) {condition : Condition} → IsWord words.If t → IsCondition ts condition
+      → IsIf (t ∷ ts) (Some condition)
 
 -- statement = (..) [ IF condition ]
 pub data IsStatement : List Token → Statement → Type 0 where
-  stated : (ts us : List Token) {action : Action} {condition : Option Condition} → IsAction ts action → IsIf us condition
+  stated : (ts us : List Token) {action : Action} {condition : Option Condition} → IsAction ts action
+      → IsIf us condition
       → IsStatement (ts ++ us) (state action condition)
 
 -- relation | table | FALSE

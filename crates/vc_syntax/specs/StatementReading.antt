@@ -27,19 +27,24 @@ abbrev pub demand : Demand → Option Condition → Restriction
 demand what condition = record { demand = what; condition = condition }
 
 abbrev pub binding : ℕ → Reader Binding
-binding left ts = then (named ts) (λ column. then (after_sign signs.Equal column.1) (λ rest. made (bind column.0) (sum left rest)))
+binding left ts = then (named ts)
+    (λ column. then (after_sign signs.Equal column.1) (λ rest. made (bind column.0) (sum left rest)))
 
 -- what stands behind TABLE
 abbrev pub table_call : ℕ → Reader TableCall
-table_call left ts = then (any_named ts) (λ table. made (call table.0) (grouped (listed signs.Comma (binding left)) table.1))
+table_call left ts =
+    then (any_named ts) (λ table. made (call table.0) (grouped (listed signs.Comma (binding left)) table.1))
 
 -- what stands behind `$SELF`
 abbrev pub assignment : ℕ → Reader Action
-assignment left ts = then (dotted ts) (λ name. then (after_sign signs.Equal name.1) (λ rest. made (trees.Assign name.0) (sum left rest)))
+assignment left ts =
+    then (dotted ts) (λ name. then (after_sign signs.Equal name.1) (λ rest. made (trees.Assign name.0) (sum left rest)))
 
 -- `( $SELF , name , term )`
 abbrev pub defaulted : (NameLeaf → Term → Action) → ℕ → Reader Action
-defaulted make left ts = then (self_and_name ts) (λ name. then (after_sign signs.Comma name.1) (λ rest. made (make name.0) (closed (sum left rest))))
+defaulted make left ts =
+    then (self_and_name ts)
+    (λ name. then (after_sign signs.Comma name.1) (λ rest. made (make name.0) (closed (sum left rest))))
 
 abbrev pub action_in : ℕ → Lexeme → Reader Action
 action_in left (lexemes.Dollar dollars.Itself) ts = assignment left ts

@@ -7,6 +7,3 @@ pub mod statements;
 
 pub use dependencies::{read_dependency, read_term};
 pub use vc_syntax_tokens::{Dollar, Kind, Lexeme, Reserved, Sign, SyntaxFault, SyntaxKind, Token};
-
-#[cfg(test)]
-mod reading_tests;

@@ -35,15 +35,21 @@ EndsIf false m = Unit {0}
 
 -- tokens, and simpler lexemes that say the same; whether no row of prefixes goes on behind both
 pub data Simpler : Bool → List Token → List Lexeme → Type 0 where
-  token : {t : Token} {m : Lexeme} (ends : Bool) → Alike t.lexeme m → EndsIf ends m → is_star m ≡ false → Simpler ends (t ∷ []) (m ∷ [])
-  before : {ends : Bool} (t : Token) (m : Lexeme) (ts : List Token) (ms : List Lexeme) → Alike t.lexeme m → is_star m ≡ false → Simpler ends ts ms
+  token : {t : Token} {m : Lexeme} (ends : Bool) → Alike t.lexeme m → EndsIf ends m → is_star m ≡ false
+      → Simpler ends (t ∷ []) (m ∷ [])
+  before : {ends : Bool} (t : Token) (m : Lexeme) (ts : List Token) (ms : List Lexeme) → Alike t.lexeme m
+      → is_star m ≡ false → Simpler ends ts ms
       → Simpler ends (t ∷ ts) (m ∷ ms)
-  dotted : (t dot u : Token) (m : Lexeme) (name : List ℕ) → Alike t.lexeme m → is_star m ≡ false → IsSign Dot dot → u.lexeme ≡ lexemes.Name name
+  dotted : (t dot u : Token) (m : Lexeme) (name : List ℕ) → Alike t.lexeme m → is_star m ≡ false → IsSign Dot dot
+      → u.lexeme ≡ lexemes.Name name
       → Simpler true (t ∷ dot ∷ u ∷ []) (m ∷ lexemes.Sign Dot ∷ lexemes.Name name ∷ [])
-  joined : {first ends : Bool} (ts us : List Token) (ms ns : List Lexeme) → Simpler first ts ms → Simpler ends us ns → Simpler ends (ts ++ us) (ms ++ ns)
-  operated : {first ends : Bool} (ts : List Token) (t : Token) (us : List Token) (ms : List Lexeme) (m : Lexeme) (ns : List Lexeme)
+  joined : {first ends : Bool} (ts us : List Token) (ms ns : List Lexeme) → Simpler first ts ms → Simpler ends us ns
+      → Simpler ends (ts ++ us) (ms ++ ns)
+  operated : {first ends : Bool} (ts : List Token) (t : Token) (us : List Token) (ms : List Lexeme) (m : Lexeme)
+      (ns : List Lexeme)
       → Simpler first ts ms → Alike t.lexeme m → Simpler ends us ns → Simpler ends (ts ++ t ∷ us) (ms ++ m ∷ ns)
-  unwrapped : (opening : Token) (ts : List Token) (closing : Token) (ms : List Lexeme) → IsSign OpenParen opening → Simpler true ts ms → IsSign CloseParen closing
+  unwrapped : (opening : Token) (ts : List Token) (closing : Token) (ms : List Lexeme) → IsSign OpenParen opening
+      → Simpler true ts ms → IsSign CloseParen closing
       → Simpler true (opening ∷ (ts ++ closing ∷ [])) ms
   turned : (ts : List Token) (t : Token) (ms : List Lexeme) → Simpler true ts ms → IsWord words.Specified t
       → Simpler true (ts ++ t ∷ []) (lexemes.Reserved words.Specified ∷ ms)
@@ -51,6 +57,9 @@ pub data Simpler : Bool → List Token → List Lexeme → Type 0 where
 -- the same of sections
 pub data Sections : List Token → List Lexeme → Type 0 where
   none : Sections [] []
-  section : {ends : Bool} (t colon : Token) (ts : List Token) (period : Token) (us : List Token) (word : Reserved) (ms ns : List Lexeme)
-      → Alike t.lexeme (lexemes.Reserved word) → IsSign Colon colon → Simpler ends ts ms → IsSign Period period → Sections us ns
-      → Sections (t ∷ colon ∷ (ts ++ period ∷ us)) (lexemes.Reserved word ∷ lexemes.Sign Colon ∷ (ms ++ lexemes.Sign Period ∷ ns))
+  section : {ends : Bool} (t colon : Token) (ts : List Token) (period : Token) (us : List Token) (word : Reserved)
+      (ms ns : List Lexeme)
+      → Alike t.lexeme (lexemes.Reserved word) → IsSign Colon colon → Simpler ends ts ms → IsSign Period period
+      → Sections us ns
+      → Sections (t ∷ colon ∷ (ts ++ period ∷ us))
+      (lexemes.Reserved word ∷ lexemes.Sign Colon ∷ (ms ++ lexemes.Sign Period ∷ ns))

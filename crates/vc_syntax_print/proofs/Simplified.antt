@@ -1,5 +1,6 @@
 -- What is made simpler keeps all that a text has to keep.
-use Rattle.std.proofs.Common.{◌≡◌, ℕ, ◌+◌, ◌≤◌, Bool, true, false, List, [], ◌∷◌, ◌++◌, length, map, refl, subst, length-append, arith}
+use Rattle.std.proofs.Common.{◌≡◌, ℕ, ◌+◌, ◌≤◌, Bool, true, false, List, [], ◌∷◌, ◌++◌, length, map, refl, subst}
+use Rattle.std.proofs.Common.{length-append, arith}
 use Rattle.std.specs.Prelude.{◌&&◌, ◌||◌, nat_lt}
 use Rattle.std.specs.List.{list_all}
 use Rattle.std.proofs.lemmas.List.{append-nil}
@@ -8,10 +9,12 @@ use Rattle.vc_syntax_tokens.specs.declared.token.Token.{Token}
 use Rattle.vc_syntax_tokens.specs.declared.token.Lexeme.{Lexeme}
 use Rattle.vc_syntax_tokens.specs.declared.limits.Prefix.{Prefix}
 use Rattle.vc_syntax_tokens.specs.declared.limits.Prefix.TheVariants.{Negation, Negative}
-use Rattle.vc_syntax_tokens.specs.Limits.{is_open, is_close, one_if, nests_deep, row_up_to, has_long_row, is_too_deep, is_too_long}
+use Rattle.vc_syntax_tokens.specs.Limits.{is_open, is_close, one_if, nests_deep, row_up_to, has_long_row, is_too_deep}
+use Rattle.vc_syntax_tokens.specs.Limits.{is_too_long}
 use Rattle.vc_syntax_tokens.specs.Written.{is_lexeme, stand_together, begins_no_comment, are_lexemes}
 use Rattle.vc_syntax_print.proofs.Simpler.{Simpler, Sections}
-use Rattle.vc_syntax_print.proofs.Nesting.{AllGood, Shallow, lexeme, itself, Deeper, fewer, keeps_depth, sections_fewer, sections_keep_depth}
+use Rattle.vc_syntax_print.proofs.Nesting.{AllGood, Shallow, lexeme, itself, Deeper, fewer, keeps_depth, sections_fewer}
+use Rattle.vc_syntax_print.proofs.Nesting.{sections_keep_depth}
 use Rattle.vc_syntax_print.proofs.Rows.{Rowed, Shorter, keeps_row, sections_keep_row}
 use Rattle.vc_syntax_print.proofs.Standing.{Together, keeps_together, begins, sections_begin, sections_together}
 
@@ -27,7 +30,8 @@ good_front : (ts us : List Token) → AllGood (ts ++ us) → AllGood ts
 good_front [] us g = tt
 good_front (t ∷ ts) us g = (g.0, good_front ts us g.1)
 
-simplified_on : (ends : Bool) (ts : List Token) (ms : List Lexeme) → Simpler ends ts ms → (us : List Token) → Simplified (ts ++ us) (ms ++ [])
+simplified_on : (ends : Bool) (ts : List Token) (ms : List Lexeme) → Simpler ends ts ms → (us : List Token)
+    → Simplified (ts ++ us) (ms ++ [])
 simplified_on ends ts ms x us = record {
   few = omega (arith, length-append ts us, length-append ms [], fewer ends ts ms x);
   depth = λ g. keeps_depth ends ts ms x (good_front ts us g) 0 us [] (λ o c p d q h s. tt);
@@ -37,7 +41,8 @@ simplified_on ends ts ms x us = record {
 }
 
 -- what is made simpler, with whatever behind it left out
-pub simplified_before : (ends : Bool) (ts : List Token) (ms : List Lexeme) → Simpler ends ts ms → (us : List Token) → Simplified (ts ++ us) ms
+pub simplified_before : (ends : Bool) (ts : List Token) (ms : List Lexeme) → Simpler ends ts ms → (us : List Token)
+    → Simplified (ts ++ us) ms
 simplified_before ends ts ms x us = subst (λ z. Simplified (ts ++ us) z) (append-nil ms) (simplified_on ends ts ms x us)
 
 pub simplified : (ends : Bool) (ts : List Token) (ms : List Lexeme) → Simpler ends ts ms → Simplified ts ms
@@ -83,20 +88,25 @@ shallow_is o c (t ∷ ts) s =
     or_both _ _ (less_not ((c + one_if (is_close t.lexeme)) + 32) (o + one_if (is_open t.lexeme)) s.0)
     (shallow_is (o + one_if (is_open t.lexeme)) (c + one_if (is_close t.lexeme)) ts s.1)
 
-rowed_from : (prefix : Prefix) (row : ℕ) (ts : List Token) → has_long_row prefix row ts ≡ false → Rowed lexeme prefix row ts
+rowed_from : (prefix : Prefix) (row : ℕ) (ts : List Token) → has_long_row prefix row ts ≡ false
+    → Rowed lexeme prefix row ts
 rowed_from prefix row [] h = tt
 rowed_from prefix row (t ∷ ts) h =
     let p = or_false (nat_lt 32 (row_up_to prefix row t.lexeme)) _ h in
     (not_less _ _ p.0, rowed_from prefix (row_up_to prefix row t.lexeme) ts p.1)
 
-rowed_is : (prefix : Prefix) (row : ℕ) (ts : List Token) → Rowed itself prefix row (map (λ t. t.lexeme) ts) → has_long_row prefix row ts ≡ false
+rowed_is : (prefix : Prefix) (row : ℕ) (ts : List Token) → Rowed itself prefix row (map (λ t. t.lexeme) ts)
+    → has_long_row prefix row ts ≡ false
 rowed_is prefix row [] s = refl
-rowed_is prefix row (t ∷ ts) s = or_both _ _ (less_not 32 (row_up_to prefix row t.lexeme) s.0) (rowed_is prefix (row_up_to prefix row t.lexeme) ts s.1)
+rowed_is prefix row (t ∷ ts) s =
+    or_both _ _ (less_not 32 (row_up_to prefix row t.lexeme) s.0)
+    (rowed_is prefix (row_up_to prefix row t.lexeme) ts s.1)
 
 all_good_from : (ts : List Token) → list_all (λ t. is_lexeme t.lexeme) ts ≡ true → AllGood ts
 all_good_from [] h = tt
 all_good_from (t ∷ ts) h =
-    let p : (is_lexeme t.lexeme ≡ true) × (list_all (λ t. is_lexeme t.lexeme) ts ≡ true) = both (is_lexeme t.lexeme) (list_all (λ t. is_lexeme t.lexeme) ts) h in
+    let p : (is_lexeme t.lexeme ≡ true) × (list_all (λ t. is_lexeme t.lexeme) ts ≡ true)
+    = both (is_lexeme t.lexeme) (list_all (λ t. is_lexeme t.lexeme) ts) h in
     (p.0, all_good_from ts p.1)
 
 stand_is : (ms : List Lexeme) → Together ms → stand_together ms ≡ true
@@ -104,7 +114,8 @@ stand_is [] s = refl
 stand_is (m ∷ ms) s = and_both _ _ (and_both _ _ s.0 s.1) (stand_is ms s.2)
 
 -- the lexemes are those of some text
-pub simplified_lexemes : (ts : List Token) (ms : List Lexeme) → Simplified ts ms → list_all (λ t. is_lexeme t.lexeme) ts ≡ true → are_lexemes ms ≡ true
+pub simplified_lexemes : (ts : List Token) (ms : List Lexeme) → Simplified ts ms
+    → list_all (λ t. is_lexeme t.lexeme) ts ≡ true → are_lexemes ms ≡ true
 simplified_lexemes ts ms x h = and_both _ _ x.no_comment (stand_is ms (x.together (all_good_from ts h)))
 
 lengths : (us : List Token) → length (map (λ t. t.lexeme) us) ≡ length us
@@ -112,10 +123,12 @@ lengths [] = refl
 lengths (u ∷ us) = omega (arith, lengths us)
 
 -- tokens with these lexemes are within the limits, if those were that they come from
-pub simplified_short : (ts us : List Token) → Simplified ts (map (λ t. t.lexeme) us) → is_too_long ts ≡ false → is_too_long us ≡ false
+pub simplified_short : (ts us : List Token) → Simplified ts (map (λ t. t.lexeme) us) → is_too_long ts ≡ false
+    → is_too_long us ≡ false
 simplified_short ts us x h = less_not 4000 (length us) (omega (arith, not_less 4000 (length ts) h, lengths us, x.few))
 
-pub simplified_shallow : (ts us : List Token) → Simplified ts (map (λ t. t.lexeme) us) → list_all (λ t. is_lexeme t.lexeme) ts ≡ true
+pub simplified_shallow : (ts us : List Token) → Simplified ts (map (λ t. t.lexeme) us)
+    → list_all (λ t. is_lexeme t.lexeme) ts ≡ true
     → is_too_deep ts ≡ false → is_too_deep us ≡ false
 simplified_shallow ts us x good h =
     let g : AllGood ts = all_good_from ts good in

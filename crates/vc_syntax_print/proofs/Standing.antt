@@ -20,7 +20,8 @@ Together (m ∷ ms) = (is_lexeme m ≡ true) × (stands_before m ms ≡ true) ×
 plain_stands : (m : Lexeme) (ms : List Lexeme) → is_dot m ≡ false → is_period m ≡ false → stands_before m ms ≡ true
 plain_stands m [] d p = ap not d
 plain_stands m (n ∷ ns) d p =
-    ap (λ b. (not b || is_word n) && not (is_period m && is_star n)) d ∙ ap (λ b. (not false || is_word n) && not (b && is_star n)) p
+    ap (λ b. (not b || is_word n) && not (is_period m && is_star n)) d
+    ∙ ap (λ b. (not false || is_word n) && not (b && is_star n)) p
 
 together_same : (l m : Lexeme) (ms : List Lexeme) → Same l m → Together ms → Together (m ∷ ms)
 together_same l m ms same next = (same.good, plain_stands m ms same.no_dot same.no_period, next)
@@ -28,30 +29,40 @@ together_same l m ms same next = (same.good, plain_stands m ms same.no_dot same.
 appended : (ms ns ks : List Lexeme) → Together (ms ++ (ns ++ ks)) → Together ((ms ++ ns) ++ ks)
 appended ms ns ks next = subst Together (sym (append_assoc ms ns ks)) next
 
-pub keeps_together : (ends : Bool) (ts : List Token) (ms : List Lexeme) → Simpler ends ts ms → AllGood ts → (ns : List Lexeme) → Together ns → Together (ms ++ ns)
-keeps_together _ _ _ (simpler.token {t = t} {m = m} ends a e s) good ns next = together_same t.lexeme m ns (a good.0) next
+pub keeps_together : (ends : Bool) (ts : List Token) (ms : List Lexeme) → Simpler ends ts ms → AllGood ts
+    → (ns : List Lexeme) → Together ns → Together (ms ++ ns)
+keeps_together _ _ _ (simpler.token {t = t} {m = m} ends a e s) good ns next =
+    together_same t.lexeme m ns (a good.0) next
 keeps_together _ _ _ (simpler.before t m ts ms a s x) good ns next =
     together_same t.lexeme m (ms ++ ns) (a good.0) (keeps_together _ ts ms x good.1 ns next)
 keeps_together _ _ _ (simpler.dotted t dot u m name a s d e) good ns next =
     together_same t.lexeme m (lexemes.Sign Dot ∷ lexemes.Name name ∷ ns) (a good.0)
     (refl, refl, (subst (λ l. is_lexeme l ≡ true) e good.1.1.0, plain_stands (lexemes.Name name) ns refl refl, next))
 keeps_together _ _ _ (simpler.joined ts us ms ks x y) good ns next =
-    appended ms ks ns (keeps_together _ ts ms x (all_good_front ts us good) (ks ++ ns) (keeps_together _ us ks y (all_good_back ts us good) ns next))
+    appended ms ks ns (keeps_together _ ts ms x (all_good_front ts us good) (ks ++ ns)
+    (keeps_together _ us ks y (all_good_back ts us good) ns next))
 keeps_together _ _ _ (simpler.operated ts t us ms m ks x a y) good ns next =
     let back : AllGood (t ∷ us) = all_good_back ts (t ∷ us) good in
     appended ms (m ∷ ks) ns (keeps_together _ ts ms x (all_good_front ts (t ∷ us) good) (m ∷ (ks ++ ns))
     (together_same t.lexeme m (ks ++ ns) (a back.0) (keeps_together _ us ks y back.1 ns next)))
 keeps_together _ _ _ (simpler.unwrapped opening ts closing ms o x c) good ns next =
     keeps_together _ ts ms x (all_good_front ts (closing ∷ []) good.1) ns next
-keeps_together _ _ _ (simpler.turned ts t ms x w) good ns next =
-    (refl, plain_stands (lexemes.Reserved words.Specified) (ms ++ ns) refl refl, keeps_together _ ts ms x (all_good_front ts (t ∷ []) good) ns next)
+keeps_together _ _ _ (simpler.turned ts t ms x w) good ns next = (
+  refl,
+  plain_stands (lexemes.Reserved words.Specified) (ms ++ ns) refl refl,
+  keeps_together _ ts ms x
+      (all_good_front ts (t ∷ []) good) ns next,
+)
 
-pub begins : (ends : Bool) (ts : List Token) (ms : List Lexeme) → Simpler ends ts ms → (ns : List Lexeme) → begins_no_comment (ms ++ ns) ≡ true
+pub begins : (ends : Bool) (ts : List Token) (ms : List Lexeme) → Simpler ends ts ms → (ns : List Lexeme)
+    → begins_no_comment (ms ++ ns) ≡ true
 begins _ _ _ (simpler.token ends a e s) ns = ap not s
 begins _ _ _ (simpler.before t m ts ms a s x) ns = ap not s
 begins _ _ _ (simpler.dotted t dot u m name a s d e) ns = ap not s
-begins _ _ _ (simpler.joined ts us ms ks x y) ns = ap begins_no_comment (append_assoc ms ks ns) ∙ begins _ ts ms x (ks ++ ns)
-begins _ _ _ (simpler.operated ts t us ms m ks x a y) ns = ap begins_no_comment (append_assoc ms (m ∷ ks) ns) ∙ begins _ ts ms x (m ∷ (ks ++ ns))
+begins _ _ _ (simpler.joined ts us ms ks x y) ns = ap begins_no_comment (append_assoc ms ks ns)
+    ∙ begins _ ts ms x (ks ++ ns)
+begins _ _ _ (simpler.operated ts t us ms m ks x a y) ns = ap begins_no_comment (append_assoc ms (m ∷ ks) ns)
+    ∙ begins _ ts ms x (m ∷ (ks ++ ns))
 begins _ _ _ (simpler.unwrapped opening ts closing ms o x c) ns = begins _ ts ms x ns
 begins _ _ _ (simpler.turned ts t ms x w) ns = refl
 

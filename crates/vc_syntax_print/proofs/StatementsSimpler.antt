@@ -24,7 +24,8 @@ use Rattle.vc_syntax.specs.StatementGrammar.{IsBinding, IsTable, IsAction, IsIf,
 use Rattle.vc_syntax_terms.specs.Trees.{Term, Condition, Binding, TableCall, Action, Statement, Demand, Restriction}
 use Rattle.vc_syntax_print.specs.TermLexemes.{self_and_name, term_lexemes}
 use Rattle.vc_syntax_print.specs.ConditionLexemes.{condition_lexemes}
-use Rattle.vc_syntax_print.specs.StatementLexemes.{binding_lexemes, call_lexemes, default_lexemes, action_lexemes, if_lexemes, statement_lexemes, demand_lexemes, restriction_lexemes}
+use Rattle.vc_syntax_print.specs.StatementLexemes.{binding_lexemes, call_lexemes, default_lexemes, action_lexemes}
+use Rattle.vc_syntax_print.specs.StatementLexemes.{if_lexemes, statement_lexemes, demand_lexemes, restriction_lexemes}
 use Rattle.vc_syntax_print.proofs.Simpler as simpler
 use Rattle.vc_syntax_print.proofs.Simpler.{Alike, Simpler}
 use Rattle.vc_syntax_print.proofs.Marks.{alike, token_is, before_is, operated_is, closed_is, wrapped_is, name_lexeme}
@@ -41,10 +42,13 @@ any_name None = []
 any_name (Some leaf) = leaf.name
 
 -- a name's token has the lexeme of the word
-any_lexeme_in : (l : Lexeme) (start end : ℕ) (leaf : NameLeaf) → any_name_in l start end ≡ Some leaf → is_lexeme l ≡ true → l ≡ lexeme_of_word leaf.name
+any_lexeme_in : (l : Lexeme) (start end : ℕ) (leaf : NameLeaf) → any_name_in l start end ≡ Some leaf
+    → is_lexeme l ≡ true → l ≡ lexeme_of_word leaf.name
 unfolding any_name
 any_lexeme_in (lexemes.Name name) start end leaf e good =
-    sym (unreserved name (reserved_of name) (both (is_name name && is_upper name) (is_unreserved (reserved_of name)) good).1) ∙ ap (λ o. lexeme_of_word (any_name o)) e
+    sym (unreserved name (reserved_of name)
+    (both (is_name name && is_upper name) (is_unreserved (reserved_of name)) good).1)
+    ∙ ap (λ o. lexeme_of_word (any_name o)) e
 any_lexeme_in (lexemes.Reserved word) start end leaf e good =
     sym (ap (named (reserved_spelling word)) (reserved_again word).2) ∙ ap (λ o. lexeme_of_word (any_name o)) e
 any_lexeme_in _ start end leaf e good = absurd (cc)
@@ -69,7 +73,8 @@ any_alike t leaf e good =
     alike t.lexeme (lexeme_of_word leaf.name) (any_lexeme_in t.lexeme t.start t.end leaf e good)
     (named_no_dot leaf.name (reserved_of leaf.name)) (named_no_period leaf.name (reserved_of leaf.name)) good
 
-binding_simpler : (ts : List Token) (binding : Binding) → IsBinding ts binding → Simpler true ts (binding_lexemes binding)
+binding_simpler : (ts : List Token) (binding : Binding) → IsBinding ts binding
+    → Simpler true ts (binding_lexemes binding)
 binding_simpler _ _ (grammar.bound t equal ts {column = column} {value = value} e s x) =
     before_is true t (lexemes.Name column.name) _ _ (name_lexeme t column e) refl refl refl
     (before_is true equal (lexemes.Sign signs.Equal) ts _ s refl refl refl (sum_simpler ts value x))
@@ -77,41 +82,58 @@ binding_simpler _ _ (grammar.bound t equal ts {column = column} {value = value} 
 call_simpler : (ts : List Token) (call : TableCall) → IsTable ts call → Simpler true ts (call_lexemes call)
 call_simpler _ _ (grammar.called t u opening ts closing {table = table} {bindings = bindings} w n o l c) =
     before_is true t (lexemes.Reserved words.Table) _ _ w refl refl refl
-    (simpler.before u (lexeme_of_word table.name) (opening ∷ (ts ++ closing ∷ [])) _ (any_alike u table n) (word_no_star table.name)
-    (wrapped_is true opening ts closing _ o (listed_simpler true signs.Comma IsBinding binding_lexemes refl refl binding_simpler ts bindings l) c))
+    (simpler.before u (lexeme_of_word table.name) (opening ∷ (ts ++ closing ∷ [])) _ (any_alike u table n)
+    (word_no_star table.name)
+    (wrapped_is true opening ts closing _ o
+    (listed_simpler true signs.Comma IsBinding binding_lexemes refl refl binding_simpler ts bindings l) c))
 
 default_simpler : (ts : List Token) (comma : Token) (us : List Token) (closing : Token) (name : NameLeaf) (value : Term)
     → IsSelfAndName ts name → IsSign signs.Comma comma → IsSum us value → IsSign signs.CloseParen closing
     → Simpler true (ts ++ comma ∷ (us ++ closing ∷ [])) (default_lexemes name value)
 default_simpler ts comma us closing name value x c y d =
-    operated_is true true ts comma (us ++ closing ∷ []) (self_and_name name) (lexemes.Sign signs.Comma) _ (self_simpler ts name x) c refl refl
+    operated_is true true ts comma (us ++ closing ∷ []) (self_and_name name) (lexemes.Sign signs.Comma) _
+    (self_simpler ts name x) c refl refl
     (closed_is true us closing (term_lexemes value) (sum_simpler us value y) d)
 
 action_simpler : (ts : List Token) (action : Action) → IsAction ts action → Simpler true ts (action_lexemes action)
 action_simpler _ _ (grammar.assign t dot u equal ts {name = name} {value = value} s d e q x) =
-    simpler.joined (t ∷ dot ∷ u ∷ []) (equal ∷ ts) (lexemes.Dollar dollars.Itself ∷ lexemes.Sign signs.Dot ∷ lexemes.Name name.name ∷ []) (lexemes.Sign signs.Equal ∷ term_lexemes value)
-    (simpler.dotted t dot u (lexemes.Dollar dollars.Itself) name.name (alike t.lexeme (lexemes.Dollar dollars.Itself) s refl refl) refl d (name_lexeme u name e))
+    simpler.joined (t ∷ dot ∷ u ∷ []) (equal ∷ ts)
+    (lexemes.Dollar dollars.Itself ∷ lexemes.Sign signs.Dot ∷ lexemes.Name name.name ∷ [])
+    (lexemes.Sign signs.Equal ∷ term_lexemes value)
+    (simpler.dotted t dot u (lexemes.Dollar dollars.Itself) name.name
+    (alike t.lexeme (lexemes.Dollar dollars.Itself) s refl refl) refl d (name_lexeme u name e))
     (before_is true equal (lexemes.Sign signs.Equal) ts (term_lexemes value) q refl refl refl (sum_simpler ts value x))
 action_simpler _ _ (grammar.set_default t ts comma us closing {name = name} {value = value} e x c y d) =
-    before_is true t (lexemes.Dollar dollars.SetDefault) _ _ e refl refl refl (default_simpler ts comma us closing name value x c y d)
+    before_is true t (lexemes.Dollar dollars.SetDefault) _ _ e refl refl refl
+    (default_simpler ts comma us closing name value x c y d)
 action_simpler _ _ (grammar.del_default t ts comma us closing {name = name} {value = value} e x c y d) =
-    before_is true t (lexemes.Dollar dollars.DelDefault) _ _ e refl refl refl (default_simpler ts comma us closing name value x c y d)
+    before_is true t (lexemes.Dollar dollars.DelDefault) _ _ e refl refl refl
+    (default_simpler ts comma us closing name value x c y d)
 action_simpler _ _ (grammar.table {ts = ts} {call = call} x) = call_simpler ts call x
 
 -- what an IF follows, with it
-if_simpler : (ts us : List Token) (ms : List Lexeme) (condition : Option Condition) → Simpler true ts ms → IsIf us condition → Simpler true (ts ++ us) (ms ++ if_lexemes condition)
-if_simpler ts _ ms _ x grammar.always = subst (λ z. Simpler true z (ms ++ [])) (sym (append-nil ts)) (subst (λ z. Simpler true ts z) (sym (append-nil ms)) x)
+if_simpler : (ts us : List Token) (ms : List Lexeme) (condition : Option Condition) → Simpler true ts ms
+    → IsIf us condition → Simpler true (ts ++ us) (ms ++ if_lexemes condition)
+if_simpler ts _ ms _ x grammar.always =
+    subst (λ z. Simpler true z (ms ++ [])) (sym (append-nil ts))
+    (subst (λ z. Simpler true ts z) (sym (append-nil ms)) x)
 if_simpler ts _ ms _ x (grammar.when t us {condition = condition} w y) =
-    operated_is true true ts t us ms (lexemes.Reserved words.If) (condition_lexemes condition) x w refl refl (condition_simpler us condition y)
+    operated_is true true ts t us ms (lexemes.Reserved words.If) (condition_lexemes condition) x w refl refl
+    (condition_simpler us condition y)
 
-pub statement_simpler : (ts : List Token) (statement : Statement) → IsStatement ts statement → Simpler true ts (statement_lexemes statement)
-statement_simpler _ _ (grammar.stated ts us {action = action} {condition = condition} x y) = if_simpler ts us (action_lexemes action) condition (action_simpler ts action x) y
+pub statement_simpler : (ts : List Token) (statement : Statement) → IsStatement ts statement
+    → Simpler true ts (statement_lexemes statement)
+statement_simpler _ _ (grammar.stated ts us {action = action} {condition = condition} x y) =
+    if_simpler ts us (action_lexemes action) condition (action_simpler ts action x) y
 
 demand_simpler : (ts : List Token) (what : Demand) → IsDemand ts what → Simpler true ts (demand_lexemes what)
 demand_simpler _ _ (grammar.relation {ts = ts} {relation = relation} x) = relation_simpler ts relation x
 demand_simpler _ _ (grammar.table {ts = ts} {call = call} x) = call_simpler ts call x
 demand_simpler _ _ (grammar.never {t = t} w) =
-    token_is t (lexemes.Reserved words.False) w record { no_dot = refl; no_period = refl; no_opening = refl; no_not = refl; no_minus = refl; no_star = refl }
+    token_is t (lexemes.Reserved words.False) w
+    record { no_dot = refl; no_period = refl; no_opening = refl; no_not = refl; no_minus = refl; no_star = refl }
 
-pub restriction_simpler : (ts : List Token) (restriction : Restriction) → IsRestriction ts restriction → Simpler true ts (restriction_lexemes restriction)
-restriction_simpler _ _ (grammar.demanded ts us {what = what} {condition = condition} x y) = if_simpler ts us (demand_lexemes what) condition (demand_simpler ts what x) y
+pub restriction_simpler : (ts : List Token) (restriction : Restriction) → IsRestriction ts restriction
+    → Simpler true ts (restriction_lexemes restriction)
+restriction_simpler _ _ (grammar.demanded ts us {what = what} {condition = condition} x y) =
+    if_simpler ts us (demand_lexemes what) condition (demand_simpler ts what x) y

@@ -33,29 +33,35 @@ use Rattle.vc_syntax_print.proofs.Simplified.{Simplified, simplified_lexemes, si
 use Rattle.vc_syntax_print.proofs.DependenciesSimpler.{dependency_simplified}
 
 -- without the period at the end
-unstopped : (kind : Kind) (ts : List Token) (tree : Dependency) → IsDependency kind (ts ++ []) tree → IsDependency kind ts tree
+unstopped : (kind : Kind) (ts : List Token) (tree : Dependency) → IsDependency kind (ts ++ []) tree
+    → IsDependency kind ts tree
 unstopped kind ts tree x = subst (λ z. IsDependency kind z tree) (append-nil ts) x
 
-dependency_again : (kind : Kind) (ts : List Token) (tree : Dependency) → IsDependency kind ts tree → Again (IsDependency kind) bare (dependency_lexemes tree) tree
+dependency_again : (kind : Kind) (ts : List Token) (tree : Dependency) → IsDependency kind ts tree
+    → Again (IsDependency kind) bare (dependency_lexemes tree) tree
 dependency_again _ _ _ (grammar.precondition ts us {x = x} c h) vs e =
     let s : Spelt IsCondition bare_condition vs x = (condition_again ts x c).whole vs e in
     record {
       tree = trees.Precondition s.tree;
-      spelled = unstopped kinds.Precondition vs (trees.Precondition s.tree) (grammar.precondition vs [] s.spelled grammar.nothing);
+      spelled = unstopped kinds.Precondition vs (trees.Precondition s.tree)
+          (grammar.precondition vs [] s.spelled grammar.nothing);
       same = ap trees.Precondition s.same;
     }
 dependency_again _ _ _ (grammar.selection ts us {x = x} c h) vs e =
     let s : Spelt IsCondition bare_condition vs x = (condition_again ts x c).whole vs e in
     record {
       tree = trees.Selection s.tree;
-      spelled = unstopped kinds.Selection vs (trees.Selection s.tree) (grammar.selection vs [] s.spelled grammar.nothing);
+      spelled = unstopped kinds.Selection vs (trees.Selection s.tree)
+          (grammar.selection vs [] s.spelled grammar.nothing);
       same = ap trees.Selection s.same;
     }
 dependency_again _ _ _ (grammar.procedure ts us {xs = xs} l h) vs e =
-    let s : Spelt (IsListed signs.Comma IsStatement) (map bare_statement) vs xs = listed_again signs.Comma IsStatement bare_statement statement_lexemes statement_again ts xs l vs e in
+    let s : Spelt (IsListed signs.Comma IsStatement) (map bare_statement) vs xs
+    = listed_again signs.Comma IsStatement bare_statement statement_lexemes statement_again ts xs l vs e in
     record {
       tree = trees.Procedure s.tree;
-      spelled = unstopped kinds.Procedure vs (trees.Procedure s.tree) (grammar.procedure vs [] s.spelled grammar.nothing);
+      spelled = unstopped kinds.Procedure vs (trees.Procedure s.tree)
+          (grammar.procedure vs [] s.spelled grammar.nothing);
       same = ap trees.Procedure s.same;
     }
 dependency_again _ _ _ (grammar.constraint {ts = ts} {x = x} c) vs e =
@@ -70,7 +76,8 @@ pub spelled_again : (kind : Kind) (text : List ℕ) (tree : Dependency) → Spel
 spelled_again kind text tree x =
     let good : list_all (λ t. is_lexeme t.lexeme) x.tokens ≡ true = tokens_good text x.tokens x.cut in
     let simple : Simplified x.tokens (dependency_lexemes tree) = dependency_simplified kind x.tokens tree x.spelled in
-    let cut : (tokens : List Token) × (tokens_of (text_of (dependency_lexemes tree)) ≡ Ok tokens) × (map (λ token. token.lexeme) tokens ≡ dependency_lexemes tree) =
+    let cut : (tokens : List Token) × (tokens_of (text_of (dependency_lexemes tree)) ≡ Ok tokens)
+    × (map (λ token. token.lexeme) tokens ≡ dependency_lexemes tree) =
     texts_again (dependency_lexemes tree) (simplified_lexemes x.tokens (dependency_lexemes tree) simple good) in
     let kept : Simplified x.tokens (seen cut.0) = subst (λ z. Simplified x.tokens z) (sym cut.2) simple in
     let s : Spelt (IsDependency kind) bare cut.0 tree = dependency_again kind x.tokens tree x.spelled cut.0 cut.2 in (
@@ -86,7 +93,9 @@ spelled_again kind text tree x =
     )
 
 -- and nothing else
-pub spelled_alone : (kind : Kind) (text : List ℕ) (tree again : Dependency) → Spells kind text tree → Spells kind (canonical_text tree) again → bare again ≡ bare tree
+pub spelled_alone : (kind : Kind) (text : List ℕ) (tree again : Dependency) → Spells kind text tree
+    → Spells kind (canonical_text tree) again → bare again ≡ bare tree
 spelled_alone kind text tree again x y =
-    let p : (other : Dependency) × Spells kind (canonical_text tree) other × (bare other ≡ bare tree) = spelled_again kind text tree x in
+    let p : (other : Dependency) × Spells kind (canonical_text tree) other × (bare other ≡ bare tree)
+    = spelled_again kind text tree x in
     ap bare (one_tree kind (canonical_text tree) again p.0 y p.1) ∙ p.2

@@ -17,7 +17,8 @@ use Rattle.vc_syntax_print.specs.TermLexemes.{wrapped, wrapped_if, operand_lexem
 -- what follows the first of several things: each behind a separator
 abbrev pub each_behind : {A : Type 0} → Sign → (A → List Lexeme) → List A → List Lexeme
 each_behind separator lexemes_of [] = []
-each_behind separator lexemes_of (x ∷ xs) = lexemes.Sign separator ∷ (lexemes_of x ++ each_behind separator lexemes_of xs)
+each_behind separator lexemes_of (x ∷ xs) = lexemes.Sign separator
+    ∷ (lexemes_of x ++ each_behind separator lexemes_of xs)
 
 -- several things with a separator between them
 abbrev pub separated : {A : Type 0} → Sign → (A → List Lexeme) → List A → List Lexeme
@@ -48,7 +49,8 @@ relator_sign relators.GreaterEqual = signs.GreaterEqual
 
 -- A <= 1, or A IN ( 1 , 2 )
 abbrev pub relation_lexemes : Relation → List Lexeme
-relation_lexemes (Compared left relator right) = term_lexemes left ++ lexemes.Sign (relator_sign relator) ∷ term_lexemes right
+relation_lexemes (Compared left relator right) = term_lexemes left ++ lexemes.Sign (relator_sign relator)
+    ∷ term_lexemes right
 relation_lexemes (Within operand items) =
     operand_lexemes operand ++ lexemes.Reserved words.In ∷ wrapped (separated signs.Comma item_lexemes items)
 
@@ -65,11 +67,15 @@ is_joined condition = false
 
 -- a condition, in parentheses where OR or AND stands beside it or NOT before it and they would take less than all of it
 abbrev pub condition_lexemes : Condition → List Lexeme
-condition_lexemes (Or left right) = condition_lexemes left ++ lexemes.Reserved words.Or ∷ wrapped_if (is_or right) (condition_lexemes right)
+condition_lexemes (Or left right) = condition_lexemes left ++ lexemes.Reserved words.Or
+    ∷ wrapped_if (is_or right) (condition_lexemes right)
 condition_lexemes (And left right) =
-    wrapped_if (is_or left) (condition_lexemes left) ++ lexemes.Reserved words.And ∷ wrapped_if (is_joined right) (condition_lexemes right)
-condition_lexemes (Not condition) = lexemes.Reserved words.Not ∷ wrapped_if (is_joined condition) (condition_lexemes condition)
+    wrapped_if (is_or left) (condition_lexemes left) ++ lexemes.Reserved words.And
+    ∷ wrapped_if (is_joined right) (condition_lexemes right)
+condition_lexemes (Not condition) = lexemes.Reserved words.Not
+    ∷ wrapped_if (is_joined condition) (condition_lexemes condition)
 condition_lexemes (Related relation) = relation_lexemes relation
 condition_lexemes (Specified operand) = lexemes.Reserved words.Specified ∷ operand_lexemes operand
 condition_lexemes (PartOf part whole) =
-    lexemes.Reserved words.PartOf ∷ wrapped (lexemes.Variable part.name ∷ lexemes.Sign signs.Comma ∷ lexemes.Variable whole.name ∷ [])
+    lexemes.Reserved words.PartOf
+    ∷ wrapped (lexemes.Variable part.name ∷ lexemes.Sign signs.Comma ∷ lexemes.Variable whole.name ∷ [])

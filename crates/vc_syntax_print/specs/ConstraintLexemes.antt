@@ -23,22 +23,27 @@ class_type = record { millionths = pos 300000000 }
 
 -- IS_A ( 300 ) C, or IS_OBJECT ( MATERIAL ) ( 300 ) ( NR = 'M' )
 abbrev pub kind_lexemes : ObjectKind → List Lexeme
-kind_lexemes (Class name) = lexemes.Reserved words.IsA ∷ (wrapped (lexemes.Number class_type ∷ []) ++ lexeme_of_word name.name ∷ [])
+kind_lexemes (Class name) = lexemes.Reserved words.IsA
+    ∷ (wrapped (lexemes.Number class_type ∷ []) ++ lexeme_of_word name.name ∷ [])
 kind_lexemes (Material text) =
-    lexemes.Reserved words.IsObject ∷ (wrapped (lexemes.Reserved words.Material ∷ []) ++ (wrapped (lexemes.Number class_type ∷ [])
+    lexemes.Reserved words.IsObject
+    ∷ (wrapped (lexemes.Reserved words.Material ∷ []) ++ (wrapped (lexemes.Number class_type ∷ [])
     ++ wrapped (lexemes.Reserved words.Nr ∷ lexemes.Sign signs.Equal ∷ lexemes.Text text.text ∷ [])))
 
 -- ?V = C
 abbrev pub alias_lexemes : Alias → List Lexeme
-alias_lexemes alias = lexemes.Variable alias.variable.name ∷ lexemes.Sign signs.Equal ∷ lexemes.Name alias.characteristic.name ∷ []
+alias_lexemes alias = lexemes.Variable alias.variable.name ∷ lexemes.Sign signs.Equal
+    ∷ lexemes.Name alias.characteristic.name ∷ []
 
 -- WHERE ?V = C ; ?W = D, or nothing
 abbrev pub where_lexemes : List Alias → List Lexeme
 where_lexemes [] = []
-where_lexemes (alias ∷ aliases) = lexemes.Reserved words.Where ∷ separated signs.Semicolon alias_lexemes (alias ∷ aliases)
+where_lexemes (alias ∷ aliases) = lexemes.Reserved words.Where
+    ∷ separated signs.Semicolon alias_lexemes (alias ∷ aliases)
 
 abbrev pub object_lexemes : Object → List Lexeme
-object_lexemes object = lexemes.Variable object.variable.name ∷ (kind_lexemes object.kind ++ where_lexemes object.aliases)
+object_lexemes object = lexemes.Variable object.variable.name
+    ∷ (kind_lexemes object.kind ++ where_lexemes object.aliases)
 
 -- a section: its word, a colon, what stands in it, and a period
 abbrev pub section_lexemes : Reserved → List Lexeme → List Lexeme
@@ -50,7 +55,8 @@ condition_section (Some condition) = section_lexemes words.Condition (condition_
 
 abbrev pub inference_section : List Operand → List Lexeme
 inference_section [] = []
-inference_section (operand ∷ operands) = section_lexemes words.Inferences (separated signs.Comma operand_lexemes (operand ∷ operands))
+inference_section (operand ∷ operands) =
+    section_lexemes words.Inferences (separated signs.Comma operand_lexemes (operand ∷ operands))
 
 -- the sections, those that say nothing left out
 abbrev pub constraint_lexemes : Constraint → List Lexeme

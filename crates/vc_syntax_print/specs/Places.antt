@@ -12,7 +12,11 @@ use Rattle.vc_syntax_terms.specs.declared.tree.ObjectKind.{ObjectKind}
 use Rattle.vc_syntax_terms.specs.declared.tree.ObjectKind.TheVariants as kinds
 use Rattle.vc_syntax_terms.specs.declared.tree.Alias.{Alias}
 use Rattle.vc_syntax_terms.specs.declared.tree.Object.{Object}
-use Rattle.vc_syntax_terms.specs.Trees.{Term, Number, Text, Operand as Operand', Negated, Combined, Applied, SumOfParts, CountOfParts, Relation, Compared, Within, Condition, Or, And, Not, Related, Specified, PartOf, Binding, TableCall, Action, Assign, SetDefault, DelDefault, Calls, Statement, Demand, Relates, Holds, Never, Restriction, Constraint, Dependency, Precondition, Selection, Procedure, Constrains, Counts}
+use Rattle.vc_syntax_terms.specs.Trees.{Term, Number, Text, Operand as Operand', Negated, Combined, Applied, SumOfParts}
+use Rattle.vc_syntax_terms.specs.Trees.{CountOfParts, Relation, Compared, Within, Condition, Or, And, Not, Related}
+use Rattle.vc_syntax_terms.specs.Trees.{Specified, PartOf, Binding, TableCall, Action, Assign, SetDefault, DelDefault}
+use Rattle.vc_syntax_terms.specs.Trees.{Calls, Statement, Demand, Relates, Holds, Never, Restriction, Constraint}
+use Rattle.vc_syntax_terms.specs.Trees.{Dependency, Precondition, Selection, Procedure, Constrains, Counts}
 
 abbrev pub bare_name : NameLeaf → NameLeaf
 bare_name leaf = record { name = leaf.name; start = 0; end = 0 }
@@ -72,7 +76,8 @@ bare_action (DelDefault name term) = DelDefault (bare_name name) (bare_term term
 bare_action (Calls call) = Calls (bare_call call)
 
 abbrev pub bare_statement : Statement → Statement
-bare_statement statement = record { action = bare_action statement.action; condition = option_map bare_condition statement.condition }
+bare_statement statement =
+    record { action = bare_action statement.action; condition = option_map bare_condition statement.condition }
 
 abbrev pub bare_demand : Demand → Demand
 bare_demand (Relates relation) = Relates (bare_relation relation)
@@ -80,7 +85,8 @@ bare_demand (Holds call) = Holds (bare_call call)
 bare_demand Never = Never
 
 abbrev pub bare_restriction : Restriction → Restriction
-bare_restriction restriction = record { demand = bare_demand restriction.demand; condition = option_map bare_condition restriction.condition }
+bare_restriction restriction =
+    record { demand = bare_demand restriction.demand; condition = option_map bare_condition restriction.condition }
 
 abbrev pub bare_kind : ObjectKind → ObjectKind
 bare_kind (kinds.Class name) = kinds.Class (bare_name name)
@@ -90,7 +96,13 @@ abbrev pub bare_alias : Alias → Alias
 bare_alias alias = record { variable = bare_name alias.variable; characteristic = bare_name alias.characteristic }
 
 abbrev pub bare_object : Object → Object
-bare_object object = record { variable = bare_name object.variable; kind = bare_kind object.kind; aliases = map bare_alias object.aliases }
+bare_object object =
+    record {
+      variable = bare_name object.variable;
+      kind = bare_kind object.kind;
+      aliases =
+          map bare_alias object.aliases;
+    }
 
 abbrev pub bare_constraint : Constraint → Constraint
 bare_constraint constraint = record {

@@ -7,7 +7,8 @@ use Rattle.vc_syntax_tokens.specs.declared.token.Dollar.TheVariants as dollars
 use Rattle.vc_syntax_tokens.specs.declared.token.Reserved.TheVariants as words
 use Rattle.vc_syntax_tokens.specs.Lexemes.{lexeme_of_word}
 use Rattle.vc_syntax_terms.specs.declared.tree.NameLeaf.{NameLeaf}
-use Rattle.vc_syntax_terms.specs.Trees.{Term, Condition, Binding, TableCall, Action, Assign, SetDefault, DelDefault, Calls, Statement, Demand, Relates, Holds, Never, Restriction}
+use Rattle.vc_syntax_terms.specs.Trees.{Term, Condition, Binding, TableCall, Action, Assign, SetDefault, DelDefault}
+use Rattle.vc_syntax_terms.specs.Trees.{Calls, Statement, Demand, Relates, Holds, Never, Restriction}
 use Rattle.vc_syntax_print.specs.TermLexemes.{wrapped, self_and_name, term_lexemes}
 use Rattle.vc_syntax_print.specs.ConditionLexemes.{separated, relation_lexemes, condition_lexemes}
 
@@ -18,15 +19,18 @@ binding_lexemes binding = lexemes.Name binding.column.name ∷ lexemes.Sign sign
 -- TABLE T ( C = 1 , D = E )
 abbrev pub call_lexemes : TableCall → List Lexeme
 call_lexemes call =
-    lexemes.Reserved words.Table ∷ lexeme_of_word call.table.name ∷ wrapped (separated signs.Comma binding_lexemes call.bindings)
+    lexemes.Reserved words.Table ∷ lexeme_of_word call.table.name
+    ∷ wrapped (separated signs.Comma binding_lexemes call.bindings)
 
 -- ( $SELF , C , 1 )
 abbrev pub default_lexemes : NameLeaf → Term → List Lexeme
-default_lexemes name term = self_and_name name ++ lexemes.Sign signs.Comma ∷ (term_lexemes term ++ lexemes.Sign signs.CloseParen ∷ [])
+default_lexemes name term = self_and_name name ++ lexemes.Sign signs.Comma
+    ∷ (term_lexemes term ++ lexemes.Sign signs.CloseParen ∷ [])
 
 abbrev pub action_lexemes : Action → List Lexeme
 action_lexemes (Assign name term) =
-    lexemes.Dollar dollars.Itself ∷ lexemes.Sign signs.Dot ∷ lexemes.Name name.name ∷ lexemes.Sign signs.Equal ∷ term_lexemes term
+    lexemes.Dollar dollars.Itself ∷ lexemes.Sign signs.Dot ∷ lexemes.Name name.name ∷ lexemes.Sign signs.Equal
+    ∷ term_lexemes term
 action_lexemes (SetDefault name term) = lexemes.Dollar dollars.SetDefault ∷ default_lexemes name term
 action_lexemes (DelDefault name term) = lexemes.Dollar dollars.DelDefault ∷ default_lexemes name term
 action_lexemes (Calls call) = call_lexemes call

@@ -17,7 +17,8 @@ use Rattle.vc_syntax_terms.specs.declared.tree.Operator.{Operator}
 use Rattle.vc_syntax_terms.specs.declared.tree.Operator.TheVariants as operators
 use Rattle.vc_syntax_terms.specs.declared.tree.Function.{Function}
 use Rattle.vc_syntax_terms.specs.declared.tree.Function.TheVariants as functions
-use Rattle.vc_syntax_terms.specs.Trees.{Term, Number, Text, Operand as Operand', Negated, Combined, Applied, SumOfParts, CountOfParts}
+use Rattle.vc_syntax_terms.specs.Trees.{Term, Number, Text, Operand as Operand', Negated, Combined, Applied, SumOfParts}
+use Rattle.vc_syntax_terms.specs.Trees.{CountOfParts}
 
 -- something between parentheses
 abbrev pub wrapped : List Lexeme → List Lexeme
@@ -50,8 +51,10 @@ operator_sign operators.Over = signs.Slash
 -- C, $SELF.C, ?X.C or ?V
 abbrev pub operand_lexemes : Operand → List Lexeme
 operand_lexemes (operands.Plain name) = lexemes.Name name.name ∷ []
-operand_lexemes (operands.Owned owner name) = lexemes.Dollar (owner_word owner) ∷ lexemes.Sign signs.Dot ∷ lexemes.Name name.name ∷ []
-operand_lexemes (operands.Member variable name) = lexemes.Variable variable.name ∷ lexemes.Sign signs.Dot ∷ lexemes.Name name.name ∷ []
+operand_lexemes (operands.Owned owner name) = lexemes.Dollar (owner_word owner) ∷ lexemes.Sign signs.Dot
+    ∷ lexemes.Name name.name ∷ []
+operand_lexemes (operands.Member variable name) = lexemes.Variable variable.name ∷ lexemes.Sign signs.Dot
+    ∷ lexemes.Name name.name ∷ []
 operand_lexemes (operands.Variable name) = lexemes.Variable name.name ∷ []
 
 -- `+` and `-` bind looser than `*` and `/`
@@ -81,16 +84,20 @@ right_needs operator term = if is_additive operator then is_sum term else is_com
 
 -- ( $SELF , C )
 abbrev pub self_and_name : NameLeaf → List Lexeme
-self_and_name name = lexemes.Sign signs.OpenParen ∷ lexemes.Dollar dollars.Itself ∷ lexemes.Sign signs.Comma ∷ lexemes.Name name.name ∷ []
+self_and_name name = lexemes.Sign signs.OpenParen ∷ lexemes.Dollar dollars.Itself ∷ lexemes.Sign signs.Comma
+    ∷ lexemes.Name name.name ∷ []
 
--- a term, in parentheses where a minus stands before it or an operator beside it and they would take less than all of it
+-- a term, in parentheses where a minus stands before it or an operator beside it and they would take less than all of
+-- it
 abbrev pub term_lexemes : Term → List Lexeme
 term_lexemes (Number leaf) = lexemes.Number leaf.number ∷ []
 term_lexemes (Text leaf) = lexemes.Text leaf.text ∷ []
 term_lexemes (Operand' operand) = operand_lexemes operand
 term_lexemes (Negated term) = lexemes.Sign signs.Minus ∷ wrapped_if (is_combined term) (term_lexemes term)
 term_lexemes (Combined left operator right) =
-    wrapped_if (left_needs operator left) (term_lexemes left) ++ lexemes.Sign (operator_sign operator) ∷ wrapped_if (right_needs operator right) (term_lexemes right)
+    wrapped_if (left_needs operator left) (term_lexemes left) ++ lexemes.Sign (operator_sign operator)
+    ∷ wrapped_if (right_needs operator right) (term_lexemes right)
 term_lexemes (Applied function term) = lexemes.Reserved (function_word function) ∷ wrapped (term_lexemes term)
-term_lexemes (SumOfParts name) = lexemes.Dollar dollars.SumParts ∷ (self_and_name name ++ lexemes.Sign signs.CloseParen ∷ [])
+term_lexemes (SumOfParts name) = lexemes.Dollar dollars.SumParts
+    ∷ (self_and_name name ++ lexemes.Sign signs.CloseParen ∷ [])
 term_lexemes CountOfParts = lexemes.Dollar dollars.CountParts ∷ wrapped (lexemes.Dollar dollars.Itself ∷ [])

@@ -9,8 +9,3 @@ pub mod statements;
 pub mod terms;
 
 pub use dependencies::{canonical_text_is_read_again, print_dependency, print_term};
-
-#[cfg(test)]
-mod model_tests;
-#[cfg(test)]
-mod tests;

@@ -14,7 +14,8 @@ use Rattle.vc_syntax_terms.specs.declared.tree.Item.TheVariants as items
 use Rattle.vc_syntax_terms.specs.declared.tree.Relator.{Relator}
 use Rattle.vc_syntax_terms.specs.declared.tree.Relator.TheVariants as relators
 use Rattle.vc_syntax_terms.specs.Leaves.{text_of, number_of, variable_of, after_sign, after_word}
-use Rattle.vc_syntax_terms.specs.Reading.{Reader, then, either, or_else, made, leaving, leaving_as, closed, grouped, word, chain, listed}
+use Rattle.vc_syntax_terms.specs.Reading.{Reader, then, either, or_else, made, leaving, leaving_as, closed, grouped}
+use Rattle.vc_syntax_terms.specs.Reading.{word, chain, listed}
 use Rattle.vc_syntax_terms.specs.TermReading.{operand, sum}
 use Rattle.vc_syntax_terms.specs.Trees as trees
 use Rattle.vc_syntax_terms.specs.Trees.{Relation, Condition}
@@ -54,11 +55,13 @@ abbrev pub with_sign : Bool → NumberLeaf → SignedNumber
 with_sign negative leaf = record { negative = negative; leaf = leaf }
 
 abbrev pub signed_number : Reader SignedNumber
-signed_number ts = either (after_sign signs.Minus ts) (made (with_sign false) (number_ahead ts)) (λ rest. made (with_sign true) (number_ahead rest))
+signed_number ts = either (after_sign signs.Minus ts) (made (with_sign false) (number_ahead ts))
+    (λ rest. made (with_sign true) (number_ahead rest))
 
 -- a number, or an interval
 abbrev pub numbers : Reader Item
-numbers ts = then (signed_number ts) (λ low. either (after_sign signs.Minus low.1) (Some (items.Number low.0, low.1)) (λ rest.
+numbers ts = then (signed_number ts)
+    (λ low. either (after_sign signs.Minus low.1) (Some (items.Number low.0, low.1)) (λ rest.
     made (items.Interval low.0) (signed_number rest)))
 
 abbrev pub item : Reader Item
@@ -66,7 +69,9 @@ item ts = or_else (made items.Text (text_ahead ts)) (numbers ts)
 
 -- the terms of a relation are nested less deep than the bound
 abbrev pub comparison : ℕ → Reader Relation
-comparison left ts = then (sum left ts) (λ first. then (relator first.1) (λ sign. made (trees.Compared first.0 sign.0) (sum left sign.1)))
+comparison left ts =
+    then (sum left ts) (λ first.
+    then (relator first.1) (λ sign. made (trees.Compared first.0 sign.0) (sum left sign.1)))
 
 abbrev pub within : Reader Relation
 within ts = then (operand ts) (λ found. then (after_word words.In found.1) (λ rest.
@@ -81,7 +86,8 @@ part_of ts = then (after_sign signs.OpenParen ts) (λ first. then (variable_ahea
     then (after_sign signs.Comma part.1) (λ second. made (trees.PartOf part.0) (closed (variable_ahead second)))))
 
 abbrev pub specified_behind : Reader Condition
-specified_behind ts = then (operand ts) (λ found. leaving_as (trees.Specified found.0) (after_word words.Specified found.1))
+specified_behind ts =
+    then (operand ts) (λ found. leaving_as (trees.Specified found.0) (after_word words.Specified found.1))
 
 -- a condition that begins with an operand or a term
 abbrev pub plain_condition : ℕ → Reader Condition
@@ -92,7 +98,8 @@ abbrev pub negation_in : ℕ → Reader Condition → Reader Condition → Lexem
 negation_in left negation condition (lexemes.Reserved words.Not) t ts = made trees.Not (negation ts)
 negation_in left negation condition (lexemes.Reserved words.Specified) t ts = made trees.Specified (operand ts)
 negation_in left negation condition (lexemes.Reserved words.PartOf) t ts = part_of ts
-negation_in left negation condition (lexemes.Sign signs.OpenParen) t ts = or_else (made trees.Related (relation left (t ∷ ts))) (closed (condition ts))
+negation_in left negation condition (lexemes.Sign signs.OpenParen) t ts =
+    or_else (made trees.Related (relation left (t ∷ ts))) (closed (condition ts))
 negation_in left negation condition _ t ts = plain_condition left (t ∷ ts)
 
 abbrev pub negation_by : ℕ → Reader Condition → Reader Condition → Reader Condition

@@ -24,7 +24,8 @@ name_of t = name_in t.lexeme t.start t.end
 -- a name that may be a reserved word, as that of a table or a class
 abbrev pub any_name_in : Lexeme → ℕ → ℕ → Option NameLeaf
 any_name_in (lexemes.Name name) start end = Some (record { name = name; start = start; end = end })
-any_name_in (lexemes.Reserved word) start end = Some (record { name = reserved_spelling word; start = start; end = end })
+any_name_in (lexemes.Reserved word) start end =
+    Some (record { name = reserved_spelling word; start = start; end = end })
 any_name_in _ start end = None
 
 abbrev pub any_name_of : Token → Option NameLeaf

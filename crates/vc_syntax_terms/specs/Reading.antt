@@ -1,5 +1,6 @@
 -- How tokens are read: at their front, giving what was read and the tokens after it.
-use Rattle.std.specs.Prelude.{◌≡◌, ℕ, zero, suc, List, [], ◌∷◌, ◌++◌, length, Option, Some, None, option_map, Result, Ok, Err}
+use Rattle.std.specs.Prelude.{◌≡◌, ℕ, zero, suc, List, [], ◌∷◌, ◌++◌, length, Option, Some, None, option_map, Result}
+use Rattle.std.specs.Prelude.{Ok, Err}
 use Rattle.vc_syntax_terms.specs.declared.reading.ReadFault.{ReadFault}
 use Rattle.vc_syntax_terms.specs.declared.reading.ReadFault.TheVariants.{Ungrammatical, OutOfMemory}
 use Rattle.vc_syntax_tokens.specs.declared.token.Token.{Token}

@@ -1,4 +1,5 @@
--- The grammar of operands and terms, a constructor for each production. The tokens stand left, the tree that they spell right.
+-- The grammar of operands and terms, a constructor for each production. The tokens stand left, the tree that they spell
+-- right.
 use Rattle.std.specs.Prelude.{◌≡◌, List, [], ◌∷◌, ◌++◌, Some}
 use Rattle.vc_syntax_tokens.specs.declared.token.Token.{Token}
 use Rattle.vc_syntax_tokens.specs.declared.token.Lexeme.TheVariants as lexemes
@@ -74,15 +75,18 @@ pub data IsOperand : List Token → Operand → Type 0 where
 
 -- `( $SELF , name` and `( $SELF )`
 pub data IsSelfAndName : List Token → NameLeaf → Type 0 where
-  self_and_name : {opening self comma t : Token} {name : NameLeaf} → IsSign OpenParen opening → IsDollar Itself self → IsSign Comma comma
+  self_and_name : {opening self comma t : Token} {name : NameLeaf} → IsSign OpenParen opening → IsDollar Itself self
+      → IsSign Comma comma
       → IsName t name → IsSelfAndName (opening ∷ self ∷ comma ∷ t ∷ []) name
 
 pub data IsOnlySelf : List Token → Type 0 where
-  only_self : {opening self closing : Token} → IsSign OpenParen opening → IsDollar Itself self → IsSign CloseParen closing
+  only_self : {opening self closing : Token} → IsSign OpenParen opening → IsDollar Itself self
+      → IsSign CloseParen closing
       → IsOnlySelf (opening ∷ self ∷ closing ∷ [])
 
 mutual
-  -- factor = number | text | operand | - factor | ( term ) | function ( term ) | $SUM_PARTS ( $SELF , name ) | $COUNT_PARTS ( $SELF )
+  -- factor = number | text | operand | - factor | ( term ) | function ( term ) | $SUM_PARTS ( $SELF , name ) |
+  -- $COUNT_PARTS ( $SELF )
   pub data IsFactor : List Token → Term → Type 0 where
     number : {t : Token} {leaf : NumberLeaf} → IsNumber t leaf → IsFactor (t ∷ []) (trees.Number leaf)
     text : {t : Token} {leaf : TextLeaf} → IsText t leaf → IsFactor (t ∷ []) (trees.Text leaf)
@@ -90,22 +94,27 @@ mutual
     negated : (minus : Token) (ts : List Token) {term : Term} → IsSign Minus minus → IsFactor ts term
         → IsFactor (minus ∷ ts) (trees.Negated term)
     grouped : (opening : Token) (ts : List Token) (closing : Token) {term : Term}
-        → IsSign OpenParen opening → IsSum ts term → IsSign CloseParen closing → IsFactor (opening ∷ (ts ++ closing ∷ [])) term
+        → IsSign OpenParen opening → IsSum ts term → IsSign CloseParen closing
+        → IsFactor (opening ∷ (ts ++ closing ∷ [])) term
     applied : (t opening : Token) (ts : List Token) (closing : Token) {function : Function} {term : Term}
         → IsFunction t function → IsSign OpenParen opening → IsSum ts term → IsSign CloseParen closing
         → IsFactor (t ∷ opening ∷ (ts ++ closing ∷ [])) (trees.Applied function term)
     sum_of_parts : (t : Token) (ts : List Token) (closing : Token) {name : NameLeaf}
-        → IsDollar SumParts t → IsSelfAndName ts name → IsSign CloseParen closing → IsFactor (t ∷ (ts ++ closing ∷ [])) (trees.SumOfParts name)
-    count_of_parts : (t : Token) (ts : List Token) → IsDollar CountParts t → IsOnlySelf ts → IsFactor (t ∷ ts) trees.CountOfParts
+        → IsDollar SumParts t → IsSelfAndName ts name → IsSign CloseParen closing
+        → IsFactor (t ∷ (ts ++ closing ∷ [])) (trees.SumOfParts name)
+    count_of_parts : (t : Token) (ts : List Token) → IsDollar CountParts t → IsOnlySelf ts
+        → IsFactor (t ∷ ts) trees.CountOfParts
 
   -- product = factor { (* | /) factor }, grouped to the left
   pub data IsProduct : List Token → Term → Type 0 where
     factor : {ts : List Token} {term : Term} → IsFactor ts term → IsProduct ts term
     multiplied : (ts : List Token) (t : Token) (us : List Token) {left right : Term} {operator : Operator}
-        → IsProduct ts left → IsProductOperator t operator → IsFactor us right → IsProduct (ts ++ t ∷ us) (trees.Combined left operator right)
+        → IsProduct ts left → IsProductOperator t operator → IsFactor us right
+        → IsProduct (ts ++ t ∷ us) (trees.Combined left operator right)
 
   -- term = product { (+ | -) product }, grouped to the left
   pub data IsSum : List Token → Term → Type 0 where
     product : {ts : List Token} {term : Term} → IsProduct ts term → IsSum ts term
     added : (ts : List Token) (t : Token) (us : List Token) {left right : Term} {operator : Operator}
-        → IsSum ts left → IsSumOperator t operator → IsProduct us right → IsSum (ts ++ t ∷ us) (trees.Combined left operator right)
+        → IsSum ts left → IsSumOperator t operator → IsProduct us right
+        → IsSum (ts ++ t ∷ us) (trees.Combined left operator right)

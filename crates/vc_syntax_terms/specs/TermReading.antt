@@ -101,7 +101,8 @@ plain_factor _ t ts = made trees.Operand (operand_in t.lexeme t ts)
 abbrev pub factor_in : Reader Term → Reader Term → Lexeme → Token → Reader Term
 factor_in factor sum (lexemes.Sign signs.Minus) t ts = made trees.Negated (factor ts)
 factor_in factor sum (lexemes.Sign signs.OpenParen) t ts = closed (sum ts)
-factor_in factor sum (lexemes.Reserved word) t ts = then (function_of word) (λ function. made (trees.Applied function) (grouped sum ts))
+factor_in factor sum (lexemes.Reserved word) t ts =
+    then (function_of word) (λ function. made (trees.Applied function) (grouped sum ts))
 factor_in factor sum lexeme t ts = plain_factor lexeme t ts
 
 abbrev pub factor_by : Reader Term → Reader Term → Reader Term

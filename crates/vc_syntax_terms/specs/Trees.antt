@@ -22,8 +22,14 @@ use Rattle.vc_syntax_terms.specs.declared.tree.Dependency.{Dependency as StoredD
 use Rattle.vc_syntax_terms.specs.declared.tree.Dependency.TheVariants as stored_dependencies
 use Rattle.vc_syntax_terms.specs.declared.tree.Relation.{Relation as StoredRelation}
 use Rattle.vc_syntax_terms.specs.declared.tree.Relation.TheVariants.{Compared as StoredCompared, Within as StoredWithin}
-use Rattle.vc_syntax_terms.specs.declared.tree.Condition.{Condition as StoredCondition, Or' as StoredOr, And' as StoredAnd, Not' as StoredNot, Relation as StoredRelated, Specified as StoredSpecified, PartOf as StoredPartOf}
-use Rattle.vc_syntax_terms.specs.declared.tree.Term.{Term as StoredTerm, Number as StoredNumber, Text as StoredText, Operand as StoredOperand, Negated' as StoredNegated, Combined' as StoredCombined, Applied' as StoredApplied, SumOfParts as StoredSum, CountOfParts as StoredCount}
+use Rattle.vc_syntax_terms.specs.declared.tree.Condition.{Condition as StoredCondition, Or' as StoredOr}
+use Rattle.vc_syntax_terms.specs.declared.tree.Condition.{And' as StoredAnd, Not' as StoredNot}
+use Rattle.vc_syntax_terms.specs.declared.tree.Condition.{Relation as StoredRelated, Specified as StoredSpecified}
+use Rattle.vc_syntax_terms.specs.declared.tree.Condition.{PartOf as StoredPartOf}
+use Rattle.vc_syntax_terms.specs.declared.tree.Term.{Term as StoredTerm, Number as StoredNumber, Text as StoredText}
+use Rattle.vc_syntax_terms.specs.declared.tree.Term.{Operand as StoredOperand, Negated' as StoredNegated}
+use Rattle.vc_syntax_terms.specs.declared.tree.Term.{Combined' as StoredCombined, Applied' as StoredApplied}
+use Rattle.vc_syntax_terms.specs.declared.tree.Term.{SumOfParts as StoredSum, CountOfParts as StoredCount}
 
 -- a term
 pub data Term : Type 0 where
@@ -119,7 +125,12 @@ action_of (stored_actions.DelDefault name term) = DelDefault name (term_of term.
 action_of (stored_actions.Table call) = Calls (table_call_of call)
 
 abbrev pub statement_of : StoredStatement → Statement
-statement_of statement = record { action = action_of statement.action; condition = option_map (λ boxed. condition_of boxed.value) statement.condition }
+statement_of statement =
+    record {
+      action = action_of statement.action;
+      condition =
+          option_map (λ boxed. condition_of boxed.value) statement.condition;
+    }
 
 abbrev pub demand_of : StoredDemand → Demand
 demand_of (stored_demands.Relation relation) = Relates (relation_of relation)
@@ -127,7 +138,12 @@ demand_of (stored_demands.Table call) = Holds (table_call_of call)
 demand_of stored_demands.False = Never
 
 abbrev pub restriction_of : StoredRestriction → Restriction
-restriction_of restriction = record { demand = demand_of restriction.demand; condition = option_map (λ boxed. condition_of boxed.value) restriction.condition }
+restriction_of restriction =
+    record {
+      demand = demand_of restriction.demand;
+      condition =
+          option_map (λ boxed. condition_of boxed.value) restriction.condition;
+    }
 
 -- a constraint
 pub record Constraint : Type 0 where

@@ -4,6 +4,4 @@
 pub mod conditions;
 pub mod reading;
 pub mod terms;
-#[cfg(test)]
-mod tests;
 pub mod tree;

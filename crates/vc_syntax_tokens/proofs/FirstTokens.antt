@@ -1,5 +1,6 @@
 -- The first tokens of a text tell as much of its limits as all of them.
-use Rattle.std.proofs.Common.{◌≡◌, ℕ, ◌<◌, ◌≤◌, length-append, append-nil, Bool, true, false, cond, List, [], ◌∷◌, ◌++◌, length, take, suc, zero, Result, Ok, Err, refl, ap, sym, ◌∙◌, arith}
+use Rattle.std.proofs.Common.{◌≡◌, ℕ, ◌<◌, ◌≤◌, length-append, append-nil, Bool, true, false, cond, List, [], ◌∷◌, ◌++◌}
+use Rattle.std.proofs.Common.{length, take, suc, zero, Result, Ok, Err, refl, ap, sym, ◌∙◌, arith}
 use Rattle.std.specs.Prelude.{nat_lt, min}
 use Rattle.std.proofs.lemmas.List.{length-take, take-append-le, take_all}
 use Rattle.std.proofs.lemmas.Bool.{ltb-false}
@@ -61,7 +62,8 @@ gives_itself (Err OutOfMemory) there e = tt
 gives_itself (Err (Bad kind start)) there e = sym e
 
 -- a token more, where there is room for it and where there is none
-pub kept_token : (tokens : List Token) (token : Token) → length tokens ≤ 4000 → take 4001 (tokens ++ token ∷ []) ≡ tokens ++ token ∷ []
+pub kept_token : (tokens : List Token) (token : Token) → length tokens ≤ 4000
+    → take 4001 (tokens ++ token ∷ []) ≡ tokens ++ token ∷ []
 kept_token tokens token few =
     take_all 4001 (tokens ++ token ∷ []) (omega (arith, length-append tokens (token ∷ []), few))
 
@@ -74,7 +76,8 @@ pub first_are_few : (tokens : List Token) → length (take 4001 tokens) ≤ 4001
 first_are_few tokens = omega (arith, length-take 4001 tokens)
 
 -- at the end of the text
-pub first_at_end : (tokens : List Token) (place : Place) (start : ℕ) (rest : List ℕ) → length rest < 1 → length tokens ≤ 4001
+pub first_at_end : (tokens : List Token) (place : Place) (start : ℕ) (rest : List ℕ) → length rest < 1
+    → length tokens ≤ 4001
     → first_ones (after tokens (tokens_from place start 0 rest)) ≡ Ok tokens
 first_at_end tokens place start [] ends few =
     ap Ok (ap (take 4001) (append-nil tokens) ∙ take_all 4001 tokens few)

@@ -1,5 +1,7 @@
 -- The lexeme at the front of a text, by its first byte, and how many bytes it takes.
-use Rattle.std.specs.Prelude.{ℕ, ◌+◌, ◌≡◌, Bool, true, false, ◌==◌, ◌&&◌, not, nat_lt, nat_le, Option, Some, None, option_map, Result, Ok, Err, List, [], ◌∷◌, ◌++◌, take, drop, map, count_by, if◌then◌else◌}
+use Rattle.std.specs.Prelude.{ℕ, ◌+◌, ◌≡◌, Bool, true, false, ◌==◌, ◌&&◌, not, nat_lt, nat_le, Option, Some, None}
+use Rattle.std.specs.Prelude.{option_map, Result, Ok, Err, List, [], ◌∷◌, ◌++◌, take, drop, map, count_by}
+use Rattle.std.specs.Prelude.{if◌then◌else◌}
 use Rattle.std.specs.List.{prefix_len}
 use Rattle.std.specs.Char.{is_ascii_digit, to_ascii_uppercase}
 use Rattle.vc_value.specs.Names.{begins_name, is_name_byte}
@@ -7,13 +9,15 @@ use Rattle.vc_value.specs.Decimals.{read_number}
 use Rattle.vc_value.specs.declared.decimal.Dec.{Dec}
 use Rattle.vc_value.specs.declared.decimal.NumFault.{NumFault}
 use Rattle.vc_syntax_tokens.specs.declared.token.Lexeme.{Lexeme}
-use Rattle.vc_syntax_tokens.specs.declared.token.Lexeme.TheVariants.{Name, Reserved, Variable, Dollar, Text, Number, Sign}
+use Rattle.vc_syntax_tokens.specs.declared.token.Lexeme.TheVariants.{Name, Reserved, Variable, Dollar, Text, Number}
+use Rattle.vc_syntax_tokens.specs.declared.token.Lexeme.TheVariants.{Sign}
 use Rattle.vc_syntax_tokens.specs.declared.token.Reserved as words
 use Rattle.vc_syntax_tokens.specs.declared.token.Dollar as words_of_dollar
 use Rattle.vc_syntax_tokens.specs.declared.token.Sign as signs
 use Rattle.vc_syntax_tokens.specs.declared.token.Sign.TheVariants.{Dot, Period}
 use Rattle.vc_syntax_tokens.specs.declared.fault.SyntaxKind.{SyntaxKind}
-use Rattle.vc_syntax_tokens.specs.declared.fault.SyntaxKind.TheVariants.{BadByte, OpenText, TextTooLong, NumberTooWide, NameTooLong, UnknownWord}
+use Rattle.vc_syntax_tokens.specs.declared.fault.SyntaxKind.TheVariants.{BadByte, OpenText, TextTooLong, NumberTooWide}
+use Rattle.vc_syntax_tokens.specs.declared.fault.SyntaxKind.TheVariants.{NameTooLong, UnknownWord}
 use Rattle.vc_syntax_tokens.specs.declared.lexing.Lexed.{Lexed}
 use Rattle.vc_syntax_tokens.specs.declared.lexing.LexFault.{LexFault}
 use Rattle.vc_syntax_tokens.specs.declared.lexing.LexFault.TheVariants.{Bad, OutOfMemory}
@@ -41,7 +45,8 @@ lexeme_of_word word = named word (reserved_of word)
 
 -- a name or a reserved word
 abbrev pub name_at : List ℕ → Result Lexed SyntaxKind
-name_at bytes = if nat_le (name_length bytes) 30 then lexed (lexeme_of_word (word_at bytes)) (name_length bytes) else Err NameTooLong
+name_at bytes = if nat_le (name_length bytes) 30
+    then lexed (lexeme_of_word (word_at bytes)) (name_length bytes) else Err NameTooLong
 
 -- how many digits stand at the front
 abbrev pub digits_length : List ℕ → ℕ
@@ -76,8 +81,10 @@ with_byte text after_quote byte = if may_close after_quote byte then text else t
 abbrev pub text_before_quote : Bool → List ℕ → Option (List ℕ)
 text_before_quote false [] = None
 text_before_quote true [] = Some []
-text_before_quote false (byte ∷ bytes) = option_map (λ text. if byte == 39 then text else byte ∷ text) (text_before_quote (byte == 39) bytes)
-text_before_quote true (byte ∷ bytes) = if byte == 39 then option_map (λ text. 39 ∷ text) (text_before_quote false bytes) else Some []
+text_before_quote false (byte ∷ bytes) =
+    option_map (λ text. if byte == 39 then text else byte ∷ text) (text_before_quote (byte == 39) bytes)
+text_before_quote true (byte ∷ bytes) = if byte == 39
+    then option_map (λ text. 39 ∷ text) (text_before_quote false bytes) else Some []
 
 -- how many bytes come up to the quote that closes the text, itself among them
 abbrev pub closing_length : Bool → List ℕ → ℕ
@@ -122,7 +129,8 @@ begins_with_name (byte ∷ bytes) = begins_name byte
 abbrev pub variable_at : List ℕ → Result Lexed SyntaxKind
 variable_at bytes =
     if begins_with_name bytes
-    then (if nat_le (name_length bytes) 30 then lexed (Variable (word_at bytes)) (1 + name_length bytes) else Err NameTooLong)
+    then (if nat_le (name_length bytes) 30
+    then lexed (Variable (word_at bytes)) (1 + name_length bytes) else Err NameTooLong)
     else Err UnknownWord
 
 -- a dot where a letter or `_` follows at once, else a period

@@ -1,5 +1,6 @@
 -- How many tokens a dependency may have, and how deep they may nest.
-use Rattle.std.specs.Prelude.{ℕ, ◌+◌, Bool, true, false, ◌||◌, nat_lt, List, [], ◌∷◌, length, Result, Ok, Err, if◌then◌else◌}
+use Rattle.std.specs.Prelude.{ℕ, ◌+◌, Bool, true, false, ◌||◌, nat_lt, List, [], ◌∷◌, length, Result, Ok, Err}
+use Rattle.std.specs.Prelude.{if◌then◌else◌}
 use Rattle.vc_syntax_tokens.specs.declared.fault.SyntaxFault.{SyntaxFault}
 use Rattle.vc_syntax_tokens.specs.declared.fault.SyntaxFault.TheVariants.{Bad}
 use Rattle.vc_syntax_tokens.specs.declared.fault.SyntaxKind.TheVariants.{TooLong, TooDeep}
@@ -59,4 +60,5 @@ is_too_deep tokens = nests_deep 0 0 tokens || (has_long_row Negation 0 tokens ||
 -- the tokens, where they are neither too many nor too deep
 abbrev pub within_limits : Result (List Token) SyntaxFault → Result (List Token) SyntaxFault
 within_limits (Err fault) = Err fault
-within_limits (Ok tokens) = if is_too_long tokens then Err (Bad TooLong 0) else if is_too_deep tokens then Err (Bad TooDeep 0) else Ok tokens
+within_limits (Ok tokens) = if is_too_long tokens then Err (Bad TooLong 0) else if is_too_deep tokens
+    then Err (Bad TooDeep 0) else Ok tokens

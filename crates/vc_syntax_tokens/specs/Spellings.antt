@@ -47,10 +47,12 @@ reserved_spelling reserved.Frac = codes "FRAC"
 -- all reserved words
 abbrev pub reserved_words : List Reserved
 reserved_words =
-    reserved.And ∷ reserved.Or ∷ reserved.Not ∷ reserved.In ∷ reserved.If ∷ reserved.Specified ∷ reserved.Table ∷ reserved.False
+    reserved.And ∷ reserved.Or ∷ reserved.Not ∷ reserved.In ∷ reserved.If ∷ reserved.Specified ∷ reserved.Table
+    ∷ reserved.False
     ∷ reserved.IsA ∷ reserved.IsObject ∷ reserved.Material ∷ reserved.Where ∷ reserved.PartOf
     ∷ reserved.Eq ∷ reserved.Ne ∷ reserved.Lt ∷ reserved.Le ∷ reserved.Gt ∷ reserved.Ge
-    ∷ reserved.Objects ∷ reserved.Condition ∷ reserved.Restriction ∷ reserved.Restrictions ∷ reserved.Inferences ∷ reserved.Nr ∷ reserved.End
+    ∷ reserved.Objects ∷ reserved.Condition ∷ reserved.Restriction ∷ reserved.Restrictions ∷ reserved.Inferences
+    ∷ reserved.Nr ∷ reserved.End
     ∷ reserved.Abs ∷ reserved.Sign ∷ reserved.Trunc ∷ reserved.Floor ∷ reserved.Ceil ∷ reserved.Frac ∷ []
 
 -- the reserved word of this spelling, if it is one
@@ -69,7 +71,8 @@ dollar_spelling dollar.CountParts = codes "COUNT_PARTS"
 
 -- all words that begin with `$`
 abbrev pub dollar_words : List Dollar
-dollar_words = dollar.Itself ∷ dollar.Parent ∷ dollar.Root ∷ dollar.SetDefault ∷ dollar.DelDefault ∷ dollar.SumParts ∷ dollar.CountParts ∷ []
+dollar_words = dollar.Itself ∷ dollar.Parent ∷ dollar.Root ∷ dollar.SetDefault ∷ dollar.DelDefault ∷ dollar.SumParts
+    ∷ dollar.CountParts ∷ []
 
 -- the word of this spelling after `$`, if it is one
 abbrev pub dollar_of : List ℕ → Option Dollar

@@ -2,7 +2,8 @@
 use Rattle.std.specs.Prelude.{ℕ, Bool, true, false, ◌==◌, ◌||◌, List, [], ◌∷◌, ◌++◌, if◌then◌else◌}
 use Rattle.vc_value.specs.Numerals.{number_text}
 use Rattle.vc_syntax_tokens.specs.declared.token.Lexeme.{Lexeme}
-use Rattle.vc_syntax_tokens.specs.declared.token.Lexeme.TheVariants.{Name, Reserved, Variable, Dollar, Text, Number, Sign}
+use Rattle.vc_syntax_tokens.specs.declared.token.Lexeme.TheVariants.{Name, Reserved, Variable, Dollar, Text, Number}
+use Rattle.vc_syntax_tokens.specs.declared.token.Lexeme.TheVariants.{Sign}
 use Rattle.vc_syntax_tokens.specs.declared.token.Sign.TheVariants.{Dot, Period}
 use Rattle.vc_syntax_tokens.specs.Spellings.{reserved_spelling, dollar_spelling, sign_spelling}
 

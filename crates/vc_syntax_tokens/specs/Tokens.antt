@@ -1,5 +1,6 @@
 -- The tokens of a text, or its first bad token.
-use Rattle.std.specs.Prelude.{ℕ, suc, zero, ◌+◌, ◌-◌, ◌≡◌, Bool, true, false, ◌==◌, ◌||◌, if◌then◌else◌, Result, Ok, Err, List, [], ◌∷◌, take}
+use Rattle.std.specs.Prelude.{ℕ, suc, zero, ◌+◌, ◌-◌, ◌≡◌, Bool, true, false, ◌==◌, ◌||◌, if◌then◌else◌, Result, Ok}
+use Rattle.std.specs.Prelude.{Err, List, [], ◌∷◌, take}
 use Rattle.vc_syntax_tokens.specs.declared.token.Token.{Token}
 use Rattle.vc_syntax_tokens.specs.declared.fault.SyntaxKind.{SyntaxKind}
 use Rattle.vc_syntax_tokens.specs.declared.fault.SyntaxFault.{SyntaxFault}
@@ -9,7 +10,8 @@ use Rattle.vc_syntax_tokens.specs.declared.lexing.Place.{Place}
 use Rattle.vc_syntax_tokens.specs.declared.lexing.Place.TheVariants.{LineStart, Inside, Comment}
 use Rattle.vc_syntax_tokens.specs.Lexemes.{lexeme_at}
 
--- the byte belongs to no token: a space, a line's end, or a byte of a comment, which a `*` begins where only spaces stand before it in its line
+-- the byte belongs to no token: a space, a line's end, or a byte of a comment, which a `*` begins where only spaces
+-- stand before it in its line
 abbrev pub is_gap : Place → ℕ → Bool
 is_gap LineStart byte = byte == 32 || (byte == 10 || byte == 42)
 is_gap Inside byte = byte == 32 || byte == 10
@@ -49,7 +51,8 @@ tokens_from place start skipped [] = Ok []
 tokens_from place start (suc skipped) (byte ∷ bytes) = tokens_from place (start + 1) skipped bytes
 tokens_from place start zero (byte ∷ bytes) = elim (is_gap place byte) [
   | true ↦ tokens_from (place_after place byte) (start + 1) 0 bytes
-  | false ↦ before (token_at start (byte ∷ bytes)) (tokens_from Inside (start + 1) (rest_length start (token_at start (byte ∷ bytes))) bytes)
+  | false ↦ before (token_at start (byte ∷ bytes))
+      (tokens_from Inside (start + 1) (rest_length start (token_at start (byte ∷ bytes))) bytes)
 ]
 
 -- the tokens of a text, or the first bad one with its kind and place

@@ -6,7 +6,8 @@ use Rattle.std.specs.Int.Signed.{lt_z, le_z}
 use Rattle.vc_value.specs.Names.{is_name}
 use Rattle.vc_value.specs.declared.decimal.Dec.{Dec}
 use Rattle.vc_syntax_tokens.specs.declared.token.Lexeme.{Lexeme}
-use Rattle.vc_syntax_tokens.specs.declared.token.Lexeme.TheVariants.{Name, Reserved, Variable, Dollar, Text, Number, Sign}
+use Rattle.vc_syntax_tokens.specs.declared.token.Lexeme.TheVariants.{Name, Reserved, Variable, Dollar, Text, Number}
+use Rattle.vc_syntax_tokens.specs.declared.token.Lexeme.TheVariants.{Sign}
 use Rattle.vc_syntax_tokens.specs.declared.token.Reserved as words
 use Rattle.vc_syntax_tokens.specs.declared.token.Sign.TheVariants.{Star}
 use Rattle.vc_syntax_tokens.specs.Spellings.{reserved_of}

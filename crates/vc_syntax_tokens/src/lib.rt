@@ -10,6 +10,3 @@ pub mod token;
 
 pub use fault::{Kind, SyntaxFault, SyntaxKind};
 pub use token::{Dollar, Lexeme, Reserved, Sign, Token};
-
-#[cfg(test)]
-mod tests;

@@ -1,5 +1,6 @@
 -- Variant tables, and the records that are rows of one.
-use Rattle.std.specs.Prelude.{ℕ, ◌+◌, Bool, false, ◌&&◌, ◌==◌, nat_lt, List, [], ◌∷◌, ◌++◌, length, map, position, Option, Some, None, is_some, ok_or, option_map, Result, Ok, Err, if◌then◌else◌}
+use Rattle.std.specs.Prelude.{ℕ, ◌+◌, Bool, false, ◌&&◌, ◌==◌, nat_lt, List, [], ◌∷◌, ◌++◌, length, map, position}
+use Rattle.std.specs.Prelude.{Option, Some, None, is_some, ok_or, option_map, Result, Ok, Err, if◌then◌else◌}
 use Rattle.std.specs.List.{list_any}
 use Rattle.std.specs.Cmp.Lexicographic.{pointwise}
 use Rattle.std.specs.Option.{option_and_then}
@@ -32,7 +33,8 @@ entries_of text pairs = map (λ pair. record { text = text pair.0; number = pair
 
 -- a number that was read, if a grain holds it and it has no more decimals than these
 abbrev pub number_in : ℕ → List Grain → Result Dec NumFault → Option Value
-number_in decimals grains (Ok n) = if has_decimals decimals n && is_some (position (holds n) grains) then Some (Num n) else None
+number_in decimals grains (Ok n) = if has_decimals decimals n
+    && is_some (position (holds n) grains) then Some (Num n) else None
 number_in decimals grains (Err fault) = None
 
 abbrev pub domain_value : Domain → List Entry → List ℕ → Option Value
@@ -47,7 +49,8 @@ value_of column field = domain_value column.domain column.texts field
 abbrev pub values_of : List Column → Fields → Option (List Value)
 values_of [] fields = Some []
 values_of (column ∷ columns) [] = None
-values_of (column ∷ columns) (field ∷ fields) = option_and_then (λ value. option_map (λ values. value ∷ values) (values_of columns fields)) (value_of column field)
+values_of (column ∷ columns) (field ∷ fields) =
+    option_and_then (λ value. option_map (λ values. value ∷ values) (values_of columns fields)) (value_of column field)
 
 -- the fields are the names of the columns, in any case
 abbrev pub are_names : List Column → Fields → Bool
@@ -74,14 +77,17 @@ is_among key keys = list_any (pointwise same_value key) keys
 
 -- the table has key columns, and an earlier row has the same key cells
 abbrev pub repeats : List Column → List Row → List Value → Bool
-repeats columns earlier cells = has_keys columns && is_among (key_of columns cells) (map (λ row. key_of columns row.cells) earlier)
+repeats columns earlier cells = has_keys columns
+    && is_among (key_of columns cells) (map (λ row. key_of columns row.cells) earlier)
 
 -- the cells of the record of this number, or its fault
 abbrev pub cells_of : List Column → ℕ → Fields → Result (List Value) TableFault
-cells_of columns number fields = if length fields == length columns then ok_or (values_of columns fields) (Cell number) else Err (Columns number)
+cells_of columns number fields = if length fields == length columns
+    then ok_or (values_of columns fields) (Cell number) else Err (Columns number)
 
 -- what follows from the cells, or the fault
-abbrev pub if_cells : Result (List Value) TableFault → (List Value → Result (List Row) TableFault) → Result (List Row) TableFault
+abbrev pub if_cells : Result (List Value) TableFault → (List Value → Result (List Row) TableFault)
+    → Result (List Row) TableFault
 if_cells (Ok cells) next = next cells
 if_cells (Err fault) next = Err fault
 
@@ -89,12 +95,15 @@ if_cells (Err fault) next = Err fault
 abbrev pub rows_from : List Column → ℕ → List Row → List Fields → Result (List Row) TableFault
 rows_from columns number earlier [] = Ok earlier
 rows_from columns number earlier (fields ∷ records) = if_cells (cells_of columns number fields) (λ cells.
-    if repeats columns earlier cells then Err (DoubleKey number) else rows_from columns (number + 1) (earlier ++ (record { cells = cells }) ∷ []) records)
+    if repeats columns earlier cells
+    then Err (DoubleKey number)
+    else rows_from columns (number + 1) (earlier ++ (record { cells = cells }) ∷ []) records)
 
 -- the rows of a table's records, of which the first has the columns' names, or the fault
 abbrev pub rows_below : List Column → List Fields → Result (List Row) TableFault
 rows_below columns [] = Err (Columns 1)
-rows_below columns (names ∷ records) = if are_names columns names then rows_from columns 2 [] records else Err (Columns 1)
+rows_below columns (names ∷ records) = if are_names columns names
+    then rows_from columns 2 [] records else Err (Columns 1)
 
 -- the same, with at most 10,000 records after the first
 abbrev pub rows_of : List Column → List Fields → Result (List Row) TableFault

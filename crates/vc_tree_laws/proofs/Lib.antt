@@ -1,4 +1,5 @@
 pub mod ConditionLaws
+pub mod CountLaws
 pub mod ModelTreeLaws
 pub mod ReadingLemmas
 pub mod StatementLaws

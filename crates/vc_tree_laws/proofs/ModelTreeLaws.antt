@@ -158,7 +158,7 @@ all_trees test holds ls s =
     made (dependency_at (scope_of (backwards [] ls))) (λ d. test d.tree) ls s
     (λ e n line below p. trees_at test holds (backwards [] ls) e (scope_of (backwards [] ls)) n line below p)
 
-spelled : (P : SeenModel → Type 0) → ((ls : List Line) → Sound [] ls → P (model_of ls)) → SpelledKeeps P
+pub spelled : (P : SeenModel → Type 0) → ((ls : List Line) → Sound [] ls → P (model_of ls)) → SpelledKeeps P
 spelled P keeps text model spells =
     let ls = lines_of text in
     subst P (sym spells.model_is) (keeps ls (sound ls (lines_formed text spells.utf8) spells.sound))

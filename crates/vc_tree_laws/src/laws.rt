@@ -2,7 +2,7 @@
 
 ghost use Rattle.vc_model_laws.specs.Laws.{SpelledKeeps};
 ghost use Rattle.vc_tree_laws.specs.Literals.{KeepsLiterals, ReadTextsAreTexts};
-ghost use Rattle.vc_tree_laws.specs.Spelled.{KeepsTrees};
+ghost use Rattle.vc_tree_laws.specs.Spelled.{KeepsCounts, KeepsTrees};
 ghost use Rattle.vc_tree_laws.specs.Statements.{KeepsStatements};
 
 /// Each text that stands in what is read as a dependency has 1 to 30 characters, and is UTF-8 where what is read is.
@@ -23,4 +23,9 @@ pub fn spelled_models_keep_statements()
 /// What holds of each tree that the grammar has holds of each dependency of such a model.
 pub fn spelled_models_keep_trees()
     ensures { SpelledKeeps KeepsTrees }
+{}
+
+/// And of the quantity of each of its lines, and the time of each of its operations.
+pub fn spelled_models_keep_counts()
+    ensures { SpelledKeeps KeepsCounts }
 {}

@@ -2,7 +2,8 @@
 use Rattle.std.specs.Prelude.{Bool, List, [], ◌∷◌, Option, Some, None, filter}
 use Rattle.vc_model_parts.specs.declared.parts.Model.{Model}
 use Rattle.vc_syntax_terms.specs.Trees.{Dependency}
-use Rattle.vc_types.specs.NameFaults.{unknown_name, double_name, self_named, parent_missing, self_of_line, strays, too_many_objects}
+use Rattle.vc_types.specs.NameFaults.{unknown_name, double_name, self_named, parent_missing, self_of_line, strays}
+use Rattle.vc_types.specs.NameFaults.{too_many_objects}
 use Rattle.vc_types.specs.PlaceFaults.{not_monotone, no_key, not_a_term, sum_place, part_of_place}
 use Rattle.vc_types.specs.RangeFaults.{range_too_wide}
 use Rattle.vc_types.specs.Settings.{Setting, setting_of}
@@ -31,8 +32,11 @@ stands setting dependency kinds.TooManyObjects = too_many_objects dependency
 -- all kinds, the least first
 abbrev pub all_kinds : List TypeFaultKind
 all_kinds =
-    kinds.UnknownName ∷ (kinds.DoubleName ∷ (kinds.WrongKind ∷ (kinds.NotMonotone ∷ (kinds.SelfInConstraint ∷ (kinds.NoParent ∷ (kinds.SelfInLine
-    ∷ (kinds.VariableOutside ∷ (kinds.NoKey ∷ (kinds.NotATerm ∷ (kinds.SumPlace ∷ (kinds.RangeTooWide ∷ (kinds.PartOfPlace ∷ (kinds.TooManyObjects ∷ [])))))))))))))
+    kinds.UnknownName ∷ (kinds.DoubleName
+    ∷ (kinds.WrongKind ∷ (kinds.NotMonotone ∷ (kinds.SelfInConstraint ∷ (kinds.NoParent ∷ (kinds.SelfInLine
+    ∷ (kinds.VariableOutside
+    ∷ (kinds.NoKey ∷ (kinds.NotATerm
+    ∷ (kinds.SumPlace ∷ (kinds.RangeTooWide ∷ (kinds.PartOfPlace ∷ (kinds.TooManyObjects ∷ [])))))))))))))
 
 -- the kinds that stand, ascending
 abbrev pub faults_of : Model → Place → Dependency → List TypeFaultKind

@@ -31,7 +31,8 @@ class_meant model (objects.Material leaf) = class_of model (object_named model l
 
 -- the variables that an object declares, and those of a constraint in the order of the text
 abbrev pub alias_of : Model → Option ℕ → Alias → Variable
-alias_of model class alias = record { name = alias.variable.name; referent = referents.Value (member_of model alias.characteristic.name class) }
+alias_of model class alias =
+    record { name = alias.variable.name; referent = referents.Value (member_of model alias.characteristic.name class) }
 
 abbrev pub variables_of_object : Model → Object → List Variable
 variables_of_object model object =

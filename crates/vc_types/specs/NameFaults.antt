@@ -1,5 +1,7 @@
--- Faults of names: what isn't there, what stands twice, and whose characteristic may not be meant where the dependency stands.
-use Rattle.std.specs.Prelude.{ℕ, Bool, true, false, not, ◌&&◌, ◌||◌, List, [], ◌∷◌, map, length, nat_lt, Option, Some, is_some, is_none}
+-- Faults of names: what isn't there, what stands twice, and whose characteristic may not be meant where the dependency
+-- stands.
+use Rattle.std.specs.Prelude.{ℕ, Bool, true, false, not, ◌&&◌, ◌||◌, List, [], ◌∷◌, map, length, nat_lt, Option, Some}
+use Rattle.std.specs.Prelude.{is_some, is_none}
 use Rattle.std.specs.List.{list_any}
 use Rattle.std.specs.Str.{bytes_eq}
 use Rattle.vc_syntax_terms.specs.declared.tree.Alias.{Alias}
@@ -54,8 +56,10 @@ is_of_no_part setting leaf =
 abbrev pub unknown_name : Setting → Dependency → Bool
 unknown_name setting dependency =
     (some_operand is_unknown setting dependency
-    || (list_any (is_unknown_object setting) (objects_in dependency) || list_any (is_unknown_call setting) (calls_in dependency)))
-    || (list_any (is_undeclared setting) (parted_names dependency) || list_any (is_of_no_part setting) (summed_names dependency))
+    || (list_any (is_unknown_object setting) (objects_in dependency)
+    || list_any (is_unknown_call setting) (calls_in dependency)))
+    || (list_any (is_undeclared setting) (parted_names dependency)
+    || list_any (is_of_no_part setting) (summed_names dependency))
 
 -- twice: a variable, or a column in one call
 abbrev pub some_twice : List (List ℕ) → Bool
@@ -69,14 +73,16 @@ abbrev pub double_name : Setting → Dependency → Bool
 double_name setting dependency =
     some_twice (map (λ variable. variable.name) setting.variables) || list_any names_column_twice (calls_in dependency)
 
--- a constraint that speaks of an instance otherwise than by a variable; `$PARENT` at the root; `$SELF` in a line. A part sum
+-- a constraint that speaks of an instance otherwise than by a variable; `$PARENT` at the root; `$SELF` in a line. A
+-- part sum
 -- speaks of `$SELF`
 abbrev pub is_self_in_constraint : Meaning → Bool
 is_self_in_constraint meanings.SelfInConstraint = true
 is_self_in_constraint meaning = false
 
 abbrev pub self_named : Setting → Dependency → Bool
-self_named setting dependency = some_operand is_self_in_constraint setting dependency || (is_constraint setting.place.at && asks_sum dependency)
+self_named setting dependency = some_operand is_self_in_constraint setting dependency
+    || (is_constraint setting.place.at && asks_sum dependency)
 
 abbrev pub lacks_parent : Meaning → Bool
 lacks_parent meanings.NoParent = true
@@ -90,7 +96,8 @@ is_self_in_line meanings.SelfInLine = true
 is_self_in_line meaning = false
 
 abbrev pub self_of_line : Setting → Dependency → Bool
-self_of_line setting dependency = some_operand is_self_in_line setting dependency || (is_line setting.place.at && asks_sum dependency)
+self_of_line setting dependency = some_operand is_self_in_line setting dependency
+    || (is_line setting.place.at && asks_sum dependency)
 
 -- a `?` variable outside a constraint, of PART_OF too
 abbrev pub is_variable_outside : Meaning → Bool

@@ -6,8 +6,10 @@ use Rattle.vc_syntax_terms.specs.declared.tree.Operand.TheVariants.{Owned}
 use Rattle.vc_syntax_terms.specs.declared.tree.NameLeaf.{NameLeaf}
 use Rattle.vc_syntax_terms.specs.declared.tree.Owner.TheVariants.{Itself}
 use Rattle.vc_syntax_terms.specs.declared.tree.Relator.{Relator}
-use Rattle.vc_syntax_terms.specs.declared.tree.Relator.TheVariants.{Equal, Unequal, Less, LessEqual, Greater, GreaterEqual}
-use Rattle.vc_syntax_terms.specs.Trees.{Term, Number, Text, Operand, Negated, Combined, Applied, SumOfParts, CountOfParts}
+use Rattle.vc_syntax_terms.specs.declared.tree.Relator.TheVariants.{Equal, Unequal, Less, LessEqual, Greater}
+use Rattle.vc_syntax_terms.specs.declared.tree.Relator.TheVariants.{GreaterEqual}
+use Rattle.vc_syntax_terms.specs.Trees.{Term, Number, Text, Operand, Negated, Combined, Applied, SumOfParts}
+use Rattle.vc_syntax_terms.specs.Trees.{CountOfParts}
 use Rattle.vc_syntax_terms.specs.Trees.{Relation, Compared, Within, Condition, Or, And, Not, Related, Specified, PartOf}
 use Rattle.vc_syntax_terms.specs.Trees.{TableCall, Action, Assign, SetDefault, DelDefault, Calls, Statement}
 use Rattle.vc_syntax_terms.specs.Trees.{Demand, Relates, Holds, Restriction}
@@ -79,7 +81,8 @@ relation_of_demand (Relates relation) = relation ∷ []
 relation_of_demand demand = []
 
 abbrev pub demanded_relations : Dependency → List Relation
-demanded_relations (Constrains constraint) = flat_map (λ restriction. relation_of_demand restriction.demand) constraint.restrictions
+demanded_relations (Constrains constraint) =
+    flat_map (λ restriction. relation_of_demand restriction.demand) constraint.restrictions
 demanded_relations dependency = []
 
 abbrev pub relations_in : Dependency → List Relation
@@ -139,7 +142,8 @@ uses_of_left true term = uses_of_term term
 uses_of_left false term = uses_of_term term
 
 abbrev pub uses_of_relation : Relation → List Use
-uses_of_relation (Compared left relator right) = uses_of_left (is_equality relator && is_literal right) left ++ uses_of_term right
+uses_of_relation (Compared left relator right) = uses_of_left (is_equality relator && is_literal right) left
+    ++ uses_of_term right
 uses_of_relation (Within operand items) = as_set operand ∷ []
 
 -- what SPECIFIED asks for
@@ -166,8 +170,10 @@ other_names dependency = []
 -- all operands of a dependency
 abbrev pub uses_in : Dependency → List Use
 uses_in dependency =
-    (flat_map uses_of_relation (relations_in dependency) ++ map as_set (flat_map specified_in (conditions_in dependency)))
-    ++ (flat_map uses_of_term (own_terms dependency ++ flat_map values_in (calls_in dependency)) ++ map as_value (other_names dependency))
+    (flat_map uses_of_relation (relations_in dependency)
+    ++ map as_set (flat_map specified_in (conditions_in dependency)))
+    ++ (flat_map uses_of_term (own_terms dependency ++ flat_map values_in (calls_in dependency))
+    ++ map as_value (other_names dependency))
 
 -- the variables of PART_OF, and the characteristics of part sums
 abbrev pub parted_in : Condition → List NameLeaf

@@ -1,5 +1,6 @@
 -- Faults of place: what may not be asked where the dependency stands.
-use Rattle.std.specs.Prelude.{ℕ, ◌==◌, Bool, true, false, not, ◌&&◌, ◌||◌, List, [], ◌∷◌, ◌++◌, flat_map, Option, Some, None}
+use Rattle.std.specs.Prelude.{ℕ, ◌==◌, Bool, true, false, not, ◌&&◌, ◌||◌, List, [], ◌∷◌, ◌++◌, flat_map, Option, Some}
+use Rattle.std.specs.Prelude.{None}
 use Rattle.std.specs.List.{list_any}
 use Rattle.vc_model_parts.specs.declared.parts.Table.{Table}
 use Rattle.vc_model_parts.specs.declared.parts.TableColumn.{TableColumn}
@@ -10,7 +11,8 @@ use Rattle.vc_syntax_terms.specs.Trees.{Condition, Or, And, Not, Related, Specif
 use Rattle.vc_syntax_terms.specs.Trees.{Dependency, Precondition, Selection, Procedure, Constrains, Counts}
 use Rattle.vc_types.specs.Looking.{characteristic_named, table_named, column_in}
 use Rattle.vc_types.specs.NameFaults.{has_some}
-use Rattle.vc_types.specs.Occurrences.{if_there, is_literal, Use, uses_in, calls_in, conditions_in, condition_of_restriction, specified_in, parted_in, asks_sum}
+use Rattle.vc_types.specs.Occurrences.{if_there, is_literal, Use, uses_in, calls_in, conditions_in}
+use Rattle.vc_types.specs.Occurrences.{condition_of_restriction, specified_in, parted_in, asks_sum}
 use Rattle.vc_types.specs.Settings.{Setting, meaning, is_constraint, is_set}
 use Rattle.vc_types.specs.declared.place.At.{At}
 use Rattle.vc_types.specs.declared.place.At.TheVariants as at
@@ -89,7 +91,8 @@ abbrev pub is_computed : Binding → Bool
 is_computed binding = not (is_literal binding.value) && not (is_operand binding.value)
 
 abbrev pub not_a_term : Setting → Dependency → Bool
-not_a_term setting dependency = is_constraint setting.place.at && list_any (λ call. list_any is_computed call.bindings) (calls_in dependency)
+not_a_term setting dependency = is_constraint setting.place.at
+    && list_any (λ call. list_any is_computed call.bindings) (calls_in dependency)
 
 -- a look-up of a procedure: the columns of a call, keys and others
 abbrev pub is_key : Option TableColumn → Bool
@@ -101,7 +104,8 @@ is_other None = false
 is_other (Some column) = not column.key
 
 abbrev pub bound_column : Setting → TableCall → Binding → Option TableColumn
-bound_column setting call binding = column_in setting.model binding.column.name (table_named setting.model call.table.name)
+bound_column setting call binding =
+    column_in setting.model binding.column.name (table_named setting.model call.table.name)
 
 -- a key of the table that the call doesn't name
 abbrev pub is_number : ℕ → Option ℕ → Bool
@@ -110,7 +114,8 @@ is_number c (Some d) = c == d
 
 abbrev pub names_column : Setting → TableCall → TableColumn → Bool
 names_column setting call column =
-    list_any (λ binding. is_number column.characteristic (characteristic_named setting.model binding.column.name)) call.bindings
+    list_any (λ binding. is_number column.characteristic (characteristic_named setting.model binding.column.name))
+    call.bindings
 
 abbrev pub lacks_key : Setting → TableCall → TableColumn → Bool
 lacks_key setting call column = column.key && not (names_column setting call column)
@@ -127,8 +132,11 @@ abbrev pub looks_up_wrongly : Setting → TableCall → Option Table → Bool
 looks_up_wrongly setting call None = false
 looks_up_wrongly setting call (Some table) =
     (not (list_any (λ column. column.key) table.columns) || list_any (lacks_key setting call) table.columns)
-    || (not (list_any (λ binding. is_other (bound_column setting call binding)) call.bindings) || list_any (gives_other setting call) call.bindings)
+    || (not (list_any (λ binding. is_other (bound_column setting call binding)) call.bindings)
+    || list_any (gives_other setting call) call.bindings)
 
 abbrev pub no_key : Setting → Dependency → Bool
 no_key setting dependency =
-    is_procedure dependency && list_any (λ call. looks_up_wrongly setting call (table_named setting.model call.table.name)) (calls_in dependency)
+    is_procedure dependency
+    && list_any (λ call. looks_up_wrongly setting call (table_named setting.model call.table.name))
+    (calls_in dependency)

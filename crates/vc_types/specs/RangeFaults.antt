@@ -1,5 +1,6 @@
 -- Faults of range: numbers that may get too large to be computed.
-use Rattle.std.specs.Prelude.{ℕ, ◌+◌, ◌-◌, ◌*◌, ◌/◌, ◌^◌, max, Bool, false, not, ◌||◌, List, [], ◌∷◌, nat_le, unsigned_abs, slice_get, Option, Some, None}
+use Rattle.std.specs.Prelude.{ℕ, ◌+◌, ◌-◌, ◌*◌, ◌/◌, ◌^◌, max, Bool, false, not, ◌||◌, List, [], ◌∷◌, nat_le}
+use Rattle.std.specs.Prelude.{unsigned_abs, slice_get, Option, Some, None}
 use Rattle.std.specs.List.{list_any}
 use Rattle.vc_model_parts.specs.declared.parts.Characteristic.{Characteristic}
 use Rattle.vc_model_parts.specs.declared.parts.Model.{Model}
@@ -10,7 +11,8 @@ use Rattle.vc_syntax_terms.specs.declared.tree.Function.{Function}
 use Rattle.vc_syntax_terms.specs.declared.tree.Function.TheVariants.{Abs, Sign, Trunc, Floor, Ceil, Frac}
 use Rattle.vc_syntax_terms.specs.declared.tree.Operator.{Operator}
 use Rattle.vc_syntax_terms.specs.declared.tree.Operator.TheVariants.{Plus, Minus, Times, Over}
-use Rattle.vc_syntax_terms.specs.Trees.{Term, Number, Text, Operand, Negated, Combined, Applied, SumOfParts, CountOfParts, Dependency}
+use Rattle.vc_syntax_terms.specs.Trees.{Term, Number, Text, Operand, Negated, Combined, Applied, SumOfParts}
+use Rattle.vc_syntax_terms.specs.Trees.{CountOfParts, Dependency}
 use Rattle.vc_types.specs.Occurrences.{terms_in}
 use Rattle.vc_types.specs.Settings.{Setting, meaning}
 use Rattle.vc_types.specs.declared.meaning.Meaning.{Meaning}
@@ -88,7 +90,8 @@ gets_too_large setting (Combined left operator right) =
     (is_too_large (combined_load operator (size_of setting left) (size_of setting right))
     || is_too_large (combined_size operator (size_of setting left) (size_of setting right)))
     || (gets_too_large setting left || gets_too_large setting right)
-gets_too_large setting (Applied function term) = is_too_large (applied_size function (size_of setting term)) || gets_too_large setting term
+gets_too_large setting (Applied function term) = is_too_large (applied_size function (size_of setting term))
+    || gets_too_large setting term
 gets_too_large setting (SumOfParts name) = false
 gets_too_large setting CountOfParts = false
 

@@ -9,14 +9,18 @@ use Rattle.vc_syntax_terms.specs.declared.tree.NameLeaf.{NameLeaf}
 use Rattle.vc_syntax_terms.specs.declared.tree.Object.{Object}
 use Rattle.vc_syntax_terms.specs.declared.tree.Operand.TheVariants.{Owned}
 use Rattle.vc_syntax_terms.specs.declared.tree.Owner.TheVariants.{Itself}
-use Rattle.vc_syntax_terms.specs.Trees.{Term, Number, Text, Operand, Negated, Combined, Applied, SumOfParts, CountOfParts}
-use Rattle.vc_syntax_terms.specs.Trees.{Relation, Compared, Within, Binding, TableCall, Action, Assign, SetDefault, DelDefault, Calls}
+use Rattle.vc_syntax_terms.specs.Trees.{Term, Number, Text, Operand, Negated, Combined, Applied, SumOfParts}
+use Rattle.vc_syntax_terms.specs.Trees.{CountOfParts}
+use Rattle.vc_syntax_terms.specs.Trees.{Relation, Compared, Within, Binding, TableCall, Action, Assign, SetDefault}
+use Rattle.vc_syntax_terms.specs.Trees.{DelDefault, Calls}
 use Rattle.vc_syntax_terms.specs.Trees.{Dependency, Procedure, Counts}
 use Rattle.vc_types.specs.Looking.{member_of, table_named, column_in}
 use Rattle.vc_types.specs.Meanings.{class_meant, known, referent_of, variable_named}
 use Rattle.vc_types.specs.NameFaults.{some_operand, objects_in}
-use Rattle.vc_types.specs.Occurrences.{is_equality, Use, uses_in, calls_in, relations_in, terms_in, parted_names, summed_names}
-use Rattle.vc_types.specs.Settings.{Setting, meaning, is_constraint, has_instance, sort_of_characteristic, sort_meant, is_set, component_classes}
+use Rattle.vc_types.specs.Occurrences.{is_equality, Use, uses_in, calls_in, relations_in, terms_in, parted_names}
+use Rattle.vc_types.specs.Occurrences.{summed_names}
+use Rattle.vc_types.specs.Settings.{Setting, meaning, is_constraint, has_instance, sort_of_characteristic, sort_meant}
+use Rattle.vc_types.specs.Settings.{is_set, component_classes}
 use Rattle.vc_types.specs.declared.meaning.Meaning.{Meaning}
 use Rattle.vc_types.specs.declared.meaning.Meaning.TheVariants as meanings
 use Rattle.vc_types.specs.declared.meaning.Referent.{Referent}
@@ -77,7 +81,8 @@ computes_with_text setting CountOfParts = false
 
 -- a characteristic that is given a value of the other sort
 abbrev pub gives_wrongly : Setting → NameLeaf → Term → Bool
-gives_wrongly setting name term = differ (sort_meant setting.model (meaning setting (Owned Itself name))) (sort_of setting term)
+gives_wrongly setting name term =
+    differ (sort_meant setting.model (meaning setting (Owned Itself name))) (sort_of setting term)
 
 abbrev pub acts_wrongly : Setting → Action → Bool
 acts_wrongly setting (Assign name term) = gives_wrongly setting name term
@@ -87,7 +92,8 @@ acts_wrongly setting (Calls call) = false
 
 -- a quantity or a time that is a text
 abbrev pub acts_or_counts_wrongly : Setting → Dependency → Bool
-acts_or_counts_wrongly setting (Procedure statements) = list_any (λ statement. acts_wrongly setting statement.action) statements
+acts_or_counts_wrongly setting (Procedure statements) =
+    list_any (λ statement. acts_wrongly setting statement.action) statements
 acts_or_counts_wrongly setting (Counts term) = is_text (sort_of setting term)
 acts_or_counts_wrongly setting dependency = false
 
@@ -98,7 +104,8 @@ sort_of_column setting (Some column) = sort_of_characteristic setting.model colu
 
 abbrev pub binds_wrongly : Setting → TableCall → Binding → Bool
 binds_wrongly setting call binding =
-    differ (sort_of_column setting (column_in setting.model binding.column.name (table_named setting.model call.table.name)))
+    differ (sort_of_column setting
+    (column_in setting.model binding.column.name (table_named setting.model call.table.name)))
     (sort_of setting binding.value)
 
 abbrev pub calls_wrongly : Setting → TableCall → Bool
@@ -116,7 +123,8 @@ is_value_variable (Some (referents.Object class)) = false
 is_value_variable (Some (referents.Value c)) = true
 
 abbrev pub parts_a_value : Setting → NameLeaf → Bool
-parts_a_value setting leaf = is_constraint setting.place.at && is_value_variable (referent_of (variable_named setting.variables leaf.name))
+parts_a_value setting leaf = is_constraint setting.place.at
+    && is_value_variable (referent_of (variable_named setting.variables leaf.name))
 
 -- a set where a single value belongs: as an operand, or behind WHERE
 abbrev pub misuses_set : Setting → Use → Bool
@@ -132,12 +140,15 @@ declares_set setting object = list_any (aliases_set setting (class_meant setting
 abbrev pub sums_texts : Setting → NameLeaf → Bool
 sums_texts setting leaf =
     has_instance setting.place.at
-    && list_any (λ class. is_text (sort_meant setting.model (known (member_of setting.model leaf.name (Some class))))) (component_classes setting)
+    && list_any (λ class. is_text (sort_meant setting.model (known (member_of setting.model leaf.name (Some class)))))
+    (component_classes setting)
 
 abbrev pub wrong_kind : Setting → Dependency → Bool
 wrong_kind setting dependency =
-    ((list_any (relates_wrongly setting) (relations_in dependency) || list_any (computes_with_text setting) (terms_in dependency))
+    ((list_any (relates_wrongly setting) (relations_in dependency)
+    || list_any (computes_with_text setting) (terms_in dependency))
     || (acts_or_counts_wrongly setting dependency || list_any (calls_wrongly setting) (calls_in dependency)))
-    || ((some_operand is_other_variable setting dependency || list_any (parts_a_value setting) (parted_names dependency))
+    || ((some_operand is_other_variable setting dependency
+    || list_any (parts_a_value setting) (parted_names dependency))
     || ((list_any (misuses_set setting) (uses_in dependency) || list_any (declares_set setting) (objects_in dependency))
     || list_any (sums_texts setting) (summed_names dependency)))

@@ -8,6 +8,3 @@ pub mod place;
 pub use fault::TypeFaultKind;
 pub use meaning::{Meaning, Referent, Sort};
 pub use place::{At, Place};
-
-#[cfg(test)]
-mod tests;

@@ -10,6 +10,3 @@ pub mod typing;
 
 pub use instances::Instance;
 pub use typing::{TypeFault, Typed, type_dependency, type_term};
-
-#[cfg(test)]
-mod tests;

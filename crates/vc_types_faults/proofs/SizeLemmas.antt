@@ -18,10 +18,17 @@ or_second true n = refl
 or_second false n = refl
 
 pub combined_join : (operator : Operator) (a b : Bool) (m n : ℕ) → combined_bound operator (bounded a m) (bounded b n)
-    ≡ bounded ((is_too_large (combined_load operator m n) || is_too_large (combined_size operator m n)) || (a || b)) (combined_size operator m n)
-combined_join operator false false m n = or_false (is_too_large (combined_load operator m n) || is_too_large (combined_size operator m n)) (combined_size operator m n)
-combined_join operator false true m n = or_second (is_too_large (combined_load operator m n) || is_too_large (combined_size operator m n)) (combined_size operator m n)
-combined_join operator true b m n = or_true (is_too_large (combined_load operator m n) || is_too_large (combined_size operator m n)) b (combined_size operator m n)
+    ≡ bounded ((is_too_large (combined_load operator m n) || is_too_large (combined_size operator m n)) || (a || b))
+    (combined_size operator m n)
+combined_join operator false false m n =
+    or_false (is_too_large (combined_load operator m n) || is_too_large (combined_size operator m n))
+    (combined_size operator m n)
+combined_join operator false true m n =
+    or_second (is_too_large (combined_load operator m n) || is_too_large (combined_size operator m n))
+    (combined_size operator m n)
+combined_join operator true b m n =
+    or_true (is_too_large (combined_load operator m n) || is_too_large (combined_size operator m n)) b
+    (combined_size operator m n)
 
 or_last : (a : Bool) (n : ℕ) → None ≡ bounded (a || true) n
 or_last true n = refl

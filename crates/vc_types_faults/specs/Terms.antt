@@ -24,7 +24,8 @@ if_part test (Some class) = test class
 -- the bound of a join, and of a function's number
 abbrev pub combined_bound : Operator → Option ℕ → Option ℕ → Option ℕ
 combined_bound operator (Some m) (Some n) =
-    bounded (is_too_large (combined_load operator m n) || is_too_large (combined_size operator m n)) (combined_size operator m n)
+    bounded (is_too_large (combined_load operator m n) || is_too_large (combined_size operator m n))
+    (combined_size operator m n)
 combined_bound operator (Some m) None = None
 combined_bound operator None right = None
 

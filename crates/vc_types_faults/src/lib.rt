@@ -6,5 +6,3 @@ pub mod names;
 pub mod places;
 pub mod sizes;
 pub mod sorts;
-#[cfg(test)]
-mod tests;

@@ -8,6 +8,3 @@ pub mod variables;
 
 pub use setting::Setting;
 pub use tree::{Tree, borrowed};
-
-#[cfg(test)]
-mod tests;

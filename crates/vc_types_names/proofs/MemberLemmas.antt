@@ -1,5 +1,7 @@
 -- Flags tell what a walk over a class's members tells.
-use Rattle.std.proofs.Common.{◌≡◌, ◌≢◌, ℕ, zero, suc, ◌+◌, ◌-◌, ◌<◌, ◌≤◌, Bool, true, false, ◌||◌, List, [], ◌∷◌, ◌++◌, length, replicate, refl, sym, ap, ◌∙◌, subst, ◌⊎◌, inl, inr, arith, Option, Some, None, if◌then◌else◌, ◌==◌, eqb, length-append}
+use Rattle.std.proofs.Common.{◌≡◌, ◌≢◌, ℕ, zero, suc, ◌+◌, ◌-◌, ◌<◌, ◌≤◌, Bool, true, false, ◌||◌, List, [], ◌∷◌, ◌++◌}
+use Rattle.std.proofs.Common.{length, replicate, refl, sym, ap, ◌∙◌, subst, ◌⊎◌, inl, inr, arith, Option, Some, None}
+use Rattle.std.proofs.Common.{if◌then◌else◌, ◌==◌, eqb, length-append}
 use Rattle.std.specs.List.{find, list_any, slice_get, slice_index_or, slice_set}
 use Rattle.std.specs.Option.{option_map}
 use Rattle.std.proofs.lemmas.Bool.Decides.{eqb_tells}
@@ -11,8 +13,10 @@ use Rattle.vc_types.specs.Looking.{if_member}
 use Rattle.vc_types_names.specs.Members.{all_marked, flags_of, is_flagged, marked, rows_of}
 
 -- flags that reach so far already are not made longer
-pub long_enough : (flags : List Bool) (member : ℕ) → member < length flags → flags ++ replicate (member + 1 - length flags) false ≡ flags
-long_enough flags member inside = let none : member + 1 - length flags ≡ 0 = omega arith in ap (λ n. flags ++ replicate n false) none ∙ append-nil flags
+pub long_enough : (flags : List Bool) (member : ℕ) → member < length flags
+    → flags ++ replicate (member + 1 - length flags) false ≡ flags
+long_enough flags member inside = let none : member + 1 - length flags
+    ≡ 0 = omega arith in ap (λ n. flags ++ replicate n false) none ∙ append-nil flags
 
 none_set : (n c : ℕ) → slice_index_or (replicate n false) c false ≡ false
 none_set zero c = refl
@@ -20,7 +24,8 @@ none_set (suc n) zero = refl
 none_set (suc n) (suc c) = none_set n c
 
 -- flags that aren't set, and none at all, tell the same
-longer : (flags : List Bool) (n c : ℕ) → slice_index_or (flags ++ replicate n false) c false ≡ slice_index_or flags c false
+longer : (flags : List Bool) (n c : ℕ)
+    → slice_index_or (flags ++ replicate n false) c false ≡ slice_index_or flags c false
 longer [] n c = none_set n c
 longer (flag ∷ flags) n zero = refl
 longer (flag ∷ flags) n (suc c) = longer flags n c
@@ -53,23 +58,28 @@ marked_or flags m c more = by (eqb_tells m c)
         ap (λ b. b || more) (get_or-set_at long m c true false (sym e.1) reaches)
         ∙ or_one (slice_index_or flags c false) ∙ ap (λ t. slice_index_or flags c false || (t || more)) (sym e.0)
     by (inr e) =
-        ap (λ b. b || more) (get_or-set_other long m c true false (λ same. e.1 (sym same)) ∙ longer flags (m + 1 - length flags) c)
+        ap (λ b. b || more) (get_or-set_other long m c true false (λ same. e.1 (sym same))
+        ∙ longer flags (m + 1 - length flags) c)
         ∙ ap (λ t. slice_index_or flags c false || (t || more)) (sym e.0)
 
 -- a flag stands where it stood, and where a member is
 marked_are : (flags : List Bool) (members : List ℕ) (c : ℕ)
-    → slice_index_or (all_marked flags members) c false ≡ (slice_index_or flags c false || list_any (λ m. m == c) members)
+    → slice_index_or (all_marked flags members) c false
+    ≡ (slice_index_or flags c false || list_any (λ m. m == c) members)
 marked_are flags [] c = or_none (slice_index_or flags c false)
-marked_are flags (m ∷ members) c = marked_are (marked flags m) members c ∙ marked_or flags m c (list_any (λ m. m == c) members)
+marked_are flags (m ∷ members) c = marked_are (marked flags m) members c
+    ∙ marked_or flags m c (list_any (λ m. m == c) members)
 
 -- a number that is found is the one that was sought
-found_is : (members : List ℕ) (c : ℕ) → (if list_any (λ m. m == c) members then Some c else None) ≡ find (λ m. m == c) members
+found_is : (members : List ℕ) (c : ℕ)
+    → (if list_any (λ m. m == c) members then Some c else None) ≡ find (λ m. m == c) members
 found_is [] c = refl
 found_is (m ∷ members) c = by (found_is members c) (eqb_tells m c)
   where
     by : (if list_any (λ m. m == c) members then Some c else None) ≡ find (λ m. m == c) members
         → ((eqb m c ≡ true) × (m ≡ c)) ⊎ ((eqb m c ≡ false) × (m ≢ c))
-        → (if (m == c) || list_any (λ m. m == c) members then Some c else None) ≡ (if m == c then Some m else find (λ m. m == c) members)
+        → (if (m == c) || list_any (λ m. m == c) members then Some c else None)
+        ≡ (if m == c then Some m else find (λ m. m == c) members)
     by more (inl e) =
         ap (λ t. if t || list_any (λ m. m == c) members then Some c else None) e.0 ∙ ap Some (sym e.1)
         ∙ ap (λ t. if t then Some m else find (λ m. m == c) members) (sym e.0)
@@ -78,11 +88,14 @@ found_is (m ∷ members) c = by (found_is members c) (eqb_tells m c)
         ∙ ap (λ t. if t then Some m else find (λ m. m == c) members) (sym e.0)
 
 -- the characteristic that a class has, by the class's flags
-pub member_is : (classes : List Class) (k c : ℕ) → (if is_flagged (slice_get (rows_of classes) k) c then Some c else None) ≡ if_member (slice_get classes k) c
+pub member_is : (classes : List Class) (k c : ℕ)
+    → (if is_flagged (slice_get (rows_of classes) k) c then Some c else None) ≡ if_member (slice_get classes k) c
 member_is classes k c =
     ap (λ row. if is_flagged row c then Some c else None) (slice_get-map (λ class. flags_of class.members) classes k)
     ∙ by (slice_get classes k)
   where
-    by : (class : Option Class) → (if is_flagged (option_map (λ class. flags_of class.members) class) c then Some c else None) ≡ if_member class c
+    by : (class : Option Class)
+        → (if is_flagged (option_map (λ class. flags_of class.members) class) c then Some c else None)
+        ≡ if_member class c
     by None = refl
     by (Some class) = ap (λ b. if b then Some c else None) (marked_are [] class.members c) ∙ found_is class.members c

@@ -1,5 +1,6 @@
 -- Which characteristics the classes have, as flags.
-use Rattle.std.specs.Prelude.{ℕ, ◌+◌, ◌-◌, Bool, true, false, List, [], ◌∷◌, ◌++◌, length, map, replicate, slice_index_or, slice_set, Option, Some, None}
+use Rattle.std.specs.Prelude.{ℕ, ◌+◌, ◌-◌, Bool, true, false, List, [], ◌∷◌, ◌++◌, length, map, replicate}
+use Rattle.std.specs.Prelude.{slice_index_or, slice_set, Option, Some, None}
 use Rattle.vc_model_parts.specs.declared.parts.Class.{Class}
 
 -- flags, with that of a member set

@@ -8,6 +8,3 @@ pub mod names;
 
 pub use first_named::FirstNamed;
 pub use names::Names;
-
-#[cfg(test)]
-mod tests;

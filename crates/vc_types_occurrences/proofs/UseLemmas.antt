@@ -6,7 +6,8 @@ use Rattle.vc_types.specs.Settings.{Setting}
 use Rattle.vc_types_occurrences.specs.Met.{all_met}
 use Rattle.vc_types_occurrences.specs.declared.uses.Use.{Use as Met}
 
-pub met_join : (setting : Setting) (first second : List Use) → all_met setting (first ++ second) ≡ all_met setting first ++ all_met setting second
+pub met_join : (setting : Setting) (first second : List Use)
+    → all_met setting (first ++ second) ≡ all_met setting first ++ all_met setting second
 met_join setting first second = map-append _ first second
 
 pub ruleset joins = (met_join, map-append)

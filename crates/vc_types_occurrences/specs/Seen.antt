@@ -6,7 +6,8 @@ use Rattle.vc_syntax_terms.specs.declared.tree.NameLeaf.{NameLeaf}
 use Rattle.vc_syntax_terms.specs.declared.tree.Relation.{Relation as StoredRelation}
 use Rattle.vc_syntax_terms.specs.declared.tree.TableCall.{TableCall as StoredTableCall}
 use Rattle.vc_syntax_terms.specs.declared.tree.Term.{Term as StoredTerm}
-use Rattle.vc_syntax_terms.specs.Trees.{Condition, condition_of, Relation, relation_of, TableCall, table_call_of, Term, Number, term_of}
+use Rattle.vc_syntax_terms.specs.Trees.{Condition, condition_of, Relation, relation_of, TableCall, table_call_of, Term}
+use Rattle.vc_syntax_terms.specs.Trees.{Number, term_of}
 
 abbrev pub conditions_seen : List (Bor StoredCondition) → List Condition
 conditions_seen conditions = map (λ c. condition_of c.now) conditions

@@ -9,6 +9,3 @@ pub mod uses;
 
 pub use gathering::{Given, Leaves, Parts};
 pub use uses::Use;
-
-#[cfg(test)]
-mod tests;

@@ -1,5 +1,7 @@
 -- Numbers as they are written: an optional minus, digits, and optionally a point and digits.
-use Rattle.std.specs.Prelude.{ℕ, ◌+◌, ◌-◌, ◌*◌, ◌^◌, ℤ, pos, neg_ℤ, Bool, true, false, ◌&&◌, ◌==◌, not, nat_le, List, [], ◌∷◌, length, drop, fold, position, Option, Some, None, option_map, Result, Ok, Err, if◌then◌else◌}
+use Rattle.std.specs.Prelude.{ℕ, ◌+◌, ◌-◌, ◌*◌, ◌^◌, ℤ, pos, neg_ℤ, Bool, true, false, ◌&&◌, ◌==◌, not, nat_le, List}
+use Rattle.std.specs.Prelude.{[], ◌∷◌, length, drop, fold, position, Option, Some, None, option_map, Result, Ok, Err}
+use Rattle.std.specs.Prelude.{if◌then◌else◌}
 use Rattle.std.specs.List.{list_all, before_first}
 use Rattle.std.specs.Char.{is_ascii_digit}
 use Rattle.vc_value.specs.declared.decimal.Dec.{Dec}

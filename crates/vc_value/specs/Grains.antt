@@ -1,5 +1,6 @@
 -- Grains: closed intervals of numbers that ascend and share no number.
-use Rattle.std.specs.Prelude.{◌-◌, ◌^◌, ℕ, ℤ, pos, ◌+ℤ◌, ◌-ℤ◌, Bool, true, ◌&&◌, ◌||◌, List, [], ◌∷◌, ◌++◌, flat_map, if◌then◌else◌}
+use Rattle.std.specs.Prelude.{◌-◌, ◌^◌, ℕ, ℤ, pos, ◌+ℤ◌, ◌-ℤ◌, Bool, true, ◌&&◌, ◌||◌, List, [], ◌∷◌, ◌++◌, flat_map}
+use Rattle.std.specs.Prelude.{if◌then◌else◌}
 use Rattle.std.specs.List.{list_all, list_any}
 use Rattle.std.specs.Int.{int_min, int_max, int_rem_euclid}
 use Rattle.std.specs.Int.Signed.{lt_z, le_z}
@@ -26,7 +27,8 @@ is_ordered grain = le_z grain.low.millionths grain.high.millionths
 -- each grain is ordered, and lies below all that follow it
 abbrev pub is_ascending : List Grain → Bool
 is_ascending [] = true
-is_ascending (grain ∷ grains) = is_ordered grain && (list_all (λ later. is_below later.low grain) grains && is_ascending grains)
+is_ascending (grain ∷ grains) = is_ordered grain
+    && (list_all (λ later. is_below later.low grain) grains && is_ascending grains)
 
 -- one at the last of these decimals, in millionths
 abbrev pub unit_of : ℕ → ℕ
@@ -77,7 +79,9 @@ cut_at decimals at grains = flat_map (parts_of (unit_of decimals) at.millionths)
 
 -- the grain lies below the number, is the number, or lies above it
 abbrev pub is_apart : Dec → Grain → Bool
-is_apart n grain = is_below n grain || (lt_z n.millionths grain.low.millionths || (int_eq grain.low.millionths n.millionths && int_eq grain.high.millionths n.millionths))
+is_apart n grain = is_below n grain
+    || (lt_z n.millionths grain.low.millionths
+    || (int_eq grain.low.millionths n.millionths && int_eq grain.high.millionths n.millionths))
 
 -- one of the grains holds the number
 abbrev pub hold : Dec → List Grain → Bool

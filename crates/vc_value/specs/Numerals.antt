@@ -8,7 +8,8 @@ use Rattle.vc_value.specs.declared.decimal.Dec.{Dec}
 -- so many units of the last of these places after the point, as digits up to the last that isn't 0
 abbrev pub fraction_digits : ℕ → ℕ → List ℕ
 fraction_digits zero units = []
-fraction_digits (suc places) units = if units == 0 then [] else (48 + units / 10 ^ places) ∷ fraction_digits places (units % 10 ^ places)
+fraction_digits (suc places) units = if units == 0 then [] else (48 + units / 10 ^ places)
+    ∷ fraction_digits places (units % 10 ^ places)
 
 -- the point and the digits after it, if there are any
 abbrev pub fraction_text : ℕ → List ℕ

@@ -18,6 +18,3 @@ pub use numeral::printed_is_read;
 pub use table_header::{Column, Domain, Entry, TableHeader};
 pub use value::Value;
 pub use word::{Word, equals_ignoring_case};
-
-#[cfg(test)]
-mod tests;

@@ -5,6 +5,3 @@ pub mod cut;
 pub mod grains;
 
 pub use grains::CutGrains;
-
-#[cfg(test)]
-mod tests;

@@ -5,6 +5,3 @@ pub mod numbers;
 mod rounding;
 
 pub use numbers::Wide;
-
-#[cfg(test)]
-mod tests;

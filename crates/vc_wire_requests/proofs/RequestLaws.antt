@@ -5,17 +5,21 @@ use Rattle.std.specs.Str.{str_to_ascii_uppercase}
 use Rattle.vc_value.specs.Decimals.{number_of}
 use Rattle.vc_value.specs.Names.{is_name, is_session_name}
 use Rattle.vc_wire_requests.specs.Laws.{WrittenIsRead}
-use Rattle.vc_wire_requests.specs.Requests.{◌>>=◌, Named, cut_at_space, index_of, instance_in, instance_text, is_index, line_text, name_of, of_session, of_value, request_by, request_of, session_of, spaced, value_request}
-use Rattle.vc_wire_requests.specs.Verbs.{session_text, text_of, value_text, verb_of}
+use Rattle.vc_wire_requests.specs.Requests.{◌>>=◌, Named, cut_at_space, index_of, instance_in, instance_text, is_index}
+use Rattle.vc_wire_requests.specs.Requests.{characteristic_request, line_text, name_of, of_characteristic, of_session}
+use Rattle.vc_wire_requests.specs.Requests.{of_value, request_by, request_of, session_of, spaced, value_request}
+use Rattle.vc_wire_requests.specs.Verbs.{characteristic_text, session_text, value_text, verb_of}
 use Rattle.vc_wire_requests.specs.declared.request.Request.{Request}
-use Rattle.vc_wire_requests.specs.declared.request.Request.TheVariants as requests
+use Rattle.vc_wire_requests.specs.declared.verbs.OfCharacteristic.{OfCharacteristic}
+use Rattle.vc_wire_requests.specs.declared.verbs.OfCharacteristic.TheVariants as named
 use Rattle.vc_wire_requests.specs.declared.verbs.OfSession.{OfSession}
 use Rattle.vc_wire_requests.specs.declared.verbs.OfSession.TheVariants as asked
 use Rattle.vc_wire_requests.specs.declared.verbs.OfValue.{OfValue}
 use Rattle.vc_wire_requests.specs.declared.verbs.OfValue.TheVariants as done
 use Rattle.vc_wire_requests.specs.declared.verbs.Verb.{Verb}
 use Rattle.vc_wire_requests.specs.declared.verbs.Verb.TheVariants as verbs
-use Rattle.vc_wire_requests.proofs.WordLaws.{index_is, index_unspaced, is_unspaced, name_unspaced, session_unspaced, spaced_is_cut, upper_is_name, upper_stays}
+use Rattle.vc_wire_requests.proofs.WordLaws.{index_is, index_unspaced, is_unspaced, name_unspaced, session_unspaced}
+use Rattle.vc_wire_requests.proofs.WordLaws.{spaced_is_cut, upper_is_name, upper_stays}
 
 -- what leads on was there
 record Led {A B : Type 0} (o : Option A) (f : A → Option B) (b : B) : Type 0 where
@@ -54,8 +58,12 @@ session_line which session h = by which
     by asked.Start = led_by (session_text asked.Start) session (verbs.Session asked.Start) refl refl ∙ on asked.Start
     by asked.Close = led_by (session_text asked.Close) session (verbs.Session asked.Close) refl refl ∙ on asked.Close
     by asked.Show = led_by (session_text asked.Show) session (verbs.Session asked.Show) refl refl ∙ on asked.Show
+    by asked.Conflict = led_by (session_text asked.Conflict) session (verbs.Session asked.Conflict) refl refl
+        ∙ on asked.Conflict
+    by asked.Log = led_by (session_text asked.Log) session (verbs.Session asked.Log) refl refl ∙ on asked.Log
     by asked.Bill = led_by (session_text asked.Bill) session (verbs.Session asked.Bill) refl refl ∙ on asked.Bill
-    by asked.Routing = led_by (session_text asked.Routing) session (verbs.Session asked.Routing) refl refl ∙ on asked.Routing
+    by asked.Routing = led_by (session_text asked.Routing) session (verbs.Session asked.Routing) refl refl
+        ∙ on asked.Routing
 
 -- a session and an instance, read again
 instance_read : (session index rest : List ℕ) → is_session_name session ≡ true → is_index index ≡ true
@@ -66,7 +74,8 @@ instance_read session index rest s i =
     ∙ ap (λ cut. cut >>= (λ first. session_of first.0 >>= (λ name. cut_at_space first.1 >>= (λ second. index_of second.0
     >>= (λ number. Some (let named : Named = record { session = name; number = number; rest = second.1 } in named))))))
     (spaced_is_cut session (spaced index rest) (session_unspaced session s))
-    ∙ ap (λ b. (if b then Some session else None) >>= (λ name. cut_at_space (spaced index rest) >>= (λ second. index_of second.0
+    ∙ ap (λ b. (if b then Some session else None) >>=
+    (λ name. cut_at_space (spaced index rest) >>= (λ second. index_of second.0
     >>= (λ number. Some (let named : Named = record { session = name; number = number; rest = second.1 } in named))))) s
     ∙ ap (λ cut. cut >>= (λ second. index_of second.0
     >>= (λ number. Some (let named : Named = record { session = session; number = number; rest = second.1 } in named))))
@@ -75,21 +84,42 @@ instance_read session index rest s i =
     >>= (λ number. Some (let named : Named = record { session = session; number = number; rest = rest } in named))) i
 
 -- a name in upper case, read again
-name_read : (name : List ℕ) → is_name name ≡ true → name_of (str_to_ascii_uppercase name) ≡ Some (str_to_ascii_uppercase name)
+name_read : (name : List ℕ) → is_name name ≡ true
+    → name_of (str_to_ascii_uppercase name) ≡ Some (str_to_ascii_uppercase name)
 name_read name h =
-    ap (λ b. if b then Some (str_to_ascii_uppercase (str_to_ascii_uppercase name)) else None) (upper_is_name name h) ∙ ap Some (upper_stays name)
+    ap (λ b. if b then Some (str_to_ascii_uppercase (str_to_ascii_uppercase name)) else None) (upper_is_name name h)
+    ∙ ap Some (upper_stays name)
 
-retract_line : (session index name : List ℕ) → is_session_name session ≡ true → is_index index ≡ true → is_name name ≡ true
-    → let request = requests.Retract session (number_of index) (str_to_ascii_uppercase name) in
-    request_of (line_text request) ≡ Some request
-retract_line session index name s i n =
+characteristic_on : (which : OfCharacteristic) (session index name : List ℕ) → is_session_name session ≡ true
+    → is_index index ≡ true → is_name name ≡ true
+    → characteristic_request which (instance_text session (number_of index) (str_to_ascii_uppercase name))
+    ≡ Some (of_characteristic which session (number_of index) (str_to_ascii_uppercase name))
+characteristic_on which session index name s i n =
     let upper = str_to_ascii_uppercase name in
-    led_by (text_of verbs.Retract) (instance_text session (number_of index) upper) verbs.Retract refl refl
-    ∙ ap (λ found. found >>= (λ instance. name_of instance.rest >>= (λ word. Some (requests.Retract instance.session instance.number word))))
+    ap (λ found. found >>= (λ instance. name_of instance.rest
+    >>= (λ word. Some (of_characteristic which instance.session instance.number word))))
     (instance_read session index upper s i)
-    ∙ ap (λ found. found >>= (λ word. Some (requests.Retract session (number_of index) word))) (name_read name n)
+    ∙ ap (λ found. found >>= (λ word. Some (of_characteristic which session (number_of index) word))) (name_read name n)
 
-value_on : (which : OfValue) (session index name value : List ℕ) → is_session_name session ≡ true → is_index index ≡ true → is_name name ≡ true
+characteristic_again : (which : OfCharacteristic) (session index name : List ℕ) → is_session_name session ≡ true
+    → is_index index ≡ true → is_name name ≡ true
+    → let request = of_characteristic which session (number_of index) (str_to_ascii_uppercase name) in
+    request_of (line_text request) ≡ Some request
+characteristic_again which session index name s i n = by which
+  where
+    more : List ℕ
+    more = instance_text session (number_of index) (str_to_ascii_uppercase name)
+
+    by : (of : OfCharacteristic)
+        → let request = of_characteristic of session (number_of index) (str_to_ascii_uppercase name) in
+        request_of (line_text request) ≡ Some request
+    by named.Retract = led_by (characteristic_text named.Retract) more (verbs.Characteristic named.Retract) refl refl
+        ∙ characteristic_on named.Retract session index name s i n
+    by named.Why = led_by (characteristic_text named.Why) more (verbs.Characteristic named.Why) refl refl
+        ∙ characteristic_on named.Why session index name s i n
+
+value_on : (which : OfValue) (session index name value : List ℕ) → is_session_name session ≡ true
+    → is_index index ≡ true → is_name name ≡ true
     → value_request which (instance_text session (number_of index) (spaced (str_to_ascii_uppercase name) value))
     ≡ Some (of_value which session (number_of index) (str_to_ascii_uppercase name) value)
 value_on which session index name value s i n =
@@ -97,11 +127,13 @@ value_on which session index name value s i n =
     ap (λ found. found >>= (λ instance. cut_at_space instance.rest >>= (λ last. name_of last.0
     >>= (λ word. Some (of_value which instance.session instance.number word last.1)))))
     (instance_read session index (spaced upper value) s i)
-    ∙ ap (λ cut. cut >>= (λ last. name_of last.0 >>= (λ word. Some (of_value which session (number_of index) word last.1))))
+    ∙ ap (λ cut. cut >>=
+    (λ last. name_of last.0 >>= (λ word. Some (of_value which session (number_of index) word last.1))))
     (spaced_is_cut upper value (name_unspaced upper (upper_is_name name n)))
     ∙ ap (λ found. found >>= (λ word. Some (of_value which session (number_of index) word value))) (name_read name n)
 
-value_again : (which : OfValue) (session index name value : List ℕ) → is_session_name session ≡ true → is_index index ≡ true → is_name name ≡ true
+value_again : (which : OfValue) (session index name value : List ℕ) → is_session_name session ≡ true
+    → is_index index ≡ true → is_name name ≡ true
     → let request = of_value which session (number_of index) (str_to_ascii_uppercase name) value in
     request_of (line_text request) ≡ Some request
 value_again which session index name value s i n = by which
@@ -111,9 +143,14 @@ value_again which session index name value s i n = by which
 
     by : (of : OfValue) → let request = of_value of session (number_of index) (str_to_ascii_uppercase name) value in
         request_of (line_text request) ≡ Some request
-    by done.Set = led_by (value_text done.Set) more (verbs.Value done.Set) refl refl ∙ value_on done.Set session index name value s i n
-    by done.Add = led_by (value_text done.Add) more (verbs.Value done.Add) refl refl ∙ value_on done.Add session index name value s i n
-    by done.Drop = led_by (value_text done.Drop) more (verbs.Value done.Drop) refl refl ∙ value_on done.Drop session index name value s i n
+    by done.Set = led_by (value_text done.Set) more (verbs.Value done.Set) refl refl
+        ∙ value_on done.Set session index name value s i n
+    by done.Add = led_by (value_text done.Add) more (verbs.Value done.Add) refl refl
+        ∙ value_on done.Add session index name value s i n
+    by done.Drop = led_by (value_text done.Drop) more (verbs.Value done.Drop) refl refl
+        ∙ value_on done.Drop session index name value s i n
+    by done.WhyNot = led_by (value_text done.WhyNot) more (verbs.Value done.WhyNot) refl refl
+        ∙ value_on done.WhyNot session index name value s i n
 
 -- the words of an instance that is read
 record IsRead (instance : Named) : Type 0 where
@@ -152,21 +189,24 @@ by_verb (verbs.Value which) more request e =
     let last = led (cut_at_space instance.a.rest) _ request instance.on in
     let word = led (name_of last.a.0) _ request last.on in
     let name = passed (is_name last.a.0) (str_to_ascii_uppercase last.a.0) word.a word.there in
-    let is : of_value which instance.a.session (number_of words.index) (str_to_ascii_uppercase last.a.0) last.a.1 ≡ request =
+    let is : of_value which instance.a.session (number_of words.index) (str_to_ascii_uppercase last.a.0) last.a.1
+    ≡ request =
     ap (λ n. of_value which instance.a.session n (str_to_ascii_uppercase last.a.0) last.a.1) words.number
     ∙ ap (λ n. of_value which instance.a.session instance.a.number n last.a.1) name.same ∙ cc word.on in
     subst (λ r. request_of (line_text r) ≡ Some r) is
     (value_again which instance.a.session words.index last.a.0 last.a.1 words.session_is words.index_is_one name.yes)
-by_verb verbs.Retract more request e =
+by_verb (verbs.Characteristic which) more request e =
     let instance = led (instance_in more) _ request e in
     let words = was_read more instance.a instance.there in
     let word = led (name_of instance.a.rest) _ request instance.on in
     let name = passed (is_name instance.a.rest) (str_to_ascii_uppercase instance.a.rest) word.a word.there in
-    let is : requests.Retract instance.a.session (number_of words.index) (str_to_ascii_uppercase instance.a.rest) ≡ request =
-    ap (λ n. requests.Retract instance.a.session n (str_to_ascii_uppercase instance.a.rest)) words.number
-    ∙ ap (λ n. requests.Retract instance.a.session instance.a.number n) name.same ∙ cc word.on in
+    let is : of_characteristic which instance.a.session (number_of words.index)
+    (str_to_ascii_uppercase instance.a.rest) ≡ request =
+    ap (λ n. of_characteristic which instance.a.session n (str_to_ascii_uppercase instance.a.rest)) words.number
+    ∙ ap (λ n. of_characteristic which instance.a.session instance.a.number n) name.same ∙ cc word.on in
     subst (λ r. request_of (line_text r) ≡ Some r) is
-    (retract_line instance.a.session words.index instance.a.rest words.session_is words.index_is_one name.yes)
+    (characteristic_again which instance.a.session words.index instance.a.rest words.session_is words.index_is_one
+    name.yes)
 
 pub written_is_read : WrittenIsRead
 written_is_read line request e =

@@ -13,7 +13,8 @@ sets : request_of (codes "SET Desk 0 size Xl") ≡ Some (requests.Set (codes "De
 sets = refl
 
 -- a value is the rest of the line: with its spaces, or nothing
-sets_words : request_of (codes "add a 12 C  two words ") ≡ Some (requests.Add (codes "a") 12 (codes "C") (codes " two words "))
+sets_words : request_of (codes "add a 12 C  two words ")
+    ≡ Some (requests.Add (codes "a") 12 (codes "C") (codes " two words "))
 sets_words = refl
 
 sets_nothing : request_of (codes "drop a 999999999 C ") ≡ Some (requests.Drop (codes "a") 999999999 (codes "C") [])
@@ -33,6 +34,40 @@ routes = refl
 
 closes : request_of (codes "close a") ≡ Some (requests.Close (codes "a"))
 closes = refl
+
+-- why a value stands, or can't; what contradicts; all that follows
+asks_why : request_of (codes "Why a 0 motor") ≡ Some (requests.Why (codes "a") 0 (codes "MOTOR"))
+asks_why = refl
+
+asks_why_not : request_of (codes "WHYNOT a 0 motor e 1")
+    ≡ Some (requests.WhyNot (codes "a") 0 (codes "MOTOR") (codes "e 1"))
+asks_why_not = refl
+
+asks_what_contradicts : request_of (codes "conflict a") ≡ Some (requests.Conflict (codes "a"))
+asks_what_contradicts = refl
+
+asks_all : request_of (codes "log a") ≡ Some (requests.Log (codes "a"))
+asks_all = refl
+
+-- of a value that stands it is asked without one, of another with it
+why_with_a_value : request_of (codes "why a 0 C x") ≡ None
+why_with_a_value = refl
+
+why_not_without : request_of (codes "whynot a 0 C") ≡ None
+why_not_without = refl
+
+conflict_at : request_of (codes "conflict a 0 C") ≡ None
+conflict_at = refl
+
+-- nothing is kept outside a session
+saves : request_of (codes "save a b") ≡ None
+saves = refl
+
+loads : request_of (codes "load a b") ≡ None
+loads = refl
+
+forgets : request_of (codes "forget a") ≡ None
+forgets = refl
 
 -- words are separated by one space each, and none is left out
 two_spaces : request_of (codes "open  a") ≡ None
@@ -87,3 +122,17 @@ written_start = refl
 written_retract : line_text (requests.Retract (codes "a") 0 (codes "SIZE")) ≡ codes "retract a 0 SIZE"
 unfolding digits
 written_retract = refl
+
+written_why : line_text (requests.Why (codes "a") 0 (codes "SIZE")) ≡ codes "why a 0 SIZE"
+unfolding digits
+written_why = refl
+
+written_why_not : line_text (requests.WhyNot (codes "a") 7 (codes "SIZE") (codes "L")) ≡ codes "whynot a 7 SIZE L"
+unfolding digits
+written_why_not = refl
+
+written_conflict : line_text (requests.Conflict (codes "a")) ≡ codes "conflict a"
+written_conflict = refl
+
+written_log : line_text (requests.Log (codes "a")) ≡ codes "log a"
+written_log = refl

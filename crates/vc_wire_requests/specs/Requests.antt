@@ -1,13 +1,16 @@
 -- What the lines of a script ask: words, each behind one space, and for a value the rest of the line.
-use Rattle.std.specs.Prelude.{ℕ, ◌+◌, Bool, false, not, ◌&&◌, ◌||◌, ◌==◌, nat_le, List, [], ◌∷◌, ◌++◌, length, take, drop, position, decimal, Option, None, Some, if◌then◌else◌}
+use Rattle.std.specs.Prelude.{ℕ, ◌+◌, Bool, false, not, ◌&&◌, ◌||◌, ◌==◌, nat_le, List, [], ◌∷◌, ◌++◌, length, take}
+use Rattle.std.specs.Prelude.{drop, position, decimal, Option, None, Some, if◌then◌else◌}
 use Rattle.std.specs.Option.{option_map}
 use Rattle.std.specs.Str.{str_to_ascii_uppercase}
 use Rattle.vc_value.specs.Decimals.{are_digits, number_of}
 use Rattle.vc_value.specs.Names.{is_name, is_session_name}
-use Rattle.vc_wire_requests.specs.Verbs.{session_text, text_of, value_text, verb_of}
+use Rattle.vc_wire_requests.specs.Verbs.{text_of, verb_of}
 use Rattle.vc_wire_requests.specs.declared.cutting.Instance.{Instance}
 use Rattle.vc_wire_requests.specs.declared.request.Request.{Request}
 use Rattle.vc_wire_requests.specs.declared.request.Request.TheVariants as requests
+use Rattle.vc_wire_requests.specs.declared.verbs.OfCharacteristic.{OfCharacteristic}
+use Rattle.vc_wire_requests.specs.declared.verbs.OfCharacteristic.TheVariants as named
 use Rattle.vc_wire_requests.specs.declared.verbs.OfSession.{OfSession}
 use Rattle.vc_wire_requests.specs.declared.verbs.OfSession.TheVariants as asked
 use Rattle.vc_wire_requests.specs.declared.verbs.OfValue.{OfValue}
@@ -32,7 +35,8 @@ session_of word = if is_session_name word then Some word else None
 -- the number of an instance: `0`, or at most nine digits of which the first isn't `0`
 abbrev pub is_index : List ℕ → Bool
 is_index [] = false
-is_index (first ∷ more) = (are_digits (first ∷ more) && nat_le (length more) 8) && (not (first == 48) || (length more == 0))
+is_index (first ∷ more) = (are_digits (first ∷ more) && nat_le (length more) 8)
+    && (not (first == 48) || (length more == 0))
 
 abbrev pub index_of : List ℕ → Option ℕ
 index_of word = if is_index word then Some (number_of word) else None
@@ -58,18 +62,25 @@ instance_in more = do
   number ← index_of second.0
   Some (record { session = session; number = number; rest = second.1 })
 
--- what is asked of a session, and done with a value
+-- what is asked of a session, of a characteristic, and of a value
 abbrev pub of_session : OfSession → List ℕ → Request
 of_session asked.Start session = requests.Start session
 of_session asked.Close session = requests.Close session
 of_session asked.Show session = requests.Show session
+of_session asked.Conflict session = requests.Conflict session
+of_session asked.Log session = requests.Log session
 of_session asked.Bill session = requests.Bill session
 of_session asked.Routing session = requests.Routing session
+
+abbrev pub of_characteristic : OfCharacteristic → List ℕ → ℕ → List ℕ → Request
+of_characteristic named.Retract session instance name = requests.Retract session instance name
+of_characteristic named.Why session instance name = requests.Why session instance name
 
 abbrev pub of_value : OfValue → List ℕ → ℕ → List ℕ → List ℕ → Request
 of_value done.Set session instance name value = requests.Set session instance name value
 of_value done.Add session instance name value = requests.Add session instance name value
 of_value done.Drop session instance name value = requests.Drop session instance name value
+of_value done.WhyNot session instance name value = requests.WhyNot session instance name value
 
 -- what follows the verb: `s`, a session alone; `s i C`, a characteristic of an instance; or `s i C value`, and the rest
 -- of the line as a value, which may be empty
@@ -78,11 +89,11 @@ session_request which more = do
   session ← session_of more
   Some (of_session which session)
 
-abbrev pub retract_request : List ℕ → Option Request
-retract_request more = do
+abbrev pub characteristic_request : OfCharacteristic → List ℕ → Option Request
+characteristic_request which more = do
   instance ← instance_in more
   name ← name_of instance.rest
-  Some (requests.Retract instance.session instance.number name)
+  Some (of_characteristic which instance.session instance.number name)
 
 abbrev pub value_request : OfValue → List ℕ → Option Request
 value_request which more = do
@@ -93,8 +104,8 @@ value_request which more = do
 
 abbrev pub request_by : Verb → List ℕ → Option Request
 request_by (verbs.Session which) more = session_request which more
+request_by (verbs.Characteristic which) more = characteristic_request which more
 request_by (verbs.Value which) more = value_request which more
-request_by verbs.Retract more = retract_request more
 
 -- the request that a line spells, if it spells one
 abbrev pub request_of : List ℕ → Option Request
@@ -110,16 +121,38 @@ spaced word more = word ++ 32 ∷ more
 abbrev pub instance_text : List ℕ → ℕ → List ℕ → List ℕ
 instance_text session number rest = spaced session (spaced (decimal number) rest)
 
-abbrev pub value_line : OfValue → List ℕ → ℕ → List ℕ → List ℕ → List ℕ
-value_line which session instance name value = spaced (value_text which) (instance_text session instance (spaced name value))
+abbrev pub value_text : List ℕ → ℕ → List ℕ → List ℕ → List ℕ
+value_text session instance name value = instance_text session instance (spaced name value)
+
+abbrev pub verb_in : Request → Verb
+verb_in (requests.Start session) = verbs.Session asked.Start
+verb_in (requests.Close session) = verbs.Session asked.Close
+verb_in (requests.Set session instance name value) = verbs.Value done.Set
+verb_in (requests.Retract session instance name) = verbs.Characteristic named.Retract
+verb_in (requests.Add session instance name value) = verbs.Value done.Add
+verb_in (requests.Drop session instance name value) = verbs.Value done.Drop
+verb_in (requests.Show session) = verbs.Session asked.Show
+verb_in (requests.Why session instance name) = verbs.Characteristic named.Why
+verb_in (requests.WhyNot session instance name value) = verbs.Value done.WhyNot
+verb_in (requests.Conflict session) = verbs.Session asked.Conflict
+verb_in (requests.Log session) = verbs.Session asked.Log
+verb_in (requests.Bill session) = verbs.Session asked.Bill
+verb_in (requests.Routing session) = verbs.Session asked.Routing
+
+abbrev pub fields_text : Request → List ℕ
+fields_text (requests.Start session) = session
+fields_text (requests.Close session) = session
+fields_text (requests.Set session instance name value) = value_text session instance name value
+fields_text (requests.Retract session instance name) = instance_text session instance name
+fields_text (requests.Add session instance name value) = value_text session instance name value
+fields_text (requests.Drop session instance name value) = value_text session instance name value
+fields_text (requests.Show session) = session
+fields_text (requests.Why session instance name) = instance_text session instance name
+fields_text (requests.WhyNot session instance name value) = value_text session instance name value
+fields_text (requests.Conflict session) = session
+fields_text (requests.Log session) = session
+fields_text (requests.Bill session) = session
+fields_text (requests.Routing session) = session
 
 abbrev pub line_text : Request → List ℕ
-line_text (requests.Start session) = spaced (session_text asked.Start) session
-line_text (requests.Close session) = spaced (session_text asked.Close) session
-line_text (requests.Set session instance name value) = value_line done.Set session instance name value
-line_text (requests.Retract session instance name) = spaced (text_of verbs.Retract) (instance_text session instance name)
-line_text (requests.Add session instance name value) = value_line done.Add session instance name value
-line_text (requests.Drop session instance name value) = value_line done.Drop session instance name value
-line_text (requests.Show session) = spaced (session_text asked.Show) session
-line_text (requests.Bill session) = spaced (session_text asked.Bill) session
-line_text (requests.Routing session) = spaced (session_text asked.Routing) session
+line_text request = spaced (text_of (verb_in request)) (fields_text request)

@@ -11,6 +11,3 @@ pub mod verbs;
 pub use printing::line_text;
 pub use reading::read_line;
 pub use request::Request;
-
-#[cfg(test)]
-mod tests;

@@ -2,10 +2,10 @@
 
 ghost use Rattle.std.specs.Prelude.{◌≡◌, ◌++◌, [], codes, IfOk, OnOk};
 ghost use Rattle.vc_wire_requests.specs.Requests as asked;
-ghost use Rattle.vc_wire_requests.specs.Verbs.{session_text, text_of, value_text};
+ghost use Rattle.vc_wire_requests.specs.Verbs.{text_of};
 
 use crate::request::Request;
-use crate::verbs::{OfSession, OfValue, Verb};
+use crate::verbs::{OfCharacteristic, OfSession, OfValue, Verb};
 use std::alloc::{AllocError, Global};
 use vc_value::Word;
 
@@ -13,56 +13,29 @@ use vc_value::Word;
 pub fn line_text(alloc: Global, request: &Request) -> Result<Word, AllocError>
     ensures { IfOk result (λ text. text ≡ asked.line_text request.now) }
 {
+    let mut text = begun(alloc, verb_in(request))?;
+    put_fields(alloc, &mut text, request)?;
+    Ok(text)
+}
+
+// What the request wants.
+fn verb_in(request: &Request) -> Verb
+    ensures { result ≡ asked.verb_in request.now }
+{
     match request {
-        Request::Start { session } => session_line(alloc, OfSession::Start, session),
-        Request::Close { session } => session_line(alloc, OfSession::Close, session),
-        Request::Show { session } => session_line(alloc, OfSession::Show, session),
-        Request::Bill { session } => session_line(alloc, OfSession::Bill, session),
-        Request::Routing { session } => session_line(alloc, OfSession::Routing, session),
-        Request::Retract {
-            session,
-            instance,
-            characteristic,
-        } => retract_line(alloc, session, *instance, characteristic),
-        Request::Set {
-            session,
-            instance,
-            characteristic,
-            value,
-        } => value_line(
-            alloc,
-            OfValue::Set,
-            session,
-            *instance,
-            characteristic,
-            value,
-        ),
-        Request::Add {
-            session,
-            instance,
-            characteristic,
-            value,
-        } => value_line(
-            alloc,
-            OfValue::Add,
-            session,
-            *instance,
-            characteristic,
-            value,
-        ),
-        Request::Drop {
-            session,
-            instance,
-            characteristic,
-            value,
-        } => value_line(
-            alloc,
-            OfValue::Drop,
-            session,
-            *instance,
-            characteristic,
-            value,
-        ),
+        Request::Start { .. } => Verb::Session(OfSession::Start),
+        Request::Close { .. } => Verb::Session(OfSession::Close),
+        Request::Set { .. } => Verb::Value(OfValue::Set),
+        Request::Retract { .. } => Verb::Characteristic(OfCharacteristic::Retract),
+        Request::Add { .. } => Verb::Value(OfValue::Add),
+        Request::Drop { .. } => Verb::Value(OfValue::Drop),
+        Request::Show { .. } => Verb::Session(OfSession::Show),
+        Request::Why { .. } => Verb::Characteristic(OfCharacteristic::Why),
+        Request::WhyNot { .. } => Verb::Value(OfValue::WhyNot),
+        Request::Conflict { .. } => Verb::Session(OfSession::Conflict),
+        Request::Log { .. } => Verb::Session(OfSession::Log),
+        Request::Bill { .. } => Verb::Session(OfSession::Bill),
+        Request::Routing { .. } => Verb::Session(OfSession::Routing),
     }
 }
 
@@ -76,12 +49,53 @@ fn begun(alloc: Global, verb: Verb) -> Result<Word, AllocError>
     Ok(text)
 }
 
-fn session_line(alloc: Global, which: OfSession, session: &Word) -> Result<Word, AllocError>
-    ensures { IfOk result (λ text. text ≡ asked.spaced (session_text which) session.now) }
+// What follows the verb.
+fn put_fields(alloc: Global, text: &mut Word, request: &Request) -> Result<(), AllocError>
+    ensures { OnOk result (text.new ≡ text.old ++ asked.fields_text request.now) }
 {
-    let mut text = begun(alloc, Verb::Session(which))?;
-    text.append(session.bytes())?;
-    Ok(text)
+    match request {
+        Request::Start { session }
+        | Request::Close { session }
+        | Request::Show { session }
+        | Request::Conflict { session }
+        | Request::Log { session }
+        | Request::Bill { session }
+        | Request::Routing { session } => text.append(session.bytes()),
+        Request::Retract {
+            session,
+            instance,
+            characteristic,
+        }
+        | Request::Why {
+            session,
+            instance,
+            characteristic,
+        } => put_characteristic(alloc, text, session, *instance, characteristic),
+        Request::Set {
+            session,
+            instance,
+            characteristic,
+            value,
+        }
+        | Request::Add {
+            session,
+            instance,
+            characteristic,
+            value,
+        }
+        | Request::Drop {
+            session,
+            instance,
+            characteristic,
+            value,
+        }
+        | Request::WhyNot {
+            session,
+            instance,
+            characteristic,
+            value,
+        } => put_value(alloc, text, session, *instance, characteristic, value),
+    }
 }
 
 // The session and the number of the instance, each with a space behind it.
@@ -100,36 +114,31 @@ fn put_instance(
     text.append_text(" ")
 }
 
-fn retract_line(
+fn put_characteristic(
     alloc: Global,
+    text: &mut Word,
     session: &Word,
     instance: u32,
     characteristic: &Word,
-) -> Result<Word, AllocError>
-    ensures { IfOk result (λ text. text
-        ≡ asked.spaced (text_of Verb.Retract) (asked.instance_text session.now instance characteristic.now)) }
+) -> Result<(), AllocError>
+    ensures { OnOk result (text.new ≡ text.old ++ asked.instance_text session.now instance characteristic.now) }
 {
-    let mut text = begun(alloc, Verb::Retract)?;
-    put_instance(alloc, &mut text, session, instance)?;
-    text.append(characteristic.bytes())?;
-    Ok(text)
+    put_instance(alloc, text, session, instance)?;
+    text.append(characteristic.bytes())
 }
 
-fn value_line(
+fn put_value(
     alloc: Global,
-    which: OfValue,
+    text: &mut Word,
     session: &Word,
     instance: u32,
     characteristic: &Word,
     value: &Word,
-) -> Result<Word, AllocError>
-    ensures { IfOk result (λ text. text
-        ≡ asked.value_line which session.now instance characteristic.now value.now) }
+) -> Result<(), AllocError>
+    ensures { OnOk result (text.new
+        ≡ text.old ++ asked.value_text session.now instance characteristic.now value.now) }
 {
-    let mut text = begun(alloc, Verb::Value(which))?;
-    put_instance(alloc, &mut text, session, instance)?;
-    text.append(characteristic.bytes())?;
+    put_characteristic(alloc, text, session, instance, characteristic)?;
     text.append_text(" ")?;
-    text.append(value.bytes())?;
-    Ok(text)
+    text.append(value.bytes())
 }

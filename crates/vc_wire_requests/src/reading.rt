@@ -5,7 +5,7 @@ ghost use Rattle.vc_wire_requests.specs.Requests as asked;
 
 use crate::cutting::{cut_at_space, instance_in};
 use crate::request::Request;
-use crate::verbs::{OfSession, OfValue, Verb, verb_of};
+use crate::verbs::{OfCharacteristic, OfSession, OfValue, Verb, verb_of};
 use std::alloc::{AllocError, Global};
 use vc_value::{Word, is_name, is_session_name};
 
@@ -16,8 +16,32 @@ fn of_session(which: OfSession, session: Word) -> Request
         OfSession::Start => Request::Start { session },
         OfSession::Close => Request::Close { session },
         OfSession::Show => Request::Show { session },
+        OfSession::Conflict => Request::Conflict { session },
+        OfSession::Log => Request::Log { session },
         OfSession::Bill => Request::Bill { session },
         OfSession::Routing => Request::Routing { session },
+    }
+}
+
+fn of_characteristic(
+    which: OfCharacteristic,
+    session: Word,
+    instance: u32,
+    characteristic: Word,
+) -> Request
+    ensures { result ≡ asked.of_characteristic which session instance characteristic }
+{
+    match which {
+        OfCharacteristic::Retract => Request::Retract {
+            session,
+            instance,
+            characteristic,
+        },
+        OfCharacteristic::Why => Request::Why {
+            session,
+            instance,
+            characteristic,
+        },
     }
 }
 
@@ -49,6 +73,12 @@ fn of_value(
             characteristic,
             value,
         },
+        OfValue::WhyNot => Request::WhyNot {
+            session,
+            instance,
+            characteristic,
+            value,
+        },
     }
 }
 
@@ -68,8 +98,12 @@ fn session_request(
 }
 
 // `s i C`
-fn retract_request(alloc: Global, more: &[u8]) -> Result<Option<Request>, AllocError>
-    ensures { IfOk result (λ found. found ≡ asked.retract_request more.now) }
+fn characteristic_request(
+    alloc: Global,
+    which: OfCharacteristic,
+    more: &[u8],
+) -> Result<Option<Request>, AllocError>
+    ensures { IfOk result (λ found. found ≡ asked.characteristic_request which more.now) }
 {
     let Some(instance) = instance_in(more) else {
         return Ok(None);
@@ -79,11 +113,7 @@ fn retract_request(alloc: Global, more: &[u8]) -> Result<Option<Request>, AllocE
     }
     let session = Word::from_bytes(alloc, instance.session)?;
     let characteristic = Word::upper_from(alloc, instance.rest)?;
-    Ok(Some(Request::Retract {
-        session,
-        instance: instance.number,
-        characteristic,
-    }))
+    Ok(Some(of_characteristic(which, session, instance.number, characteristic)))
 }
 
 // `s i C value`
@@ -110,8 +140,8 @@ fn request_by(alloc: Global, verb: Verb, more: &[u8]) -> Result<Option<Request>,
 {
     match verb {
         Verb::Session(which) => session_request(alloc, which, more),
+        Verb::Characteristic(which) => characteristic_request(alloc, which, more),
         Verb::Value(which) => value_request(alloc, which, more),
-        Verb::Retract => retract_request(alloc, more),
     }
 }
 

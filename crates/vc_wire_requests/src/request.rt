@@ -45,6 +45,27 @@ pub enum Request {
     Show {
         session: Word,
     },
+    /// Tells why the characteristic has its value.
+    Why {
+        session: Word,
+        instance: u32,
+        characteristic: Word,
+    },
+    /// Tells why the characteristic can't have this value.
+    WhyNot {
+        session: Word,
+        instance: u32,
+        characteristic: Word,
+        value: Word,
+    },
+    /// Tells what contradicts.
+    Conflict {
+        session: Word,
+    },
+    /// Tells all that follows.
+    Log {
+        session: Word,
+    },
     /// Shows the bill of materials.
     Bill {
         session: Word,

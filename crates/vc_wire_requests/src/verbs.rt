@@ -11,24 +11,34 @@ pub enum OfSession {
     Start,
     Close,
     Show,
+    Conflict,
+    Log,
     Bill,
     Routing,
 }
 
-/// What is done with a value of a characteristic.
+/// What is done with a characteristic, or asked of it.
+#[derive(Clone, Copy, Debug, PartialEq, Eq)]
+pub enum OfCharacteristic {
+    Retract,
+    Why,
+}
+
+/// What is done with a value of a characteristic, or asked of it.
 #[derive(Clone, Copy, Debug, PartialEq, Eq)]
 pub enum OfValue {
     Set,
     Add,
     Drop,
+    WhyNot,
 }
 
 /// What a request wants, by what follows its word.
 #[derive(Clone, Copy, Debug, PartialEq, Eq)]
 pub enum Verb {
     Session(OfSession),
+    Characteristic(OfCharacteristic),
     Value(OfValue),
-    Retract,
 }
 
 impl OfSession {
@@ -40,8 +50,22 @@ impl OfSession {
             OfSession::Start => "open",
             OfSession::Close => "close",
             OfSession::Show => "show",
+            OfSession::Conflict => "conflict",
+            OfSession::Log => "log",
             OfSession::Bill => "bill",
             OfSession::Routing => "routing",
+        }
+    }
+}
+
+impl OfCharacteristic {
+    /// The word, in lower case.
+    pub fn text(self) -> &'static str
+        ensures { result.now ≡ verbs.characteristic_text self }
+    {
+        match self {
+            OfCharacteristic::Retract => "retract",
+            OfCharacteristic::Why => "why",
         }
     }
 }
@@ -55,6 +79,7 @@ impl OfValue {
             OfValue::Set => "set",
             OfValue::Add => "add",
             OfValue::Drop => "drop",
+            OfValue::WhyNot => "whynot",
         }
     }
 }
@@ -66,8 +91,8 @@ impl Verb {
     {
         match self {
             Verb::Session(asked) => asked.text(),
+            Verb::Characteristic(named) => named.text(),
             Verb::Value(done) => done.text(),
-            Verb::Retract => "retract",
         }
     }
 }
@@ -88,10 +113,26 @@ fn session_verb(word: &[u8]) -> Option<OfSession>
         Some(OfSession::Close)
     } else if is_verb(word, Verb::Session(OfSession::Show)) {
         Some(OfSession::Show)
+    } else if is_verb(word, Verb::Session(OfSession::Conflict)) {
+        Some(OfSession::Conflict)
+    } else if is_verb(word, Verb::Session(OfSession::Log)) {
+        Some(OfSession::Log)
     } else if is_verb(word, Verb::Session(OfSession::Bill)) {
         Some(OfSession::Bill)
     } else if is_verb(word, Verb::Session(OfSession::Routing)) {
         Some(OfSession::Routing)
+    } else {
+        None
+    }
+}
+
+fn characteristic_verb(word: &[u8]) -> Option<OfCharacteristic>
+    ensures { result ≡ verbs.characteristic_verb word.now }
+{
+    if is_verb(word, Verb::Characteristic(OfCharacteristic::Retract)) {
+        Some(OfCharacteristic::Retract)
+    } else if is_verb(word, Verb::Characteristic(OfCharacteristic::Why)) {
+        Some(OfCharacteristic::Why)
     } else {
         None
     }
@@ -106,6 +147,8 @@ fn value_verb(word: &[u8]) -> Option<OfValue>
         Some(OfValue::Add)
     } else if is_verb(word, Verb::Value(OfValue::Drop)) {
         Some(OfValue::Drop)
+    } else if is_verb(word, Verb::Value(OfValue::WhyNot)) {
+        Some(OfValue::WhyNot)
     } else {
         None
     }
@@ -115,11 +158,11 @@ fn value_verb(word: &[u8]) -> Option<OfValue>
 pub fn verb_of(word: &[u8]) -> Option<Verb>
     ensures { result ≡ verbs.verb_of word.now }
 {
-    if is_verb(word, Verb::Retract) {
-        return Some(Verb::Retract);
-    }
     if let Some(asked) = session_verb(word) {
         return Some(Verb::Session(asked));
+    }
+    if let Some(named) = characteristic_verb(word) {
+        return Some(Verb::Characteristic(named));
     }
     let done = value_verb(word)?;
     Some(Verb::Value(done))

@@ -18,7 +18,8 @@ use Rattle.vc_plan.proofs.PlanRows.Models as plans
 use Rattle.vc_compile_plan.specs.PlanOf.{plan_of}
 use Rattle.vc_compile_plan.specs.Slots.{slots_of, is_too_deep, has_too_many_slots}
 use Rattle.vc_compile_plan.specs.Variables.{vars_of, sets_of}
-use Rattle.vc_compile_plan.proofs.PlanRows.Words.{Spots, leaf, text, plain, asks, selection, listed_text, texts, characteristic, class, line, object, empty}
+use Rattle.vc_compile_plan.proofs.PlanRows.Words.{Spots, leaf, text, plain, asks, selection, listed_text, texts}
+use Rattle.vc_compile_plan.proofs.PlanRows.Words.{characteristic, class, line, object, empty}
 
 -- TOP has a plain line, MIDDLE and LEAF; MIDDLE has LEAF and a plain line
 abbrev plain_line : Spots → BillItem
@@ -39,7 +40,8 @@ nested p = record empty {
       ∷ [];
   dependencies =
       selection p (codes "S_C") (asks p (plain (codes "C")) relators.Equal (text (codes "Y")))
-      ∷ selection p (codes "S_ROOT") (asks p (terms.Operand (Owned Root (leaf (codes "C")))) relators.Equal (text (codes "Y")))
+      ∷ selection p (codes "S_ROOT")
+      (asks p (terms.Operand (Owned Root (leaf (codes "C")))) relators.Equal (text (codes "Y")))
       ∷ [];
   root = 2;
 }
@@ -62,7 +64,8 @@ nested_vars p = refl
 
 -- where C is MULTIPLE they have sets
 abbrev nested_multiple : Spots → Model
-nested_multiple p = record (nested p) { characteristics = characteristic (codes "C") false (texts true (listed_text 0 ∷ [])) ∷ [] }
+nested_multiple p = record (nested p)
+    { characteristics = characteristic (codes "C") false (texts true (listed_text 0 ∷ [])) ∷ [] }
 
 multiple_sets : (p : Spots)
     → sets_of (nested_multiple p) (slots_of (nested_multiple p))
@@ -72,7 +75,8 @@ multiple_sets p = refl
 multiple_vars : (p : Spots) → vars_of (nested_multiple p) (slots_of (nested_multiple p)) ≡ []
 multiple_vars p = refl
 
--- the LEAF of MIDDLE has a rule for each of its selection conditions, asked of MIDDLE and of the root; the others ask nothing
+-- the LEAF of MIDDLE has a rule for each of its selection conditions, asked of MIDDLE and of the root; the others ask
+-- nothing
 nested_rules : (p : Spots)
     → (plan_of p.node (nested p) []).rules
     ≡ plans.last 0
@@ -110,7 +114,8 @@ four_levels p = refl
 
 -- a root with so many configurable lines
 abbrev wide : Spots → ℕ → Model
-wide p n = record empty { objects = object (codes "A") 0 [] ∷ object (codes "B") 0 (replicate n (brings p 0 [])) ∷ []; root = 1 }
+wide p n = record empty
+    { objects = object (codes "A") 0 [] ∷ object (codes "B") 0 (replicate n (brings p 0 [])) ∷ []; root = 1 }
 
 forty_one : (p : Spots) → has_too_many_slots (wide p 40) ≡ true
 forty_one p = refl

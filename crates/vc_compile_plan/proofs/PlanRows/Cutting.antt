@@ -24,7 +24,11 @@ use Rattle.vc_table.specs.declared.table.VariantTable.{VariantTable}
 use Rattle.vc_plan.proofs.PlanRows.Models as plans
 use Rattle.vc_compile_plan.specs.Cuts.{domains_of}
 use Rattle.vc_compile_plan.specs.Layouts.{layout_of}
-use Rattle.vc_compile_plan.proofs.PlanRows.Words.{Spots, millionths, number, whole, plain, member, relation, asks, of_class, binds, calls, always, where_true, constraint, called, precondition, from_to, numbers, characteristic, class, column, net, object, empty, rows, selection, procedure, does_if, leaf, term_box, line}
+use Rattle.vc_compile_plan.proofs.PlanRows.Words.{Spots, millionths, number, whole, plain, member, relation, asks}
+use Rattle.vc_compile_plan.proofs.PlanRows.Words.{of_class, binds, calls, always, where_true, constraint, called}
+use Rattle.vc_compile_plan.proofs.PlanRows.Words.{precondition, from_to, numbers, characteristic, class, column, net}
+use Rattle.vc_compile_plan.proofs.PlanRows.Words.{object, empty, rows, selection, procedure, does_if, leaf, term_box}
+use Rattle.vc_compile_plan.proofs.PlanRows.Words.{line}
 
 -- A is 0 .. 100 with one decimal, B the same with none; what is used stands at the object of the only slot
 abbrev pub lists : Model
@@ -64,18 +68,24 @@ abbrev a_in : List Grain → List Domain
 a_in grains = Nums 1 grains ∷ Nums 0 (plans.from_to 0 100 ∷ []) ∷ []
 
 -- `=` as a restriction cuts at its literal, and at that rounded: 5.05 is 5.1
-equal_rounds : (p : Spots) → cut_by (relates p a relators.Equal (number 5_050_000) ∷ []) ≡ a_in (tenths 0 50 ∷ tenths 51 51 ∷ tenths 52 1000 ∷ [])
+equal_rounds : (p : Spots)
+    → cut_by (relates p a relators.Equal (number 5_050_000) ∷ [])
+    ≡ a_in (tenths 0 50 ∷ tenths 51 51 ∷ tenths 52 1000 ∷ [])
 equal_rounds p = refl
 
 -- the other relations cut at the literal alone, and so does `=` in a condition
-less_stays : (p : Spots) → cut_by (relates p a relators.Less (number 5_050_000) ∷ []) ≡ a_in (tenths 0 50 ∷ tenths 51 1000 ∷ [])
+less_stays : (p : Spots)
+    → cut_by (relates p a relators.Less (number 5_050_000) ∷ []) ≡ a_in (tenths 0 50 ∷ tenths 51 1000 ∷ [])
 less_stays p = refl
 
-turned_round : (p : Spots) → cut_by (relates p (number 5_000_000) relators.GreaterEqual a ∷ []) ≡ a_in (tenths 0 49 ∷ tenths 50 50 ∷ tenths 51 1000 ∷ [])
+turned_round : (p : Spots)
+    → cut_by (relates p (number 5_000_000) relators.GreaterEqual a ∷ [])
+    ≡ a_in (tenths 0 49 ∷ tenths 50 50 ∷ tenths 51 1000 ∷ [])
 turned_round p = refl
 
 condition_stays : (p : Spots)
-    → cut_by (where_true p (asks p a relators.Equal (number 5_050_000)) demands.False ∷ []) ≡ a_in (tenths 0 50 ∷ tenths 51 1000 ∷ [])
+    → cut_by (where_true p (asks p a relators.Equal (number 5_050_000)) demands.False ∷ [])
+    ≡ a_in (tenths 0 50 ∷ tenths 51 1000 ∷ [])
 condition_stays p = refl
 
 -- two cuts at one number are one
@@ -89,7 +99,8 @@ outside : (p : Spots) → cut_by (relates p a relators.Less (whole 200) ∷ []) 
 outside p = refl
 
 computed : (p : Spots)
-    → cut_by (relates p a relators.Less (terms.Combined' p.node (whole 2) Times p.node (whole 5)) ∷ []) ≡ a_in (tenths 0 1000 ∷ [])
+    → cut_by (relates p a relators.Less (terms.Combined' p.node (whole 2) Times p.node (whole 5)) ∷ [])
+    ≡ a_in (tenths 0 1000 ∷ [])
 computed p = refl
 
 side_by_side : (p : Spots) → cut_by (relates p a relators.Less b ∷ []) ≡ a_in (tenths 0 1000 ∷ [])
@@ -97,15 +108,18 @@ side_by_side p = refl
 
 -- the cells of a column cut what is given to it, also what the column isn't of
 abbrev cells : List VariantTable
-cells = rows ((Num (millionths 1_000_000) ∷ Num (millionths 7_000_000) ∷ []) ∷ (Num (millionths 2_500_000) ∷ Num (millionths 7_000_000) ∷ []) ∷ []) ∷ []
+cells = rows ((Num (millionths 1_000_000) ∷ Num (millionths 7_000_000) ∷ [])
+    ∷ (Num (millionths 2_500_000) ∷ Num (millionths 7_000_000) ∷ []) ∷ []) ∷ []
 
 by_cells : (p : Spots)
-    → domains_of (layout_of (restricted (always (demands.Table (calls (codes "T") (binds p (codes "A") a ∷ []))) ∷ []))) cells
+    → domains_of (layout_of (restricted (always (demands.Table (calls (codes "T") (binds p (codes "A") a ∷ []))) ∷ [])))
+    cells
     ≡ a_in (tenths 0 9 ∷ tenths 10 10 ∷ tenths 11 24 ∷ tenths 25 25 ∷ tenths 26 1000 ∷ [])
 by_cells p = refl
 
 by_other_cells : (p : Spots)
-    → domains_of (layout_of (restricted (always (demands.Table (calls (codes "T") (binds p (codes "B") a ∷ []))) ∷ []))) cells
+    → domains_of (layout_of (restricted (always (demands.Table (calls (codes "T") (binds p (codes "B") a ∷ []))) ∷ [])))
+    cells
     ≡ a_in (tenths 0 69 ∷ tenths 70 70 ∷ tenths 71 1000 ∷ [])
 by_other_cells p = refl
 
@@ -133,14 +147,16 @@ at_nothing p = refl
 without_tuple : (p : Spots)
     → domains_of (layout_of (record lists {
       dependencies = called (codes "C")
-          (constraint (of_class (codes "X") (codes "K") ∷ of_class (codes "Y") (codes "K") ∷ []) None (relates p a relators.Less (whole 5) ∷ []) []) ∷ [];
+          (constraint (of_class (codes "X") (codes "K") ∷ of_class (codes "Y") (codes "K") ∷ []) None
+          (relates p a relators.Less (whole 5) ∷ []) []) ∷ [];
     })) []
     ≡ a_in (tenths 0 49 ∷ tenths 50 50 ∷ tenths 51 1000 ∷ [])
 without_tuple p = refl
 
 -- what stands at a value, in the profile, at a line and at an operation cuts too
 abbrev uncut : List Characteristic
-uncut = characteristic (codes "A") true (numbers 1 (from_to 0 100 ∷ [])) ∷ characteristic (codes "B") true (numbers 0 (from_to 0 100 ∷ [])) ∷ []
+uncut = characteristic (codes "A") true (numbers 1 (from_to 0 100 ∷ []))
+    ∷ characteristic (codes "B") true (numbers 0 (from_to 0 100 ∷ [])) ∷ []
 
 abbrev at_five : List Domain
 at_five = a_in (tenths 0 49 ∷ tenths 50 50 ∷ tenths 51 1000 ∷ [])
@@ -150,7 +166,8 @@ chosen p = selection p (codes "S") (asks p (plain (codes "A")) relators.Greater 
 
 abbrev cut_where : Spots → NamedDependency → List Characteristic → Object → List Domain
 cut_where p dependency listed o =
-    domains_of (layout_of (record lists { characteristics = listed; dependencies = dependency ∷ []; nets = []; objects = o ∷ [] })) []
+    domains_of (layout_of
+    (record lists { characteristics = listed; dependencies = dependency ∷ []; nets = []; objects = o ∷ [] })) []
 
 at_value : (p : Spots)
     → cut_where p (asked p)
@@ -163,20 +180,31 @@ at_value p = refl
 
 in_profile : (p : Spots)
     → cut_where p
-    (procedure (codes "P") (does_if p (asks p (plain (codes "A")) relators.Greater (whole 5)) (actions.Assign (leaf (codes "B")) (term_box p (whole 7))) ∷ []))
+    (procedure (codes "P")
+    (does_if p (asks p (plain (codes "A")) relators.Greater (whole 5))
+    (actions.Assign (leaf (codes "B")) (term_box p (whole 7))) ∷ []))
     uncut
     (record (object (codes "M") 0 []) { procedures = 0 ∷ [] })
     ≡ at_five
 in_profile p = refl
 
 in_line : (p : Spots)
-    → cut_where p (chosen p) uncut (object (codes "M") 0 (line p 10 (components.Plain (codes "SEAL")) 1 (0 ∷ []) ∷ [])) ≡ at_five
+    → cut_where p (chosen p) uncut (object (codes "M") 0 (line p 10 (components.Plain (codes "SEAL")) 1 (0 ∷ []) ∷ []))
+    ≡ at_five
 in_line p = refl
 
 in_operation : (p : Spots)
     → cut_where p (chosen p) uncut
     (record (object (codes "M") 0 []) {
-      operations = record { number = 10; centre = codes "ASSY"; unit = codes "MIN"; time = term_box p (whole 1); uses = 0 ∷ []; line = 0 } ∷ [];
+      operations = record {
+        number = 10;
+        centre = codes "ASSY";
+        unit = codes "MIN";
+        time = term_box p (whole 1);
+        uses =
+            0 ∷ [];
+        line = 0;
+      } ∷ [];
     })
     ≡ at_five
 in_operation p = refl
@@ -185,7 +213,8 @@ in_operation p = refl
 by_alias : (p : Spots)
     → domains_of (layout_of (record lists {
       dependencies = called (codes "C") (constraint
-          (record (of_class (codes "X") (codes "K")) { aliases = record { variable = leaf (codes "V"); characteristic = leaf (codes "A") } ∷ [] } ∷ [])
+          (record (of_class (codes "X") (codes "K"))
+          { aliases = record { variable = leaf (codes "V"); characteristic = leaf (codes "A") } ∷ [] } ∷ [])
           None (relates p (terms.Operand (Variable (leaf (codes "V")))) relators.Less (whole 5) ∷ []) []) ∷ [];
     })) []
     ≡ at_five

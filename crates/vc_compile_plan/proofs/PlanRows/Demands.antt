@@ -26,7 +26,8 @@ use Rattle.vc_compile_plan.specs.PlanOf.{plan_of}
 use Rattle.vc_compile_plan.specs.Refusals.{compile_fault}
 use Rattle.vc_compile_plan.specs.declared.fault.CompileFault.TheVariants as faults
 use Rattle.vc_compile_plan.proofs.PlanRows.Cutting.{lists, restricted, relates, a, b}
-use Rattle.vc_compile_plan.proofs.PlanRows.Words.{Spots, whole, plain, of_class, binds, calls, always, constraint, called, term_box, object, procedure, does, leaf, line}
+use Rattle.vc_compile_plan.proofs.PlanRows.Words.{Spots, whole, plain, of_class, binds, calls, always, constraint}
+use Rattle.vc_compile_plan.proofs.PlanRows.Words.{called, term_box, object, procedure, does, leaf, line}
 
 -- variable 0 is A, variable 1 is B
 abbrev twice_five : Spots → Term
@@ -45,7 +46,8 @@ demanded p =
 abbrev demanded_plan : Spots → Plan
 demanded_plan p = plan_of p.node (restricted (demanded p)) []
 
--- a relation of one characteristic and a literal is Among, turned round where the literal stands first; `=` of others is
+-- a relation of one characteristic and a literal is Among, turned round where the literal stands first; `=` of others
+-- is
 -- Equate, and any other relation Compare; the call's columns have their places in the table
 demanded_kinds : (p : Spots)
     → map (λ rule. rule.kind) (demanded_plan p).rules
@@ -53,7 +55,8 @@ demanded_kinds : (p : Spots)
     ∷ Among 0 (Against relations.Unequal (Num (record { millionths = neg_ℤ (pos 5_000_000) })))
     ∷ Equate 0 1
     ∷ Compare relations.Greater 2 3
-    ∷ ByTable 0 (record { column = 1; operand = Variable 0 } ∷ record { column = 0; operand = Constant (plans.whole 5) } ∷ [])
+    ∷ ByTable 0 (record { column = 1; operand = Variable 0 } ∷ record { column = 0; operand = Constant (plans.whole 5) }
+    ∷ [])
     ∷ Never
     ∷ map (λ rule. rule.kind) (plans.last 0 ∷ plans.last 1 ∷ [])
 demanded_kinds p = refl
@@ -75,7 +78,15 @@ taken p = plan_of p.node (record (restricted (demanded p)) {
   objects = record (object (codes "M") 0 (line p 10 (components.Plain (codes "SEAL")) 1 [] ∷ [])) {
     nets = 0 ∷ [];
     procedures = 1 ∷ [];
-    operations = record { number = 10; centre = codes "ASSY"; unit = codes "MIN"; time = term_box p (whole 2); uses = []; line = 0 } ∷ [];
+    operations = record {
+      number = 10;
+      centre = codes "ASSY";
+      unit = codes "MIN";
+      time = term_box p (whole 2);
+      uses =
+          [];
+      line = 0;
+    } ∷ [];
   } ∷ [];
 }) []
 
@@ -86,14 +97,26 @@ taken_operation : (p : Spots) → map (λ operation. operation.time) (taken p).o
 taken_operation p = refl
 
 taken_procedure : (p : Spots)
-    → (taken p).procedures ≡ record { slot = 0; dependency = 1; trigger = Anyway; statements = record { action = Assign 0 6; condition = 0 } ∷ [] } ∷ []
+    → (taken p).procedures
+    ≡ record {
+      slot = 0;
+      dependency = 1;
+      trigger = Anyway;
+      statements = record { action = Assign 0 6; condition = 0 }
+          ∷ [];
+    } ∷ []
 taken_procedure p = refl
 
 -- which columns of a table are keys
 table_columns : (p : Spots)
     → map (λ table. map (λ column. column.key) table.columns)
     (plan_of p.node (record (restricted []) {
-      tables = record { name = codes "T"; file = []; columns = record { characteristic = 1; key = true } ∷ record { characteristic = 0; key = false } ∷ [] } ∷ [];
+      tables = record {
+        name = codes "T";
+        file = [];
+        columns = record { characteristic = 1; key = true }
+            ∷ record { characteristic = 0; key = false } ∷ [];
+      } ∷ [];
     }) []).tables
     ≡ (true ∷ false ∷ []) ∷ []
 table_columns p = refl
@@ -101,7 +124,8 @@ table_columns p = refl
 -- a constraint is typed where some net uses it, whether that is active or not; one of no net isn't
 abbrev unknown : Spots → Model
 unknown p = record lists {
-  dependencies = record (called (codes "C") (constraint (of_class (codes "X") (codes "NONE") ∷ []) None [] [])) { line = 4 } ∷ [];
+  dependencies = record (called (codes "C") (constraint (of_class (codes "X") (codes "NONE") ∷ []) None [] []))
+      { line = 4 } ∷ [];
   objects = object (codes "M") 0 [] ∷ [];
 }
 
@@ -116,7 +140,15 @@ of_time : (p : Spots)
     → compile_fault p.node (record lists {
       nets = [];
       objects = record (object (codes "M") 0 []) {
-        operations = record { number = 10; centre = codes "ASSY"; unit = codes "MIN"; time = term_box p (plain (codes "NONE")); uses = []; line = 6 } ∷ [];
+        operations = record {
+          number = 10;
+          centre = codes "ASSY";
+          unit = codes "MIN";
+          time =
+              term_box p (plain (codes "NONE"));
+          uses = [];
+          line = 6;
+        } ∷ [];
       } ∷ [];
     }) []
     ≡ Some (faults.Typing kinds.UnknownName 6)

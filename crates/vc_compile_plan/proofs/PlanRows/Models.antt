@@ -17,14 +17,18 @@ use Rattle.vc_plan.proofs.PlanRows.Models as plans
 use Rattle.vc_plan.proofs.PlanRows.Models.{last}
 use Rattle.vc_plan.proofs.PlanRows.WholeModels.{whole_pump, whole_step, whole_ring}
 use Rattle.vc_compile_plan.specs.PlanOf.{plan_of}
-use Rattle.vc_compile_plan.proofs.PlanRows.Words.{Spots, term_box, text, whole, plain, member, relation, asks, of_class, binds, calls, always, where_true, constraint, inferred, called, selection, listed_text, texts, from_to, numbers, characteristic, class, column, net, line, object, empty, rows}
+use Rattle.vc_compile_plan.proofs.PlanRows.Words.{Spots, term_box, text, whole, plain, member, relation, asks, of_class}
+use Rattle.vc_compile_plan.proofs.PlanRows.Words.{binds, calls, always, where_true, constraint, inferred, called}
+use Rattle.vc_compile_plan.proofs.PlanRows.Words.{selection, listed_text, texts, from_to, numbers, characteristic}
+use Rattle.vc_compile_plan.proofs.PlanRows.Words.{class, column, net, line, object, empty, rows}
 
 -- PUMP: a table of sizes and motors, a seal with a selection condition, and an operation
 abbrev pub pump : Spots → Model
 pump p = record empty {
   name = codes "PUMP";
   characteristics =
-      record (characteristic (codes "SIZE") true (texts false (listed_text 0 ∷ listed_text 1 ∷ listed_text 2 ∷ []))) { required = true }
+      record (characteristic (codes "SIZE") true (texts false (listed_text 0 ∷ listed_text 1 ∷ listed_text 2 ∷ [])))
+      { required = true }
       ∷ characteristic (codes "MOTOR") true (texts false (listed_text 3 ∷ listed_text 4 ∷ listed_text 5 ∷ []))
       ∷ characteristic (codes "FLOW") true (values.Numbers 1 (Some (codes "M3/H")) (from_to 0 100 ∷ []))
       ∷ [];
@@ -34,19 +38,22 @@ pump p = record empty {
   dependencies =
       called (codes "C_SM") (constraint (of_class (codes "P") (codes "PUMPS") ∷ []) None
       (always (demands.Table (calls (codes "SM")
-      (binds p (codes "SIZE") (member (codes "P") (codes "SIZE")) ∷ binds p (codes "MOTOR") (member (codes "P") (codes "MOTOR")) ∷ []))) ∷ [])
+      (binds p (codes "SIZE") (member (codes "P") (codes "SIZE"))
+      ∷ binds p (codes "MOTOR") (member (codes "P") (codes "MOTOR")) ∷ []))) ∷ [])
       (inferred (codes "P") (codes "SIZE") ∷ inferred (codes "P") (codes "MOTOR") ∷ []))
       ∷ selection p (codes "S_L") (asks p (plain (codes "SIZE")) Equal (text (codes "L")))
       ∷ [];
   nets = net (0 ∷ []) ∷ [];
   objects = record (object (codes "PUMP") 0
-      (line p 10 (components.Plain (codes "HOUSING")) 1 [] ∷ line p 20 (components.Plain (codes "SEAL")) 2 (1 ∷ []) ∷ [])) {
+      (line p 10 (components.Plain (codes "HOUSING")) 1 [] ∷ line p 20 (components.Plain (codes "SEAL")) 2 (1 ∷ [])
+      ∷ [])) {
         nets = 0 ∷ [];
         operations = record {
           number = 10;
           centre = codes "ASSY";
           unit = codes "MIN";
-          time = term_box p (terms.Combined' p.node (whole 15) Plus p.node (terms.Combined' p.node (plain (codes "FLOW")) Over p.node (whole 2)));
+          time = term_box p (terms.Combined' p.node (whole 15) Plus p.node
+              (terms.Combined' p.node (plain (codes "FLOW")) Over p.node (whole 2)));
           uses = [];
           line = 0;
         } ∷ [];
@@ -54,7 +61,8 @@ pump p = record empty {
 }
 
 abbrev pub sizes_and_motors : VariantTable
-sizes_and_motors = rows ((Text 0 ∷ Text 3 ∷ []) ∷ (Text 1 ∷ Text 3 ∷ []) ∷ (Text 1 ∷ Text 4 ∷ []) ∷ (Text 2 ∷ Text 5 ∷ []) ∷ [])
+sizes_and_motors = rows
+    ((Text 0 ∷ Text 3 ∷ []) ∷ (Text 1 ∷ Text 3 ∷ []) ∷ (Text 1 ∷ Text 4 ∷ []) ∷ (Text 2 ∷ Text 5 ∷ []) ∷ [])
 
 of_pump : (p : Spots) → plan_of p.node (pump p) (sizes_and_motors ∷ []) ≡ whole_pump p.node
 of_pump p = refl
@@ -94,7 +102,8 @@ idle p = plan_of p.node (record (step p) { objects = object (codes "STEP") 0 [] 
 idle_rules : (p : Spots) → (idle p).rules ≡ last 0 ∷ last 1 ∷ []
 idle_rules p = refl
 
-idle_domains : (p : Spots) → (idle p).domains ≡ Nums 0 (plans.from_to 0 50 ∷ []) ∷ Nums 1 (plans.from_to 0 100 ∷ []) ∷ []
+idle_domains : (p : Spots)
+    → (idle p).domains ≡ Nums 0 (plans.from_to 0 50 ∷ []) ∷ Nums 1 (plans.from_to 0 100 ∷ []) ∷ []
 idle_domains p = refl
 
 idle_terms : (p : Spots) → (idle p).terms ≡ []
@@ -119,17 +128,20 @@ ring p = record empty {
       (inferred (codes "R") (codes "A") ∷ []))
       ∷ called (codes "C_AB") (constraint (of_class (codes "R") (codes "RINGS") ∷ []) None
       (always (demands.Table (calls (codes "AB")
-      (binds p (codes "A") (member (codes "R") (codes "A")) ∷ binds p (codes "B") (member (codes "R") (codes "B")) ∷ []))) ∷ [])
+      (binds p (codes "A") (member (codes "R") (codes "A")) ∷ binds p (codes "B") (member (codes "R") (codes "B"))
+      ∷ []))) ∷ [])
       (inferred (codes "R") (codes "A") ∷ inferred (codes "R") (codes "B") ∷ []))
       ∷ [];
   nets = net (0 ∷ 1 ∷ []) ∷ [];
   objects = record (object (codes "RING") 0 []) { nets = 0 ∷ [] } ∷ [];
 }
 
-of_ring : (p : Spots) → plan_of p.node (ring p) (rows ((Text 1 ∷ Text 1 ∷ []) ∷ (Text 2 ∷ Text 2 ∷ []) ∷ []) ∷ []) ≡ whole_ring
+of_ring : (p : Spots)
+    → plan_of p.node (ring p) (rows ((Text 1 ∷ Text 1 ∷ []) ∷ (Text 2 ∷ Text 2 ∷ []) ∷ []) ∷ []) ≡ whole_ring
 of_ring p = refl
 
 -- constraints come in the order of the model, whatever the order of the net
 other_order : (p : Spots)
-    → plan_of p.node (record (ring p) { nets = net (1 ∷ 0 ∷ []) ∷ [] }) (rows ((Text 1 ∷ Text 1 ∷ []) ∷ (Text 2 ∷ Text 2 ∷ []) ∷ []) ∷ []) ≡ whole_ring
+    → plan_of p.node (record (ring p) { nets = net (1 ∷ 0 ∷ []) ∷ [] })
+    (rows ((Text 1 ∷ Text 1 ∷ []) ∷ (Text 2 ∷ Text 2 ∷ []) ∷ []) ∷ []) ≡ whole_ring
 other_order p = refl

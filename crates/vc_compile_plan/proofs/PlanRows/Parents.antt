@@ -30,9 +30,12 @@ use Rattle.vc_plan.proofs.PlanRows.Models as plans
 use Rattle.vc_compile_plan.specs.Conditions.{relation_of}
 use Rattle.vc_compile_plan.specs.PlanOf.{plan_of}
 use Rattle.vc_compile_plan.specs.Terms.{function_of, operator_of}
-use Rattle.vc_compile_plan.proofs.PlanRows.Words.{Spots, leaf, term_box, text, asks, precondition, procedure, does_if, selection, listed_text, texts, characteristic, class, line, object, empty}
+use Rattle.vc_compile_plan.proofs.PlanRows.Words.{Spots, leaf, term_box, text, asks, precondition, procedure, does_if}
+use Rattle.vc_compile_plan.proofs.PlanRows.Words.{selection, listed_text, texts, characteristic, class, line, object}
+use Rattle.vc_compile_plan.proofs.PlanRows.Words.{empty}
 
--- TOP has MIDDLE, and MIDDLE has LEAF: each has C, variables 0 to 2, with a precondition that asks for C of the parent. The
+-- TOP has MIDDLE, and MIDDLE has LEAF: each has C, variables 0 to 2, with a precondition that asks for C of the parent.
+-- The
 -- quantities, and the time of LEAF's operation, are read off the parent; the operation has two selection conditions
 abbrev c_of : Owner → Term
 c_of owner = terms.Operand (Owned owner (leaf (codes "C")))
@@ -41,11 +44,20 @@ abbrev brings : Spots → ℕ → List ℕ → BillItem
 brings p o uses = record (line p 10 (components.Object o) 1 uses) { quantity = term_box p (c_of Parent) }
 
 abbrev works : Spots → working.Operation
-works p = record { number = 10; centre = codes "ASSY"; unit = codes "MIN"; time = term_box p (c_of Parent); uses = 1 ∷ 2 ∷ []; line = 0 }
+works p = record {
+  number = 10;
+  centre = codes "ASSY";
+  unit = codes "MIN";
+  time = term_box p (c_of Parent);
+  uses = 1 ∷ 2
+      ∷ [];
+  line = 0;
+}
 
 abbrev family : Spots → Model
 family p = record empty {
-  characteristics = record (characteristic (codes "C") false (texts false (listed_text 0 ∷ []))) { uses = 0 ∷ 1 ∷ [] } ∷ [];
+  characteristics = record (characteristic (codes "C") false (texts false (listed_text 0 ∷ []))) { uses = 0 ∷ 1 ∷ [] }
+      ∷ [];
   texts = codes "Y" ∷ [];
   classes = class (codes "K") (0 ∷ []) ∷ [];
   dependencies =
@@ -58,7 +70,8 @@ family p = record empty {
       ∷ [];
   objects =
       record (object (codes "LEAF") 0 []) { operations = works p ∷ [] }
-      ∷ record (object (codes "MIDDLE") 0 (brings p 0 (3 ∷ []) ∷ line p 20 (components.Plain (codes "SCREW")) 1 (3 ∷ 2 ∷ []) ∷ [])) { procedures = 4 ∷ [] }
+      ∷ record (object (codes "MIDDLE") 0
+      (brings p 0 (3 ∷ []) ∷ line p 20 (components.Plain (codes "SCREW")) 1 (3 ∷ 2 ∷ []) ∷ [])) { procedures = 4 ∷ [] }
       ∷ object (codes "TOP") 0 (brings p 1 [] ∷ [])
       ∷ [];
   root = 2;
@@ -67,13 +80,15 @@ family p = record empty {
 abbrev family_plan : Spots → Plan
 family_plan p = plan_of p.node (family p) []
 
--- the parent of a line is its owner; that of what stands at an instance is the one above. TOP has none, and any number will do
+-- the parent of a line is its owner; that of what stands at an instance is the one above. TOP has none, and any number
+-- will do
 abbrev is_y : ℕ → Condition
 is_y v = Compared relations.Equal (Read v) (Literal (Text 0))
 
 family_conditions : (p : Spots)
     → (family_plan p).conditions
-    ≡ Always ∷ is_y 1 ∷ is_y 0 ∷ is_y 0 ∷ is_y 1 ∷ is_y 0 ∷ is_y 1 ∷ is_y 2 ∷ is_y 1 ∷ is_y 0 ∷ is_y 2 ∷ is_y 0 ∷ is_y 0 ∷ []
+    ≡ Always ∷ is_y 1 ∷ is_y 0 ∷ is_y 0 ∷ is_y 1 ∷ is_y 0 ∷ is_y 1 ∷ is_y 2 ∷ is_y 1 ∷ is_y 0 ∷ is_y 2 ∷ is_y 0 ∷ is_y 0
+    ∷ []
 family_conditions p = refl
 
 family_guards : (p : Spots)
@@ -125,13 +140,21 @@ family_requirements p = refl
 
 family_procedures : (p : Spots)
     → (family_plan p).procedures
-    ≡ record { slot = 1; dependency = 4; trigger = Anyway; statements = record { action = Assign 1 4; condition = 12 } ∷ [] } ∷ []
+    ≡ record {
+      slot = 1;
+      dependency = 4;
+      trigger = Anyway;
+      statements = record { action = Assign 1 4; condition = 12 }
+          ∷ [];
+    } ∷ []
 family_procedures p = refl
 
 -- relations, operators and functions
 all_relations : map relation_of
-    (relators.Equal ∷ relators.Unequal ∷ relators.Less ∷ relators.LessEqual ∷ relators.Greater ∷ relators.GreaterEqual ∷ [])
-    ≡ relations.Equal ∷ relations.Unequal ∷ relations.Less ∷ relations.AtMost ∷ relations.Greater ∷ relations.AtLeast ∷ []
+    (relators.Equal ∷ relators.Unequal ∷ relators.Less ∷ relators.LessEqual ∷ relators.Greater ∷ relators.GreaterEqual
+    ∷ [])
+    ≡ relations.Equal ∷ relations.Unequal ∷ relations.Less ∷ relations.AtMost ∷ relations.Greater ∷ relations.AtLeast
+    ∷ []
 all_relations = refl
 
 all_operators : map operator_of (operators.Plus ∷ operators.Minus ∷ operators.Times ∷ operators.Over ∷ [])
@@ -140,5 +163,6 @@ all_operators = refl
 
 all_functions : map function_of
     (functions.Abs ∷ functions.Sign ∷ functions.Trunc ∷ functions.Floor ∷ functions.Ceil ∷ functions.Frac ∷ [])
-    ≡ plan_functions.Abs ∷ plan_functions.Sign ∷ plan_functions.Trunc ∷ plan_functions.Floor ∷ plan_functions.Ceil ∷ plan_functions.Frac ∷ []
+    ≡ plan_functions.Abs ∷ plan_functions.Sign ∷ plan_functions.Trunc ∷ plan_functions.Floor ∷ plan_functions.Ceil
+    ∷ plan_functions.Frac ∷ []
 all_functions = refl

@@ -16,10 +16,13 @@ use Rattle.vc_types.specs.declared.fault.TypeFaultKind.TheVariants as kinds
 use Rattle.vc_plan.proofs.PlanRows.Models as plans
 use Rattle.vc_plan.specs.declared.plans.Plan.{Plan}
 use Rattle.vc_value.specs.declared.table_header.Domain.TheVariants.{Texts}
-use Rattle.vc_compile_plan.specs.Refusals.{size_fault, has_too_many_rules, has_too_many_atoms, compile_fault, first_of, TypeFault}
+use Rattle.vc_compile_plan.specs.Refusals.{size_fault, has_too_many_rules, has_too_many_atoms, compile_fault, first_of}
+use Rattle.vc_compile_plan.specs.Refusals.{TypeFault}
 use Rattle.vc_compile_plan.specs.declared.fault.CompileFault.TheVariants as faults
 use Rattle.vc_compile_plan.proofs.PlanRows.Models.{pump, step, sizes_and_motors}
-use Rattle.vc_compile_plan.proofs.PlanRows.Words.{Spots, text, whole, plain, asks, precondition, term_box, listed_text, texts, from_to, numbers, characteristic, class, line, object, empty, procedure, does, leaf, selection}
+use Rattle.vc_compile_plan.proofs.PlanRows.Words.{Spots, text, whole, plain, asks, precondition, term_box, listed_text}
+use Rattle.vc_compile_plan.proofs.PlanRows.Words.{texts, from_to, numbers, characteristic, class, line, object, empty}
+use Rattle.vc_compile_plan.proofs.PlanRows.Words.{procedure, does, leaf, selection}
 
 -- sound models
 pump_is_sound : (p : Spots) → compile_fault p.node (pump p) (sizes_and_motors ∷ []) ≡ None
@@ -52,7 +55,8 @@ levels_first : (p : Spots) → compile_fault p.node (chain p) [] ≡ Some faults
 levels_first p = refl
 
 -- the first line, though the quantity of a later line has a lesser kind
-first_line : (p : Spots) → compile_fault p.node (record (chain p) { root = 3 }) [] ≡ Some (faults.Typing kinds.WrongKind 7)
+first_line : (p : Spots)
+    → compile_fault p.node (record (chain p) { root = 3 }) [] ≡ Some (faults.Typing kinds.WrongKind 7)
 first_line p = refl
 
 -- what stands at no slot isn't typed
@@ -63,7 +67,8 @@ at_no_slot p = refl
 abbrev wide : Spots → ℕ → Model
 wide p n = record empty {
   classes = class (codes "K") [] ∷ [];
-  objects = object (codes "A") 0 [] ∷ object (codes "B") 0 (replicate n (at_line 5 (brings p 0 (plain (codes "NONE"))))) ∷ [];
+  objects = object (codes "A") 0 [] ∷ object (codes "B") 0 (replicate n (at_line 5 (brings p 0 (plain (codes "NONE")))))
+      ∷ [];
   root = 1;
 }
 
@@ -93,10 +98,13 @@ two_places p = record empty {
 least_kind : (p : Spots) → compile_fault p.node (two_places p) [] ≡ Some (faults.Typing kinds.UnknownName 3)
 least_kind p = refl
 
-one_place : (p : Spots) → compile_fault p.node (record (two_places p) { objects = object (codes "TOP") 0 [] ∷ []; root = 0 }) [] ≡ Some (faults.Typing kinds.WrongKind 3)
+one_place : (p : Spots)
+    → compile_fault p.node (record (two_places p) { objects = object (codes "TOP") 0 [] ∷ []; root = 0 }) []
+    ≡ Some (faults.Typing kinds.WrongKind 3)
 one_place p = refl
 
--- what stands at a line, at an operation and in the profile is typed too; NOT SPECIFIED only matters where a line brings a slot
+-- what stands at a line, at an operation and in the profile is typed too; NOT SPECIFIED only matters where a line
+-- brings a slot
 abbrev denies : Spots → Model
 denies p = record (two_places p) {
   characteristics = characteristic (codes "A") false (texts false (listed_text 0 ∷ [])) ∷ [];
@@ -112,30 +120,43 @@ abbrev denied_with : Spots → List Object → Model
 denied_with p tops = record (denies p) { objects = object (codes "PART") 0 [] ∷ tops }
 
 at_component : (p : Spots)
-    → compile_fault p.node (denied_with p (object (codes "TOP") 0 (line p 10 (components.Object 0) 1 (0 ∷ []) ∷ []) ∷ [])) []
+    → compile_fault p.node
+    (denied_with p (object (codes "TOP") 0 (line p 10 (components.Object 0) 1 (0 ∷ []) ∷ []) ∷ [])) []
     ≡ Some (faults.Typing kinds.NotMonotone 4)
 at_component p = refl
 
 at_plain_line : (p : Spots)
-    → compile_fault p.node (denied_with p (object (codes "TOP") 0 (line p 10 (components.Plain (codes "SEAL")) 1 (0 ∷ []) ∷ []) ∷ [])) [] ≡ None
+    → compile_fault p.node
+    (denied_with p (object (codes "TOP") 0 (line p 10 (components.Plain (codes "SEAL")) 1 (0 ∷ []) ∷ []) ∷ [])) []
+    ≡ None
 at_plain_line p = refl
 
 at_operation : (p : Spots)
     → compile_fault p.node (denied_with p (record (object (codes "TOP") 0 []) {
-      operations = record { number = 10; centre = codes "ASSY"; unit = codes "MIN"; time = term_box p (whole 1); uses = 0 ∷ 1 ∷ []; line = 9 } ∷ [];
+      operations = record {
+        number = 10;
+        centre = codes "ASSY";
+        unit = codes "MIN";
+        time = term_box p (whole 1);
+        uses =
+            0 ∷ 1 ∷ [];
+        line = 9;
+      } ∷ [];
     } ∷ [])) []
     ≡ Some (faults.Typing kinds.UnknownName 6)
 at_operation p = refl
 
 in_profile : (p : Spots)
-    → compile_fault p.node (denied_with p (record (object (codes "TOP") 0 []) { procedures = 2 ∷ [] } ∷ [])) [] ≡ Some (faults.Typing kinds.UnknownName 8)
+    → compile_fault p.node (denied_with p (record (object (codes "TOP") 0 []) { procedures = 2 ∷ [] } ∷ [])) []
+    ≡ Some (faults.Typing kinds.UnknownName 8)
 in_profile p = refl
 
 -- faults by line, then by kind
 abbrev fault : ℕ → TypeFaultKind → TypeFault
 fault line kind = record { line = line; kind = kind }
 
-in_order : first_of (fault 8 kinds.UnknownName ∷ fault 7 kinds.WrongKind ∷ fault 7 kinds.DoubleName ∷ fault 7 kinds.NoKey ∷ []) ≡ Some (fault 7 kinds.DoubleName)
+in_order : first_of (fault 8 kinds.UnknownName ∷ fault 7 kinds.WrongKind ∷ fault 7 kinds.DoubleName
+    ∷ fault 7 kinds.NoKey ∷ []) ≡ Some (fault 7 kinds.DoubleName)
 in_order = refl
 
 -- sizes: 20,001 rules, and 40 variables of 1,000 texts, which are 40,041 atoms with their slot; rules are told first

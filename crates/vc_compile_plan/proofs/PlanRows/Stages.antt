@@ -14,10 +14,13 @@ use Rattle.vc_plan.specs.declared.plans.Plan.{Plan}
 use Rattle.vc_plan.specs.declared.procedures.Action.TheVariants.{Assign, SetDefault}
 use Rattle.vc_plan.specs.declared.terms.Term.TheVariants.{Literal, Read, PartSum}
 use Rattle.vc_plan.proofs.PlanRows.Models as plans
-use Rattle.vc_plan.proofs.PlanRows.WholeModels.{whole_paint, whole_machine, whole_gear, profile, piece_line, object as planned_object}
+use Rattle.vc_plan.proofs.PlanRows.WholeModels.{whole_paint, whole_machine, whole_gear, profile, piece_line}
+use Rattle.vc_plan.proofs.PlanRows.WholeModels.{object as planned_object}
 use Rattle.vc_plan.proofs.StageRows.StageModels.{says}
 use Rattle.vc_compile_plan.specs.PlanOf.{plan_of}
-use Rattle.vc_compile_plan.proofs.PlanRows.Words.{apart, Spots, leaf, text, plain, asks, precondition, selection, procedure, does, does_if, term_box, listed_text, texts, from_to, numbers, characteristic, class, line, object, empty}
+use Rattle.vc_compile_plan.proofs.PlanRows.Words.{apart, Spots, leaf, text, plain, asks, precondition, selection}
+use Rattle.vc_compile_plan.proofs.PlanRows.Words.{procedure, does, does_if, term_box, listed_text, texts, from_to}
+use Rattle.vc_compile_plan.proofs.PlanRows.Words.{numbers, characteristic, class, line, object, empty}
 
 -- PAINT: a value with a precondition, two procedures, and a line with a selection condition
 abbrev pub paint : Spots → Model
@@ -35,12 +38,14 @@ paint p = record empty {
   classes = class (codes "PAINTS") (0 ∷ 1 ∷ 2 ∷ 3 ∷ []) ∷ [];
   dependencies =
       precondition p (codes "PRE_LUX") (asks p (plain (codes "MODE")) Equal (text (codes "N")))
-      ∷ procedure (codes "P_RED") (does (actions.SetDefault (leaf (codes "COLOR")) (term_box p (text (codes "RED")))) ∷ [])
+      ∷ procedure (codes "P_RED")
+      (does (actions.SetDefault (leaf (codes "COLOR")) (term_box p (text (codes "RED")))) ∷ [])
       ∷ procedure (codes "P_GREEN") (does_if p (asks p (plain (codes "MODE")) Equal (text (codes "H")))
       (actions.Assign (leaf (codes "COLOR")) (term_box p (text (codes "GREEN")))) ∷ [])
       ∷ selection p (codes "S_STRIPE") (asks p (plain (codes "MODE")) Equal (text (codes "N")))
       ∷ [];
-  objects = record (object (codes "PAINT") 0 (line p 10 (components.Plain (codes "STRIPE")) 1 (3 ∷ []) ∷ [])) { procedures = 1 ∷ 2 ∷ [] } ∷ [];
+  objects = record (object (codes "PAINT") 0 (line p 10 (components.Plain (codes "STRIPE")) 1 (3 ∷ []) ∷ []))
+      { procedures = 1 ∷ 2 ∷ [] } ∷ [];
 }
 
 abbrev pub painted : Plan
@@ -78,7 +83,8 @@ machine p = record empty {
 abbrev pub driven : Plan
 driven = record whole_machine {
   objects = planned_object (codes "DRIVE") (1 ∷ []) ∷ planned_object (codes "MACH") (0 ∷ []) ∷ [];
-  slots = record { parent = None; depth = 0; object = 1; line = 0 } ∷ record { parent = Some 0; depth = 1; object = 0; line = 0 } ∷ [];
+  slots = record { parent = None; depth = 0; object = 1; line = 0 }
+      ∷ record { parent = Some 0; depth = 1; object = 0; line = 0 } ∷ [];
   terms = Literal (plans.whole 1) ∷ [];
 }
 
@@ -101,7 +107,8 @@ gear p = record empty {
       ∷ object (codes "P2") 0 []
       ∷ object (codes "P3") 0 []
       ∷ record (object (codes "GEAR") 1
-      (line p 10 (components.Object 0) 1 [] ∷ line p 20 (components.Object 1) 2 [] ∷ line p 30 (components.Object 2) 1 [] ∷ [])) {
+      (line p 10 (components.Object 0) 1 [] ∷ line p 20 (components.Object 1) 2 []
+      ∷ line p 30 (components.Object 2) 1 [] ∷ [])) {
         procedures = 0 ∷ [];
       }
       ∷ [];

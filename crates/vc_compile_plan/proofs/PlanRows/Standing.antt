@@ -27,7 +27,10 @@ use Rattle.vc_plan.proofs.StageRows.StageModels.{says}
 use Rattle.vc_compile_plan.specs.Conditions.{holds_one}
 use Rattle.vc_compile_plan.specs.PlanOf.{plan_of}
 use Rattle.vc_compile_plan.specs.Trees as trees
-use Rattle.vc_compile_plan.proofs.PlanRows.Words.{Spots, leaf, text, whole, plain, own, asks, binds, calls, precondition, selection, procedure, does, does_if, term_box, listed_text, texts, from_to, numbers, characteristic, class, column, object, empty}
+use Rattle.vc_compile_plan.proofs.PlanRows.Words.{Spots, leaf, text, whole, plain, own, asks, binds, calls}
+use Rattle.vc_compile_plan.proofs.PlanRows.Words.{precondition, selection, procedure, does, does_if, term_box}
+use Rattle.vc_compile_plan.proofs.PlanRows.Words.{listed_text, texts, from_to, numbers, characteristic, class, column}
+use Rattle.vc_compile_plan.proofs.PlanRows.Words.{object, empty}
 
 -- MODE H or N; OPT, a set of A and B; N, 0 .. 9 and 20 .. 30; T has the key MODE, and N
 abbrev set_text : List ℕ → TextLeaf
@@ -36,7 +39,8 @@ set_text bytes = record { text = bytes; start = 0; end = 0 }
 abbrev standing : Spots → Model
 standing p = record empty {
   characteristics =
-      record (characteristic (codes "MODE") false (texts false (record { text = 0; uses = 0 ∷ 5 ∷ [] } ∷ listed_text 1 ∷ []))) { uses = 1 ∷ 2 ∷ 6 ∷ [] }
+      record (characteristic (codes "MODE") false
+      (texts false (record { text = 0; uses = 0 ∷ 5 ∷ [] } ∷ listed_text 1 ∷ []))) { uses = 1 ∷ 2 ∷ 6 ∷ [] }
       ∷ characteristic (codes "OPT") false (texts true (listed_text 2 ∷ record { text = 3; uses = 1 ∷ 5 ∷ [] } ∷ []))
       ∷ characteristic (codes "N") false (numbers 0 (from_to 0 9 ∷ record (from_to 20 30) { uses = 1 ∷ 5 ∷ [] } ∷ []))
       ∷ [];
@@ -48,13 +52,17 @@ standing p = record empty {
       (items.Text (set_text (codes "A")) ∷ items.Text (set_text (codes "B")) ∷ [])))
       ∷ precondition p (codes "P_NO_A") (asks p (plain (codes "OPT")) relators.Unequal (text (codes "A")))
       ∷ selection p (codes "S_SET") (conditions.Specified (Plain (leaf (codes "OPT"))))
-      ∷ procedure (codes "PROFILE") (does (actions.DelDefault (leaf (codes "N")) (term_box p (terms.Negated' p.node (plain (codes "N"))))) ∷ [])
+      ∷ procedure (codes "PROFILE")
+      (does (actions.DelDefault (leaf (codes "N")) (term_box p (terms.Negated' p.node (plain (codes "N"))))) ∷ [])
       ∷ selection p (codes "UNUSED") (conditions.Specified (Plain (leaf (codes "N"))))
       ∷ procedure (codes "AT_VALUE") (
-      does (actions.Table (calls (codes "T") (binds p (codes "N") (own (codes "N")) ∷ binds p (codes "MODE") (text (codes "H")) ∷ [])))
-      ∷ does_if p (conditions.Specified (Plain (leaf (codes "N")))) (actions.Assign (leaf (codes "N")) (term_box p (terms.Negated' p.node (whole 5))))
+      does (actions.Table (calls (codes "T")
+      (binds p (codes "N") (own (codes "N")) ∷ binds p (codes "MODE") (text (codes "H")) ∷ [])))
+      ∷ does_if p (conditions.Specified (Plain (leaf (codes "N"))))
+      (actions.Assign (leaf (codes "N")) (term_box p (terms.Negated' p.node (whole 5))))
       ∷ [])
-      ∷ procedure (codes "AT_CHARACTERISTIC") (does (actions.Assign (leaf (codes "N")) (term_box p terms.CountOfParts)) ∷ [])
+      ∷ procedure (codes "AT_CHARACTERISTIC")
+      (does (actions.Assign (leaf (codes "N")) (term_box p terms.CountOfParts)) ∷ [])
       ∷ [];
   objects = record (object (codes "M") 0 []) { procedures = 3 ∷ [] } ∷ [];
 }
@@ -62,7 +70,8 @@ standing p = record empty {
 abbrev standing_plan : Spots → Plan
 standing_plan p = plan_of p.node (standing p) []
 
--- in class order N comes first; variable 0 is N, variable 1 MODE. A characteristic's own preconditions come before its values'
+-- in class order N comes first; variable 0 is N, variable 1 MODE. A characteristic's own preconditions come before its
+-- values'
 guards : (p : Spots)
     → (standing_plan p).guards
     ≡ record { at = Var 0; value = Some (Stretch (plans.from_to 20 30)); dependency = 1; condition = 1 }
@@ -72,7 +81,8 @@ guards : (p : Spots)
     ∷ []
 guards p = refl
 
-requirements : (p : Spots) → (standing_plan p).requirements ≡ record { at = Var 1; selection = record { dependency = 2; condition = 5 } } ∷ []
+requirements : (p : Spots)
+    → (standing_plan p).requirements ≡ record { at = Var 1; selection = record { dependency = 2; condition = 5 } } ∷ []
 requirements p = refl
 
 -- a set: `<>` is NOT of `=`, and IN the OR of its equalities; a variable and a set that are specified
@@ -93,7 +103,8 @@ standing_conditions p = refl
 -- procedures: of the profile, of the characteristic, and of values in class order: 20 .. 30, H and B. A minus before a
 -- number is its sign
 abbrev looking : ℕ → ℕ → List Statement
-looking c t = says (LookUp 0 (record { column = 0; term = t } ∷ []) (record { column = 1; var = 0 } ∷ [])) 0 ∷ says (Assign 0 (t + 1)) c ∷ []
+looking c t = says (LookUp 0 (record { column = 0; term = t } ∷ []) (record { column = 1; var = 0 } ∷ [])) 0
+    ∷ says (Assign 0 (t + 1)) c ∷ []
 
 abbrev at_slot : ℕ → Trigger → List Statement → Procedure
 at_slot d trigger statements = record { slot = 0; dependency = d; trigger = trigger; statements = statements }

@@ -33,9 +33,13 @@ use Rattle.vc_compile_plan.specs.PlanOf.{plan_of}
 use Rattle.vc_compile_plan.specs.Trees.{Spot}
 use Rattle.vc_compile_plan.specs.Texts.{each_once, is_text_of}
 use Rattle.vc_compile_plan.specs.Tuples.{tuples_of}
-use Rattle.vc_compile_plan.proofs.PlanRows.Words.{Spots, leaf, millionths, condition_box, text, whole, member, relation, asks, both, of_class, always, where_true, constraint, inferred, called, listed_text, texts, from_to, numbers, characteristic, class, net, line, object, empty}
+use Rattle.vc_compile_plan.proofs.PlanRows.Words.{Spots, leaf, millionths, condition_box, text, whole, member, relation}
+use Rattle.vc_compile_plan.proofs.PlanRows.Words.{asks, both, of_class, always, where_true, constraint, inferred}
+use Rattle.vc_compile_plan.proofs.PlanRows.Words.{called, listed_text, texts, from_to, numbers, characteristic, class}
+use Rattle.vc_compile_plan.proofs.PlanRows.Words.{net, line, object, empty}
 
--- MACH has two DRIVEs: variable 0 is DRIVEN, 1 and 2 are POWER and SPEED of the first DRIVE, 3 and 4 those of the second.
+-- MACH has two DRIVEs: variable 0 is DRIVEN, 1 and 2 are POWER and SPEED of the first DRIVE, 3 and 4 those of the
+-- second.
 -- The restrictions ask that the drive is a part of the machine and that this is driven; ?V is the drive's POWER
 abbrev signed : ℕ → SignedNumber
 signed n = record { negative = false; leaf = record { number = millionths n; start = 0; end = 0 } }
@@ -62,11 +66,13 @@ twins p = record empty {
       ∷ always (demands.Relation (relations.Within (Member (leaf (codes "D")) (leaf (codes "SPEED")))
       (items.Interval (signed 1_000_000) (signed 3_000_000) ∷ items.Number (signed 7_000_000) ∷ [])))
       ∷ [])
-      (Variable (leaf (codes "V")) ∷ inferred (codes "D") (codes "POWER") ∷ inferred (codes "D") (codes "SPEED") ∷ [])) ∷ [];
+      (Variable (leaf (codes "V")) ∷ inferred (codes "D") (codes "POWER") ∷ inferred (codes "D") (codes "SPEED") ∷ []))
+      ∷ [];
   nets = net (0 ∷ []) ∷ [];
   objects =
       object (codes "DRIVE") 0 []
-      ∷ record (object (codes "MACH") 1 (line p 10 (components.Object 0) 1 [] ∷ line p 20 (components.Object 0) 1 [] ∷ [])) { nets = 0 ∷ [] }
+      ∷ record (object (codes "MACH") 1
+      (line p 10 (components.Object 0) 1 [] ∷ line p 20 (components.Object 0) 1 [] ∷ [])) { nets = 0 ∷ [] }
       ∷ [];
   root = 1;
 }
@@ -81,7 +87,15 @@ twin_texts p = refl
 -- what is inferred by two names stands once
 abbrev at_tuple : ℕ → ℕ → ℕ → List ℕ → Kind → Rule
 at_tuple slot number condition inferred kind =
-    record { dependency = Some 0; number = number; slots = 0 ∷ slot ∷ []; condition = condition; inferred = inferred; kind = kind }
+    record {
+      dependency = Some 0;
+      number = number;
+      slots = 0 ∷ slot
+          ∷ [];
+      condition = condition;
+      inferred = inferred;
+      kind = kind;
+    }
 
 twin_rules : (p : Spots)
     → (twin_plan p).rules
@@ -112,20 +126,28 @@ twin_domains : (p : Spots)
     ≡ Texts (0 ∷ 1 ∷ [])
     ∷ Texts (2 ∷ 3 ∷ [])
     ∷ Nums 0 (
-    plans.from_to 0 0 ∷ plans.from_to 1 1 ∷ plans.from_to 2 2 ∷ plans.from_to 3 3 ∷ plans.from_to 4 4 ∷ plans.from_to 5 5
+    plans.from_to 0 0 ∷ plans.from_to 1 1 ∷ plans.from_to 2 2 ∷ plans.from_to 3 3 ∷ plans.from_to 4 4
+    ∷ plans.from_to 5 5
     ∷ plans.from_to 6 6 ∷ plans.from_to 7 7 ∷ plans.from_to 8 100 ∷ [])
     ∷ []
 twin_domains p = refl
 
--- tuples: two drives stand for two variables of one class, in ascending order; a material; and a part the wrong way round
+-- tuples: two drives stand for two variables of one class, in ascending order; a material; and a part the wrong way
+-- round
 abbrev over : List Object → Constraint
 over objects = record { objects = objects; condition = None; restrictions = []; inferences = [] }
 
 abbrev named_drive : Object
-named_drive = record { variable = leaf (codes "D"); kind = kinds.Material (record { text = codes "DRIVE"; start = 0; end = 0 }); aliases = [] }
+named_drive = record {
+  variable = leaf (codes "D");
+  kind =
+      kinds.Material (record { text = codes "DRIVE"; start = 0; end = 0 });
+  aliases = [];
+}
 
 two_drives : (p : Spots)
-    → tuples_of (layout_of (twins p)) (over (of_class (codes "A") (codes "DRIVES") ∷ of_class (codes "B") (codes "DRIVES") ∷ []))
+    → tuples_of (layout_of (twins p))
+    (over (of_class (codes "A") (codes "DRIVES") ∷ of_class (codes "B") (codes "DRIVES") ∷ []))
     ≡ (1 ∷ 2 ∷ []) ∷ (2 ∷ 1 ∷ []) ∷ []
 two_drives p = refl
 

@@ -109,7 +109,8 @@ always demand = record { demand = demand; condition = None }
 abbrev pub where_true : Spots → asking.Condition → demanding.Demand → Restriction
 where_true p condition demand = record { demand = demand; condition = Some (condition_box p condition) }
 
-abbrev pub constraint : List Object → Option (Box asking.Condition Global) → List Restriction → List Operand → depending.Dependency
+abbrev pub constraint : List Object → Option (Box asking.Condition Global) → List Restriction → List Operand
+    → depending.Dependency
 constraint objects condition restrictions inferences = dependencies.Constraint (record {
   objects = objects;
   condition = condition;

@@ -22,7 +22,8 @@ use Rattle.vc_plan.proofs.PlanLaws.Rounds.{settles_below_closed, settles_least}
 use Rattle.vc_plan_reasons.specs.Checking.{concluded, is_silent}
 use Rattle.vc_plan_reasons.proofs.ReasonLaws.Closed.{Settled, all_stand, conclusions_stand, settled_closed}
 use Rattle.vc_plan_reasons.proofs.ReasonLaws.Givers.{clashing_in, giving_in}
-use Rattle.vc_net_laws.specs.Forced.{BaseIsForced, ClashBreaks, GivenIsForced, IsForced, IsSound, LogsAreForced, QuietSettles, SoundSetsGrow, UnclearBreaks, is_quiet}
+use Rattle.vc_net_laws.specs.Forced.{BaseIsForced, ClashBreaks, GivenIsForced, IsForced, IsSound, LogsAreForced}
+use Rattle.vc_net_laws.specs.Forced.{QuietSettles, SoundSetsGrow, UnclearBreaks, is_quiet}
 
 pub base_is_forced : BaseIsForced
 base_is_forced plan sources closed c w = w
@@ -35,7 +36,8 @@ pub given_is_forced : GivenIsForced
 given_is_forced plan sources set giver atom forced h closed c w a e =
     let stands : has same_atom closed atom ≡ true
     = settling.given_stands (system_of plan sources) (system_laws plan sources) set closed giver atom
-    (giving_in plan sources giver set atom h) (record { clear = c.clear; calm = c.calm; given = c.given }) (forced closed c w) h in
+    (giving_in plan sources giver set atom h) (record { clear = c.clear; calm = c.calm; given = c.given })
+    (forced closed c w) h in
     elim (has_cases same_atom atom_exact atom_itself atom [] a e) [
       | inl p ↦ subst (λ b. has same_atom closed b ≡ true) (sym p) stands
       | inr p ↦ absurd (cc)
@@ -61,11 +63,13 @@ sound_sets_grow plan sources set atom sound forced clear = record {
 root_there : (plan : Plan) (sources : Sources) (set : List Atom) → IsSound plan sources set → 0 < length plan.slots
 root_there plan sources set sound =
     let f : Facts plan set = facts plan set sound.clear in
-    ltb-true 0 (length plan.slots) (f.named (Here 0) (sound.rooted (Here 0) (has_first same_atom atom_exact atom_itself (Here 0) [])))
+    ltb-true 0 (length plan.slots)
+    (f.named (Here 0) (sound.rooted (Here 0) (has_first same_atom atom_exact atom_itself (Here 0) [])))
 
 -- where there is no closed set, settling is broken
 breaks : (plan : Plan) (sources : Sources) → 0 < length plan.slots
-    → ((closed : List Atom) → IsClosed plan sources closed → Within same_atom base closed → ⊥) → settlement_of plan sources ≡ broken
+    → ((closed : List Atom) → IsClosed plan sources closed → Within same_atom base closed → ⊥)
+    → settlement_of plan sources ≡ broken
 breaks plan sources root none = by (settlement_of plan sources) refl
   where
     by : (s : Settlement Atom) → settlement_of plan sources ≡ s → s ≡ broken
@@ -84,7 +88,8 @@ clash_breaks plan sources set giver sound h =
     breaks plan sources (root_there plan sources set sound)
     (λ closed c w.
     both (settling.at_any (λ g. is_clash (gives plan sources g (seen_of closed))) giver (givers_of plan)
-    (clashing_in plan sources giver set h) (clashes_stay plan sources giver set closed c.clear (sound.forced closed c w) h)) c.calm)
+    (clashing_in plan sources giver set h)
+    (clashes_stay plan sources giver set closed c.clear (sound.forced closed c w) h)) c.calm)
 
 silent_calm : (x : Given Atom) → is_silent x ≡ true → is_clash x ≡ true → ⊥
 silent_calm clash e h = cc
@@ -97,7 +102,8 @@ silent_none (atoms (b ∷ more)) a e h = cc
 
 -- a clear set at which all givers are quiet is closed
 pub quiet_closed : (plan : Plan) (sources : Sources) (set : List Atom) → is_clear plan set ≡ true
-    → ((giver : Giver) → settling.IsIn giver (givers_of plan) → is_quiet plan sources set giver ≡ true) → IsClosed plan sources set
+    → ((giver : Giver) → settling.IsIn giver (givers_of plan) → is_quiet plan sources set giver ≡ true)
+    → IsClosed plan sources set
 quiet_closed plan sources set clear quiet =
     let system = system_of plan sources in
     record {
@@ -115,12 +121,14 @@ quiet_closed plan sources set clear quiet =
     }
 
 -- a sound set that is closed is what settling ends at
-pub closed_settles : (plan : Plan) (sources : Sources) (set : List Atom) → IsSound plan sources set → IsClosed plan sources set
+pub closed_settles : (plan : Plan) (sources : Sources) (set : List Atom) → IsSound plan sources set
+    → IsClosed plan sources set
     → (end : List Atom) × (settlement_of plan sources ≡ settled end)
     × ((atom : Atom) → has same_atom end atom ≡ has same_atom set atom)
 closed_settles plan sources set sound closed =
     let end = settles_below_closed plan sources set closed sound.rooted in
-    let s : Settled plan sources end.0 = settled_closed plan sources end.0 (root_there plan sources set sound) end.1 in (
+    let s : Settled plan sources end.0
+    = settled_closed plan sources end.0 (root_there plan sources set sound) end.1 in (
       end.0,
       end.1,
       λ a. same_test (has same_atom end.0 a) (has same_atom set a)
@@ -136,4 +144,5 @@ all_in p o (x ∷ os) e (inr i) = all_in p o os (and_parts (p x) (list_all p os)
 pub quiet_settles : QuietSettles
 quiet_settles plan sources set sound quiet =
     closed_settles plan sources set sound
-    (quiet_closed plan sources set sound.clear (λ giver i. all_in (is_quiet plan sources set) giver (givers_of plan) quiet i))
+    (quiet_closed plan sources set sound.clear
+    (λ giver i. all_in (is_quiet plan sources set) giver (givers_of plan) quiet i))

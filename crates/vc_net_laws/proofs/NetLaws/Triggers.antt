@@ -11,7 +11,8 @@ use Rattle.vc_value.specs.declared.value.Value.TheVariants.{Text, Num}
 use Rattle.vc_plan.specs.declared.atoms.Atom.{Atom}
 use Rattle.vc_plan.specs.declared.atoms.Atom.TheVariants.{Is}
 use Rattle.vc_plan.specs.declared.conditions.Condition.{Condition}
-use Rattle.vc_plan.specs.declared.conditions.Condition.TheVariants.{Always, Compared, IsIn, Specified, Holds, Filled, Not', And', Or'}
+use Rattle.vc_plan.specs.declared.conditions.Condition.TheVariants.{Always, Compared, IsIn, Specified, Holds, Filled}
+use Rattle.vc_plan.specs.declared.conditions.Condition.TheVariants.{Not', And', Or'}
 use Rattle.vc_plan.specs.declared.conditions.Kleene.{Kleene}
 use Rattle.vc_plan.specs.declared.conditions.Kleene.TheVariants.{True, False, Unknown}
 use Rattle.vc_plan.specs.declared.conditions.Relation.{Relation}
@@ -29,7 +30,8 @@ use Rattle.vc_plan.specs.Seen.{same_atom, seen_of, value_in}
 use Rattle.vc_plan.specs.Truth.{compared, term_value, truth, truth_in}
 use Rattle.vc_plan.proofs.PlanLaws.Atoms.{value_exact}
 use Rattle.vc_plan.proofs.PlanLaws.Extending.{value_has}
-use Rattle.vc_net_laws.specs.Triggers.{TriggersAreNeeded, first_trigger, stands_in, trigger_in, trigger_in_rule, trigger_of_condition, trigger_of_relation, trigger_of_sides}
+use Rattle.vc_net_laws.specs.Triggers.{TriggersAreNeeded, first_trigger, stands_in, trigger_in, trigger_in_rule}
+use Rattle.vc_net_laws.specs.Triggers.{trigger_of_condition, trigger_of_relation, trigger_of_sides}
 use Rattle.vc_net_laws.specs.declared.triggers.Trigger.{Trigger}
 
 -- values that are equal are one
@@ -46,7 +48,8 @@ truth_of_false true f = absurd (f refl)
 truth_of_false false f = refl
 
 -- a variable equals no value that it doesn't have
-unequal : (set : List Atom) (v : ℕ) (a : Value) (o : Option Value) → value_in set v ≡ o → has same_atom set (Is v a) ≡ false
+unequal : (set : List Atom) (v : ℕ) (a : Value) (o : Option Value) → value_in set v ≡ o
+    → has same_atom set (Is v a) ≡ false
     → (is_true (compared Equal (Some a) o) ≡ false) × (is_true (compared Equal o (Some a)) ≡ false)
 unequal set v a None e absent = (refl, refl)
 unequal set v a (Some b) e absent =
@@ -56,7 +59,8 @@ unequal set v a (Some b) e absent =
     )
 
 sides_untrue : (set : List Atom) (a b : Term) → stands_in set (trigger_of_sides a b) ≡ false
-    → is_true (compared Equal (term_value (net_reading (seen_of set)) a) (term_value (net_reading (seen_of set)) b)) ≡ false
+    → is_true (compared Equal (term_value (net_reading (seen_of set)) a) (term_value (net_reading (seen_of set)) b))
+    ≡ false
 sides_untrue set (Literal a) (Literal b) e = absurd (cc)
 sides_untrue set (Literal a) (Read v) e = (unequal set v a (value_in set v) refl e).0
 sides_untrue set (Literal a) (PartSum slot characteristic) e = absurd (cc)
@@ -115,7 +119,8 @@ untrue set (Holds member text) e = absurd (cc)
 untrue set (Filled member) e = absurd (cc)
 untrue set (Not' p c) e = absurd (cc)
 untrue set (And' p c q d) e =
-    both_untrue set (truth (net_reading (seen_of set)) c) (truth (net_reading (seen_of set)) d) (trigger_in c) (trigger_in d)
+    both_untrue set (truth (net_reading (seen_of set)) c) (truth (net_reading (seen_of set)) d) (trigger_in c)
+    (trigger_in d)
     (untrue set c) (untrue set d) e
 untrue set (Or' p c q d) e = absurd (cc)
 
@@ -139,6 +144,7 @@ rule_quiet plan set (Some rule) e =
     ∙ ap (λ b. cond b said nothing) (and_false here)
 
 pub triggers_are_needed : TriggersAreNeeded
-triggers_are_needed plan sources set (by_rule r) e = ap (fresh (seen_of set)) (rule_quiet plan set (slice_get plan.rules r) e)
+triggers_are_needed plan sources set (by_rule r) e =
+    ap (fresh (seen_of set)) (rule_quiet plan set (slice_get plan.rules r) e)
 triggers_are_needed plan sources set (by_user v) e = absurd (cc)
 triggers_are_needed plan sources set (by_entry v) e = absurd (cc)

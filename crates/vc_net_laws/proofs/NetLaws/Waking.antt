@@ -23,7 +23,8 @@ use Rattle.vc_plan_reasons.specs.Things.{Thing, giver_reads, giver_writes, has_t
 use Rattle.vc_plan_reasons.proofs.ReasonLaws.Local.{gives_locally}
 use Rattle.vc_plan_reasons.proofs.ReasonLaws.Writing.{gives_what_it_writes}
 use Rattle.vc_net_laws.specs.Triggers.{stands_in, trigger_by}
-use Rattle.vc_net_laws.specs.Waking.{GiversWakeThemselves, UnchangedGivesTheSame, UntouchedGivesTheSame, WokenIsEnough, giver_differs, giver_touches}
+use Rattle.vc_net_laws.specs.Waking.{GiversWakeThemselves, UnchangedGivesTheSame, UntouchedGivesTheSame, WokenIsEnough}
+use Rattle.vc_net_laws.specs.Waking.{giver_differs, giver_touches}
 use Rattle.vc_net_laws.specs.declared.triggers.Trigger.{Trigger}
 use Rattle.vc_net_laws.proofs.NetLaws.Triggers.{triggers_are_needed}
 
@@ -64,7 +65,8 @@ entry_same : (v : _) (o p : Option Entry) → same_entry o p ≡ true → entry_
 entry_same v None None e = refl
 entry_same v None (Some f) e = absurd (cc)
 entry_same v (Some d) None e = absurd (cc)
-entry_same v (Some d) (Some f) e = ap (mark_says v) (mark_same d.mark f.mark (and_parts (same_mark d.mark f.mark) _ e).0)
+entry_same v (Some d) (Some f) e =
+    ap (mark_says v) (mark_same d.mark f.mark (and_parts (same_mark d.mark f.mark) _ e).0)
 
 sources_same : (plan : Plan) (old new : Sources) (giver : Giver) (seen : Seen) → giver_differs old new giver ≡ false
     → gives plan new giver seen ≡ gives plan old giver seen
@@ -117,8 +119,10 @@ givers_wake_themselves plan sources part set atom giver w h =
     let whole : Within same_atom part (set ++ atom ∷ [])
     = λ a k. has_front same_atom atom_exact atom_itself set (atom ∷ []) a (w a k) in
     and_from (giver_touches plan giver (thing_of atom)) (stands_in (set ++ atom ∷ []) (trigger_by plan giver))
-    (or_right (has_thing (giver_reads plan giver) (thing_of atom)) (has_thing (giver_writes plan giver) (thing_of atom)) writes)
+    (or_right (has_thing (giver_reads plan giver) (thing_of atom)) (has_thing (giver_writes plan giver) (thing_of atom))
+    writes)
     (elim (told (stands_in part (trigger_by plan giver))) [
       | inl e ↦ stands_more part (set ++ atom ∷ []) whole (trigger_by plan giver) e
-      | inr e ↦ absurd (both h (ap (λ x. has same_atom (atoms_of x) atom) (triggers_are_needed plan sources part giver e)))
+      | inr e ↦ absurd (both h
+          (ap (λ x. has same_atom (atoms_of x) atom) (triggers_are_needed plan sources part giver e)))
     ])

@@ -1,5 +1,6 @@
 -- How often givers may be asked: sums over atoms and over givers, and few atoms of each thing.
-use Rattle.std.proofs.Common.{◌≡◌, ℕ, ◌+◌, ◌*◌, ◌-◌, ◌≤◌, ◌<◌, Bool, true, false, cond, ◌&&◌, ◌||◌, List, [], ◌∷◌, ◌++◌, length, map, refl, sym, ◌∙◌, ap, subst, inl, inr, arith}
+use Rattle.std.proofs.Common.{◌≡◌, ℕ, ◌+◌, ◌*◌, ◌-◌, ◌≤◌, ◌<◌, Bool, true, false, cond, ◌&&◌, ◌||◌, List, [], ◌∷◌, ◌++◌}
+use Rattle.std.proofs.Common.{length, map, refl, sym, ◌∙◌, ap, subst, inl, inr, arith}
 use Rattle.std.specs.Prelude.{nat_eq}
 use Rattle.std.specs.List.{IsDistinct, filter, list_any, sum_by}
 use Rattle.std.proofs.lemmas.Bool.{and_parts, cases_lt, ltb-true, or_parts}
@@ -25,7 +26,8 @@ use Rattle.vc_plan_reasons.proofs.ReasonLaws.Few.{few_of_a_thing}
 use Rattle.vc_plan_reasons.proofs.ReasonLaws.Reaching.{thing_exact, thing_itself}
 use Rattle.vc_net_laws.specs.Triggers.{stands_in, trigger_by}
 use Rattle.vc_net_laws.specs.Waking.{giver_touches}
-use Rattle.vc_net_laws.specs.Wakings.{AtomsPayForTurns, WokenAreFew, WorkIsEnough, givers_at, most_wakings, things_of, wakings}
+use Rattle.vc_net_laws.specs.Wakings.{AtomsPayForTurns, WokenAreFew, WorkIsEnough, givers_at, most_wakings, things_of}
+use Rattle.vc_net_laws.specs.Wakings.{wakings}
 
 -- what no element passes keeps nothing
 none_kept : {X : Type 0} (p : X → Bool) (xs : List X) → ((x : X) → p x ≡ false) → length (filter p xs) ≤ 0
@@ -78,7 +80,8 @@ split_test false s h e f = e
 
 few_of_things : (plan : Plan) (set : List Atom) (p : Thing → Bool) (things : List Thing) → is_clear plan set ≡ true
     → IsDistinct same_atom set
-    → length (filter (λ a. p (thing_of a) && has_thing things (thing_of a)) set) ≤ sum_by (size_of plan) (filter p things)
+    → length (filter (λ a. p (thing_of a) && has_thing things (thing_of a)) set) ≤ sum_by (size_of plan)
+    (filter p things)
 few_of_things plan set p [] clear distinct =
     none_kept (λ a. p (thing_of a) && false) set (λ a. and_false (p (thing_of a)))
   where
@@ -96,7 +99,8 @@ few_of_things plan set p (t ∷ things) clear distinct =
   where
     step : (b : Bool) → p t ≡ b → (m n : ℕ)
         → m ≤ length (filter (λ a. p (thing_of a) && same_thing (thing_of a) t) set) + n
-        → n ≤ sum_by (size_of plan) (filter p things) → m ≤ sum_by (size_of plan) (cond b (t ∷ filter p things) (filter p things))
+        → n ≤ sum_by (size_of plan) (filter p things)
+        → m ≤ sum_by (size_of plan) (cond b (t ∷ filter p things) (filter p things))
     step true e m n two rest =
         let most = more_kept (λ a. p (thing_of a) && same_thing (thing_of a) t) (λ a. same_thing (thing_of a) t) set
         (λ a h k. (and_parts (p (thing_of a)) (same_thing (thing_of a) t) k).1) in
@@ -145,12 +149,14 @@ module _ {G : Type 0} (touch : G → Thing → Bool) where
   asked_more g givers (a ∷ set) =
       let own = filter (λ h. touch h (thing_of a)) givers in
       let later = filter (λ b. touch g (thing_of b)) set in
-      let more : asked (g ∷ givers) (a ∷ set) ≡ length (cond (touch g (thing_of a)) (g ∷ own) own) + asked (g ∷ givers) set
+      let more : asked (g ∷ givers) (a ∷ set)
+      ≡ length (cond (touch g (thing_of a)) (g ∷ own) own) + asked (g ∷ givers) set
       = sum_by-cons (λ b. length (filter (λ h. touch h (thing_of b)) (g ∷ givers))) a set in
       let rest : asked givers (a ∷ set) ≡ length own + asked givers set
       = sum_by-cons (λ b. length (filter (λ h. touch h (thing_of b)) givers)) a set in
       join (asked (g ∷ givers) (a ∷ set)) (length (cond (touch g (thing_of a)) (g ∷ own) own) + asked (g ∷ givers) set)
-      (length (cond (touch g (thing_of a)) (a ∷ later) later)) (asked givers (a ∷ set)) (length own + asked givers set) more rest
+      (length (cond (touch g (thing_of a)) (a ∷ later) later)) (asked givers (a ∷ set)) (length own + asked givers set)
+      more rest
       (step (touch g (thing_of a)) own later (asked (g ∷ givers) set) (asked givers set) (asked_more g givers set))
     where
       step : (b : Bool) (own : List G) (later : List Atom) (m n : ℕ) → m ≤ length later + n
@@ -162,7 +168,8 @@ module _ {G : Type 0} (touch : G → Thing → Bool) where
       join x m l y n e f h = omega (arith, e, f, h)
 
   -- so all are asked at most as often as the sizes of what they touch allow
-  asked_few : (plan : Plan) (set : List Atom) (things : List Thing) → is_clear plan set ≡ true → IsDistinct same_atom set
+  asked_few : (plan : Plan) (set : List Atom) (things : List Thing) → is_clear plan set ≡ true
+      → IsDistinct same_atom set
       → ((atom : Atom) → has same_atom set atom ≡ true → has_thing things (thing_of atom) ≡ true) → (givers : List G)
       → asked givers set ≤ sum_by (λ g. sum_by (size_of plan) (filter (touch g) things)) givers
   asked_few plan set things clear distinct inside [] = asked_none set
@@ -202,7 +209,8 @@ var_there plan v below =
 no_grains : (plan : Plan) (v : ℕ) → length plan.vars ≤ v → grains_of plan v ≡ []
 no_grains plan v past = ap (λ o. grains_in (domain_of plan o)) (get_past plan.vars v past)
 
-named_there : (plan : Plan) (atom : Atom) → is_named plan atom ≡ true → has_thing (things_of plan) (thing_of atom) ≡ true
+named_there : (plan : Plan) (atom : Atom) → is_named plan atom ≡ true
+    → has_thing (things_of plan) (thing_of atom) ≡ true
 named_there plan (Here i) h = slot_there plan i (ltb-true i (length plan.slots) h)
 named_there plan (Out v g) h =
     elim (cases_lt v (length plan.vars)) [
@@ -222,13 +230,15 @@ wakings_few : (plan : Plan) (set : List Atom) → is_clear plan set ≡ true →
     → wakings plan set ≤ most_wakings plan
 wakings_few plan set clear distinct =
     let f : Facts plan set = facts plan set clear in
-    asked_few (giver_touches plan) plan set (things_of plan) clear distinct (λ a h. named_there plan a (f.named a h)) (givers_of plan)
+    asked_few (giver_touches plan) plan set (things_of plan) clear distinct (λ a h. named_there plan a (f.named a h))
+    (givers_of plan)
 
 pub atoms_pay_for_turns : AtomsPayForTurns
 atoms_pay_for_turns plan set atom agenda later clear distinct few =
     let most = wakings_few plan (set ++ atom ∷ []) clear distinct in
     let more = sum_by_push (givers_at plan) set atom in
-    pays (most_wakings plan) (wakings plan set) (wakings plan (set ++ atom ∷ [])) (givers_at plan atom) (length agenda) (length later)
+    pays (most_wakings plan) (wakings plan set) (wakings plan (set ++ atom ∷ [])) (givers_at plan atom) (length agenda)
+    (length later)
     most more few
   where
     pays : (m v w k l n : ℕ) → w ≤ m → w ≡ v + k → n ≤ l + k → (m - w) + n ≤ (m - v) + l
@@ -237,7 +247,8 @@ atoms_pay_for_turns plan set atom agenda later clear distinct few =
 -- of two tests together fewer pass
 pub woken_are_few : WokenAreFew
 woken_are_few plan set atom =
-    fewer (λ giver. giver_touches plan giver (thing_of atom)) (λ giver. stands_in (set ++ atom ∷ []) (trigger_by plan giver))
+    fewer (λ giver. giver_touches plan giver (thing_of atom))
+    (λ giver. stands_in (set ++ atom ∷ []) (trigger_by plan giver))
     (givers_of plan)
   where
     fewer : (p q : Giver → Bool) (xs : List Giver) → length (filter (λ x. p x && q x) xs) ≤ length (filter p xs)
@@ -283,7 +294,8 @@ shares_enough plan things (rule ∷ rules) =
         let own = sum_by (size_of plan) (filter (touches plan rule) things) in
         let sum : sum_by (share_of plan things) (rule ∷ some) ≡ (1 + 2 * own) + sum_by (share_of plan things) some
         = sum_by-cons (share_of plan things) rule some in
-        let within : length (rule ∷ some) + m ≤ sum_by (share_of plan things) (rule ∷ some) = omega (arith, f, h, sum) in
+        let within : length (rule ∷ some) + m ≤ sum_by (share_of plan things) (rule ∷ some)
+        = omega (arith, f, h, sum) in
         within
     step false e some m n f h =
         let none = none_touched plan (touches plan rule) things e in omega (arith, f, h, none)

@@ -1,5 +1,6 @@
 -- The work on the way to where settling ends: how it begins, goes on and ends.
-use Rattle.std.proofs.Common.{◌≡◌, Bool, true, false, ◌||◌, ◌⊎◌, List, [], ◌∷◌, ◌++◌, refl, sym, ◌∙◌, ap, subst, inl, inr}
+use Rattle.std.proofs.Common.{◌≡◌, Bool, true, false, ◌||◌, ◌⊎◌, List, [], ◌∷◌, ◌++◌, refl, sym, ◌∙◌, ap, subst, inl}
+use Rattle.std.proofs.Common.{inr}
 use Rattle.std.specs.List.{AllByRecursion, IsDistinct, filter}
 use Rattle.std.proofs.lemmas.Bool.{and_from, eq-eqb, eqb-true, or_left, or_parts}
 use Rattle.vc_base.specs.Rounds.{Given, clash, atoms, atoms_of, is_clash}
@@ -19,7 +20,8 @@ use Rattle.vc_plan_reasons.proofs.ReasonLaws.Givers.{clashing_in, giving_in}
 use Rattle.vc_net_laws.specs.Forced.{is_quiet}
 use Rattle.vc_net_laws.specs.Triggers.{stands_in, trigger_by}
 use Rattle.vc_net_laws.specs.Waking.{IsSplit, giver_differs, is_woken, touches_some}
-use Rattle.vc_net_laws.specs.Working.{AgendasMayGrow, AtomsCome, IsWorking, QuietMayLeave, WorkBegins, WorkEnds, WorkIsKept, disturbed, is_disturbed, same_giver, woken}
+use Rattle.vc_net_laws.specs.Working.{AgendasMayGrow, AtomsCome, IsWorking, QuietMayLeave, WorkBegins, WorkEnds}
+use Rattle.vc_net_laws.specs.Working.{WorkIsKept, disturbed, is_disturbed, same_giver, woken}
 use Rattle.vc_net_laws.proofs.NetLaws.Forced.{closed_settles, logs_are_forced, quiet_closed, sound_sets_grow}
 use Rattle.vc_net_laws.proofs.NetLaws.Triggers.{triggers_are_needed}
 use Rattle.vc_net_laws.proofs.NetLaws.Waking.{unchanged_gives_the_same, woken_is_enough}
@@ -48,7 +50,8 @@ in_has giver (x ∷ xs) (inl e) =
 in_has giver (x ∷ xs) (inr i) = has_more same_giver giver_exact giver_itself x xs giver (in_has giver xs i)
 
 -- who isn't a giver of the plan is quiet
-loud : (x : Given Atom) → is_silent x ≡ false → (is_clash x ≡ true) ⊎ ((a : Atom) × (has same_atom (atoms_of x) a ≡ true))
+loud : (x : Given Atom) → is_silent x ≡ false
+    → (is_clash x ≡ true) ⊎ ((a : Atom) × (has same_atom (atoms_of x) a ≡ true))
 loud clash e = inl refl
 loud (atoms []) e = absurd (cc)
 loud (atoms (a ∷ more)) e = inr (a, has_first same_atom atom_exact atom_itself a more)
@@ -65,7 +68,8 @@ stranger_quiet plan sources set giver e =
     ]
 
 -- what isn't in a whole isn't in a part
-part_lacks : (part whole : List Giver) → Within same_giver part whole → (giver : Giver) → has same_giver whole giver ≡ false
+part_lacks : (part whole : List Giver) → Within same_giver part whole → (giver : Giver)
+    → has same_giver whole giver ≡ false
     → has same_giver part giver ≡ false
 part_lacks part whole w giver e =
     elim (told (has same_giver part giver)) [
@@ -90,17 +94,20 @@ work_begins plan sources log agenda accepted clear distinct all = record {
     forced = logs_are_forced plan sources log accepted;
   };
   distinct = distinct;
-  quiet = λ giver e. stranger_quiet plan sources (base ++ concluded log) giver (part_lacks (givers_of plan) agenda all giver e);
+  quiet = λ giver e. stranger_quiet plan sources (base ++ concluded log) giver
+      (part_lacks (givers_of plan) agenda all giver e);
 }
 
 -- one element more that wasn't there
-module _ {A : Type 0} (same : A → A → Bool) (exact : (a b : A) → same a b ≡ true → a ≡ b) (itself : (a : A) → same a a ≡ true) where
+module _ {A : Type 0} (same : A → A → Bool) (exact : (a b : A) → same a b ≡ true → a ≡ b)
+    (itself : (a : A) → same a a ≡ true) where
   more_apart : (a : A) (xs : List A) (b : A) → AllByRecursion (λ x. same a x ≡ false) xs → same a b ≡ false
       → AllByRecursion (λ x. same a x ≡ false) (xs ++ b ∷ [])
   more_apart a [] b h e = (e, tt)
   more_apart a (x ∷ xs) b h e = (h.0, more_apart a xs b h.1 e)
 
-  pub distinct_more : (xs : List A) (b : A) → IsDistinct same xs → has same xs b ≡ false → IsDistinct same (xs ++ b ∷ [])
+  pub distinct_more : (xs : List A) (b : A) → IsDistinct same xs → has same xs b ≡ false
+      → IsDistinct same (xs ++ b ∷ [])
   unfolding IsDistinct
   distinct_more [] b d e = (tt, tt)
   distinct_more (x ∷ xs) b d e =
@@ -118,7 +125,8 @@ atoms_come plan sources agenda later set atom work forced new clear stay wake = 
   distinct = distinct_more same_atom atom_exact atom_itself set atom work.distinct new;
   quiet = λ giver e. elim (told (has same_giver (givers_of plan) giver)) [
     | inl i ↦
-        woken_is_enough plan sources set atom giver work.sound.clear (work.quiet giver (part_lacks agenda later stay giver e))
+        woken_is_enough plan sources set atom giver work.sound.clear
+        (work.quiet giver (part_lacks agenda later stay giver e))
         (lacks_fails plan (is_woken plan set atom) giver i (part_lacks (woken plan set atom) later wake giver e))
     | inr i ↦ stranger_quiet plan sources (set ++ atom ∷ []) giver i
   ];
@@ -152,7 +160,8 @@ split_part : (set kept dropped : List Atom) → IsSplit set kept dropped → Wit
 split_part set kept dropped split a h = split a ∙ or_left (has same_atom kept a) (has same_atom dropped a) h
 
 -- who isn't disturbed is as quiet as it was
-undisturbed_quiet : (plan : Plan) (old new : Sources) (agenda : List Giver) (set kept dropped : List Atom) (giver : Giver)
+undisturbed_quiet : (plan : Plan) (old new : Sources) (agenda : List Giver) (set kept dropped : List Atom)
+    (giver : Giver)
     → IsWorking plan old agenda set → IsSplit set kept dropped → has same_giver agenda giver ≡ false
     → is_disturbed plan old new kept dropped giver ≡ false → is_quiet plan new kept giver ≡ true
 undisturbed_quiet plan old new agenda set kept dropped giver work split off e =

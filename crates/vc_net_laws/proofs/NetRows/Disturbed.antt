@@ -31,7 +31,8 @@ rule_stays = refl
 nothing_dropped : disturbed pump medium large base [] ≡ by_user 0 ∷ []
 nothing_dropped = refl
 
-size_dropped : disturbed pump medium large base (Is 0 (Text 1) ∷ []) ≡ by_rule 0 ∷ by_rule 1 ∷ by_user 0 ∷ by_entry 0 ∷ []
+size_dropped : disturbed pump medium large base (Is 0 (Text 1) ∷ [])
+    ≡ by_rule 0 ∷ by_rule 1 ∷ by_user 0 ∷ by_entry 0 ∷ []
 size_dropped = refl
 
 -- a rule whose trigger was dropped isn't, nor one that touches nothing dropped; one whose trigger is kept is

@@ -56,10 +56,12 @@ any_value : waits_for (Specified 3) ≡ None
 any_value = refl
 
 -- the first part by AND, also where another comes before it or further in
-two_parts : (p : Box (Unit {0}) Global) → waits_for (And' p is_two p is_seven) ≡ Some (record { var = 4; value = whole 2 })
+two_parts : (p : Box (Unit {0}) Global)
+    → waits_for (And' p is_two p is_seven) ≡ Some (record { var = 4; value = whole 2 })
 two_parts p = refl
 
-second_part : (p : Box (Unit {0}) Global) → waits_for (And' p (Specified 4) p is_seven) ≡ Some (record { var = 3; value = Text 7 })
+second_part : (p : Box (Unit {0}) Global)
+    → waits_for (And' p (Specified 4) p is_seven) ≡ Some (record { var = 3; value = Text 7 })
 second_part p = refl
 
 inner_part : (p : Box (Unit {0}) Global)
@@ -70,7 +72,8 @@ inner_part p = refl
 under_or : (p : Box (Unit {0}) Global) → waits_for (Or' p is_seven p is_two) ≡ None
 under_or p = refl
 
-or_waits : (p : Box (Unit {0}) Global) → waits_for (Or' p is_seven p is_seven) ≢ Some (record { var = 3; value = Text 7 })
+or_waits : (p : Box (Unit {0}) Global)
+    → waits_for (Or' p is_seven p is_seven) ≢ Some (record { var = 3; value = Text 7 })
 or_waits p e = cc
 
 under_not : (p : Box (Unit {0}) Global) → waits_for (Not' p is_seven) ≡ None

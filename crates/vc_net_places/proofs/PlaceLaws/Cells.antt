@@ -1,5 +1,6 @@
 -- Places in order, and the cells that they have of their own.
-use Rattle.std.proofs.Common.{◌≡◌, ℕ, zero, suc, ◌+◌, ◌<◌, ◌≤◌, ◌⊎◌, max, false, cond, List, [], ◌∷◌, ◌++◌, length, map, refl, sym, ◌∙◌, ap, subst, inl, inr, arith, append_assoc, append-nil, length-append}
+use Rattle.std.proofs.Common.{◌≡◌, ℕ, zero, suc, ◌+◌, ◌<◌, ◌≤◌, ◌⊎◌, max, false, cond, List, [], ◌∷◌, ◌++◌, length, map}
+use Rattle.std.proofs.Common.{refl, sym, ◌∙◌, ap, subst, inl, inr, arith, append_assoc, append-nil, length-append}
 use Rattle.std.specs.Prelude.{Some, drop, nat_lt, slice_get, slice_index_or, ◌==◌}
 use Rattle.std.specs.List.{flat_map, range_with_len, sum_by}
 use Rattle.std.proofs.lemmas.Bool.{and_parts, cases_lt, eqb-true, false_from_ne_true, ltb-true}
@@ -10,7 +11,8 @@ use Rattle.vc_base.proofs.ListLaws.{range_split}
 use Rattle.vc_plan.specs.declared.plans.Plan.{Plan}
 use Rattle.vc_plan.specs.Bounds.{Place, clash_bound, greatest, here_at, is_at, out_at, place_bound, places, places_of}
 use Rattle.vc_plan.specs.Domains.{count_of, numbers_below}
-use Rattle.vc_net_places.specs.Cells.{all_places, begins_from, bounds_of, own_bound, places_before, places_of_var, total}
+use Rattle.vc_net_places.specs.Cells.{all_places, begins_from, bounds_of, own_bound, places_before, places_of_var}
+use Rattle.vc_net_places.specs.Cells.{total}
 use Rattle.vc_net_places.specs.Laws.{BoundsAreByPlace, CellsAreApart, CellsEndAtTotal, CellsSuffice, PlacesAreInOrder}
 use Rattle.vc_net_places.specs.Places.{first_place, number_of}
 use Rattle.vc_net_places.proofs.PlaceLaws.Numbering.{first_next}
@@ -23,7 +25,8 @@ places_next plan v =
     let before = flat_map (places_of_var plan) (numbers_below v) in
     let split : flat_map (places_of_var plan) (numbers_below (v + 1)) ≡ before ++ places_of_var plan v
     = ap (flat_map (places_of_var plan)) (range_split 0 v 1 (v + 1) v refl (omega arith))
-    ∙ (flat_map-append (places_of_var plan) (numbers_below v) (v ∷ []) ∙ ap (λ xs. before ++ xs) (append-nil (places_of_var plan v))) in
+    ∙ (flat_map-append (places_of_var plan) (numbers_below v) (v ∷ [])
+    ∙ ap (λ xs. before ++ xs) (append-nil (places_of_var plan v))) in
     ap (λ xs. slots ++ xs) split ∙ sym (append_assoc slots before (places_of_var plan v))
 
 grains_count : (plan : Plan) (v : ℕ) → length (map (out_at v) (numbers_below (count_of plan v))) ≡ count_of plan v
@@ -60,7 +63,8 @@ place_of_var plan v (suc k) i place below here =
 
     by : (v < k) ⊎ (k ≤ v) → (v < k → slice_get (places_before plan k) (first_place plan v + i) ≡ Some place)
         → slice_get (places_before plan k ++ places_of_var plan k) (first_place plan v + i) ≡ Some place
-    by (inl earlier) next = get_first (places_before plan k) (places_of_var plan k) (first_place plan v + i) place (next earlier)
+    by (inl earlier) next =
+        get_first (places_before plan k) (places_of_var plan k) (first_place plan v + i) place (next earlier)
     by (inr last) next =
         let is : v ≡ k = omega (arith, below, last) in
         get_second (places_before plan k) (places_of_var plan k) (first_place plan v + i) i
@@ -86,14 +90,16 @@ places_are_in_order plan (out_at v g) e =
     let next : 1 + g ≡ suc g = omega arith in
     let here : slice_get (places_of_var plan v) (1 + g) ≡ Some (out_at v g)
     = ap (slice_get (places_of_var plan v)) next
-    ∙ (range_at (out_at v) 0 (count_of plan v) g (ltb-true g (count_of plan v) p.1) ∙ ap (λ n. Some (out_at v n)) from_zero) in
+    ∙ (range_at (out_at v) 0 (count_of plan v) g (ltb-true g (count_of plan v) p.1)
+    ∙ ap (λ n. Some (out_at v n)) from_zero) in
     place_of_var plan v (length plan.vars) (1 + g) (out_at v g) (ltb-true v (length plan.vars) p.0) here
   where
     from_zero : 0 + g ≡ g
     from_zero = omega arith
 
 -- an element of a mapped list
-get_mapped : {X Y : Type 0} (f : X → Y) (xs : List X) (i : ℕ) (x : X) → slice_get xs i ≡ Some x → slice_get (map f xs) i ≡ Some (f x)
+get_mapped : {X Y : Type 0} (f : X → Y) (xs : List X) (i : ℕ) (x : X) → slice_get xs i ≡ Some x
+    → slice_get (map f xs) i ≡ Some (f x)
 get_mapped f [] i x e = absurd (cc)
 get_mapped f (y ∷ ys) zero x e = let is : y ≡ x = cc in ap (λ z. Some (f z)) is
 get_mapped f (y ∷ ys) (suc i) x e = get_mapped f ys i x e
@@ -123,7 +129,8 @@ cells_are_apart bounds n below =
     let next : suc n ≡ n + 1 = omega arith in
     apart_from 0 bounds n below ∙ ap (λ k. slice_index_or (begins_from 0 bounds) k 0) next
 
-end_from : (first : ℕ) (bounds : List ℕ) → slice_index_or (begins_from first bounds) (length bounds) 0 ≡ first + total bounds
+end_from : (first : ℕ) (bounds : List ℕ)
+    → slice_index_or (begins_from first bounds) (length bounds) 0 ≡ first + total bounds
 end_from first [] = omega arith
 end_from first (b ∷ bs) = end_from (first + b) bs ∙ omega arith
 
@@ -149,12 +156,14 @@ sum_last f xs x =
 
 -- past the root a slot's bound is what the plan says
 later_slots : (plan : Plan) (a n : ℕ) → 0 < a
-    → sum_by (own_bound plan) (map here_at (range_with_len a n)) ≡ sum_by (place_bound plan) (map here_at (range_with_len a n))
+    → sum_by (own_bound plan) (map here_at (range_with_len a n))
+    ≡ sum_by (place_bound plan) (map here_at (range_with_len a n))
 later_slots plan a zero some = refl
 later_slots plan a (suc n) some =
     let more : 0 < a + 1 = omega arith in
     sum_by-cons (own_bound plan) (here_at a) (map here_at (range_with_len (a + 1) n))
-    ∙ (ap (λ b. cond b 0 (place_bound plan (here_at a)) + sum_by (own_bound plan) (map here_at (range_with_len (a + 1) n))) (no_root a some)
+    ∙ (ap (λ b. cond b 0 (place_bound plan (here_at a)) + sum_by (own_bound plan)
+    (map here_at (range_with_len (a + 1) n))) (no_root a some)
     ∙ (ap (λ k. place_bound plan (here_at a) + k) (later_slots plan (a + 1) n more)
     ∙ sym (sum_by-cons (place_bound plan) (here_at a) (map here_at (range_with_len (a + 1) n)))))
   where
@@ -183,14 +192,16 @@ own_flat plan (v ∷ vs) =
     ∙ (ap (λ n. sum_by all (places_of_var plan v) + n) (own_flat plan vs)
     ∙ sym (sum_by-append all (places_of_var plan v) (flat_map (places_of_var plan) vs))))
   where
-    own_grains : (v : ℕ) (gs : List ℕ) → sum_by (own_bound plan) (map (out_at v) gs) ≡ sum_by (place_bound plan) (map (out_at v) gs)
+    own_grains : (v : ℕ) (gs : List ℕ)
+        → sum_by (own_bound plan) (map (out_at v) gs) ≡ sum_by (place_bound plan) (map (out_at v) gs)
     own_grains v [] = refl
     own_grains v (g ∷ gs) =
         sum_by-cons (own_bound plan) (out_at v g) (map (out_at v) gs)
         ∙ (ap (λ n. place_bound plan (out_at v g) + n) (own_grains v gs)
         ∙ sym (sum_by-cons (place_bound plan) (out_at v g) (map (out_at v) gs)))
 
-    own_var : (v : ℕ) → sum_by (own_bound plan) (places_of_var plan v) ≡ sum_by (place_bound plan) (places_of_var plan v)
+    own_var : (v : ℕ) → sum_by (own_bound plan) (places_of_var plan v)
+        ≡ sum_by (place_bound plan) (places_of_var plan v)
     own_var v =
         sum_by-cons (own_bound plan) (is_at v) (map (out_at v) (numbers_below (count_of plan v)))
         ∙ (ap (λ n. place_bound plan (is_at v) + n) (own_grains v (numbers_below (count_of plan v)))

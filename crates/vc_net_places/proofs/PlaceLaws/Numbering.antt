@@ -1,5 +1,6 @@
 -- Places are numbered one after another, without gaps.
-use Rattle.std.proofs.Common.{◌≡◌, ℕ, zero, suc, ◌+◌, ◌-◌, ◌<◌, ◌≤◌, true, ◌&&◌, List, [], ◌∷◌, length, refl, ◌∙◌, ap, inl, inr, arith}
+use Rattle.std.proofs.Common.{◌≡◌, ℕ, zero, suc, ◌+◌, ◌-◌, ◌<◌, ◌≤◌, true, ◌&&◌, List, [], ◌∷◌, length, refl, ◌∙◌, ap}
+use Rattle.std.proofs.Common.{inl, inr, arith}
 use Rattle.std.specs.Prelude.{Option, None, Some, nat_lt, slice_get}
 use Rattle.std.proofs.lemmas.Bool.{and_from, and_parts, cases_lt, lt-ltb, ltb-true}
 use Rattle.vc_plan.specs.declared.atoms.Atom.TheVariants.{Here, Out, Is}
@@ -14,7 +15,8 @@ use Rattle.vc_net_places.specs.Laws.{NamedHavePlaces, NumbersAreTaken, PlacesAre
 use Rattle.vc_net_places.specs.Places.{first_place, is_place, number_of}
 
 -- a variable that has a grain is one of the plan
-some_var : (plan : Plan) (v : ℕ) (o : Option (variable.Var)) → slice_get plan.vars v ≡ o → 0 < length (grains_in (domain_of plan o))
+some_var : (plan : Plan) (v : ℕ) (o : Option (variable.Var)) → slice_get plan.vars v ≡ o
+    → 0 < length (grains_in (domain_of plan o))
     → v < length plan.vars
 some_var plan v None e some = absurd (omega (arith, some))
 some_var plan v (Some x) e some = get_below plan.vars v x e
@@ -43,7 +45,8 @@ first_grows plan v w below = omega (arith, sum_front (λ u. count_of plan u + 1)
 first_slots : (plan : Plan) (v : ℕ) → length plan.slots ≤ first_place plan v
 first_slots plan v = omega arith
 
-pub first_within : (plan : Plan) (v : ℕ) → v < length plan.vars → first_place plan v + (count_of plan v + 1) ≤ atom_count plan
+pub first_within : (plan : Plan) (v : ℕ) → v < length plan.vars
+    → first_place plan v + (count_of plan v + 1) ≤ atom_count plan
 first_within plan v below = atoms_within plan (first_place plan v) v (count_of plan v) refl refl below
 
 pub places_are_counted : PlacesAreCounted
@@ -73,7 +76,8 @@ same_rest : (plan : Plan) (v w m n : ℕ) → v ≡ w → first_place plan v + m
 same_rest plan v w m n is e =
     let same : first_place plan v ≡ first_place plan w = ap (first_place plan) is in omega (arith, same, e)
 
-grain_below : (plan : Plan) (v g : ℕ) → (nat_lt v (length plan.vars) && nat_lt g (count_of plan v)) ≡ true → 1 + g < count_of plan v + 1
+grain_below : (plan : Plan) (v g : ℕ) → (nat_lt v (length plan.vars) && nat_lt g (count_of plan v)) ≡ true
+    → 1 + g < count_of plan v + 1
 grain_below plan v g e =
     let below : g < count_of plan v
     = ltb-true g (count_of plan v) (and_parts (nat_lt v (length plan.vars)) (nat_lt g (count_of plan v)) e).1 in
@@ -82,11 +86,14 @@ grain_below plan v g e =
 pub places_are_apart : PlacesAreApart
 places_are_apart plan (here_at i) (here_at j) p q e = ap here_at e
 places_are_apart plan (here_at i) (is_at w) p q e =
-    let below : i < length plan.slots = ltb-true i (length plan.slots) p in absurd (omega (arith, below, e, first_slots plan w))
+    let below : i < length plan.slots
+    = ltb-true i (length plan.slots) p in absurd (omega (arith, below, e, first_slots plan w))
 places_are_apart plan (here_at i) (out_at w h) p q e =
-    let below : i < length plan.slots = ltb-true i (length plan.slots) p in absurd (omega (arith, below, e, first_slots plan w))
+    let below : i < length plan.slots
+    = ltb-true i (length plan.slots) p in absurd (omega (arith, below, e, first_slots plan w))
 places_are_apart plan (is_at v) (here_at j) p q e =
-    let below : j < length plan.slots = ltb-true j (length plan.slots) q in absurd (omega (arith, below, e, first_slots plan v))
+    let below : j < length plan.slots
+    = ltb-true j (length plan.slots) q in absurd (omega (arith, below, e, first_slots plan v))
 places_are_apart plan (is_at v) (is_at w) p q e =
     ap is_at (same_var plan v w 0 0 (omega arith) (omega arith) (omega (arith, e)))
 places_are_apart plan (is_at v) (out_at w h) p q e =
@@ -95,7 +102,8 @@ places_are_apart plan (is_at v) (out_at w h) p q e =
     let no : 0 ≡ 1 + h = same_rest plan v w 0 (1 + h) is number in
     absurd (omega (arith, no))
 places_are_apart plan (out_at v g) (here_at j) p q e =
-    let below : j < length plan.slots = ltb-true j (length plan.slots) q in absurd (omega (arith, below, e, first_slots plan v))
+    let below : j < length plan.slots
+    = ltb-true j (length plan.slots) q in absurd (omega (arith, below, e, first_slots plan v))
 places_are_apart plan (out_at v g) (is_at w) p q e =
     let number : first_place plan v + (1 + g) ≡ first_place plan w + 0 = omega (arith, e) in
     let is = same_var plan v w (1 + g) 0 (grain_below plan v g p) (omega arith) number in
@@ -141,7 +149,8 @@ numbers_are_taken plan n below =
       | inr past ↦ of_var (within plan n (length plan.vars) past below)
     ]
   where
-    of_var : Within plan n (length plan.vars) → (place : Place) × (is_place plan place ≡ true) × (number_of plan place ≡ n)
+    of_var : Within plan n (length plan.vars)
+        → (place : Place) × (is_place plan place ≡ true) × (number_of plan place ≡ n)
     of_var w = by w.rest w.is w.few
       where
         there : nat_lt w.var (length plan.vars) ≡ true
@@ -163,7 +172,8 @@ vars_before plan zero = omega arith
 vars_before plan (suc v) =
     let earlier = vars_before plan v in
     let more : suc v ≡ v + 1 = omega arith in
-    let next : first_place plan (suc v) ≡ first_place plan v + (count_of plan v + 1) = ap (first_place plan) more ∙ first_next plan v in
+    let next : first_place plan (suc v) ≡ first_place plan v + (count_of plan v + 1)
+    = ap (first_place plan) more ∙ first_next plan v in
     omega (arith, earlier, next)
 
 -- so where the atoms are few, a variable's number, its first place and its grains are small
@@ -176,4 +186,9 @@ pub small : (plan : Plan) (v limit : ℕ) → v < length plan.vars → atom_coun
 small plan v limit below few =
     let within = first_within plan v below in
     let before = vars_before plan v in
-    record { var = omega (arith, within, before, few); first = omega (arith, within, few); count = omega (arith, within, few) }
+    record {
+      var = omega (arith, within, before, few);
+      first = omega (arith, within, few);
+      count =
+          omega (arith, within, few);
+    }

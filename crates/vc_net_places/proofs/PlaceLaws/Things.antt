@@ -1,5 +1,6 @@
 -- What is kept of places, read at a number.
-use Rattle.std.proofs.Common.{◌≡◌, ℕ, true, zero, suc, ◌+◌, ◌<◌, ◌≤◌, ◌⊎◌, List, [], ◌∷◌, ◌++◌, length, map, refl, sym, ◌∙◌, ap, subst, inl, inr, arith, append_assoc, append-nil, length-append, ◌-◌}
+use Rattle.std.proofs.Common.{◌≡◌, ℕ, true, zero, suc, ◌+◌, ◌<◌, ◌≤◌, ◌⊎◌, List, [], ◌∷◌, ◌++◌, length, map, refl, sym}
+use Rattle.std.proofs.Common.{◌∙◌, ap, subst, inl, inr, arith, append_assoc, append-nil, length-append, ◌-◌}
 use Rattle.std.specs.Prelude.{Some, nat_lt, replicate, slice_get, slice_index_or}
 use Rattle.std.specs.List.{flat_map, range_with_len}
 use Rattle.std.proofs.lemmas.Bool.{and_parts, cases_lt, ltb-true}
@@ -12,12 +13,15 @@ use Rattle.vc_plan.specs.Bounds.{here_at, is_at, out_at, Place}
 use Rattle.vc_plan.specs.Domains.{count_of, numbers_below}
 use Rattle.vc_net_places.specs.declared.places.Thing.{Thing}
 use Rattle.vc_net_places.specs.declared.places.Thing.TheVariants.{Slot, Var}
-use Rattle.vc_net_places.specs.Laws.{FirstsAreCounted, IndexTellsBack, IndexTellsPlaces, IndexTellsThings, ThingsAreCounted}
-use Rattle.vc_net_places.specs.Places.{first_in, first_place, index_of, things_before, things_of_var, place_after, place_by, thing_at, is_place, number_of}
+use Rattle.vc_net_places.specs.Laws.{FirstsAreCounted, IndexTellsBack, IndexTellsPlaces, IndexTellsThings}
+use Rattle.vc_net_places.specs.Laws.{ThingsAreCounted}
+use Rattle.vc_net_places.specs.Places.{first_in, first_place, index_of, things_before, things_of_var, place_after}
+use Rattle.vc_net_places.specs.Places.{place_by, thing_at, is_place, number_of}
 use Rattle.vc_net_places.proofs.PlaceLaws.Numbering.{first_next}
 
 -- an element of a mapped range
-pub range_at : {X : Type 0} (f : ℕ → X) (a n i : ℕ) → i < n → slice_get (map f (range_with_len a n)) i ≡ Some (f (a + i))
+pub range_at : {X : Type 0} (f : ℕ → X) (a n i : ℕ) → i < n
+    → slice_get (map f (range_with_len a n)) i ≡ Some (f (a + i))
 range_at f a zero i below = absurd (omega (arith, below))
 range_at f a (suc n) zero below = ap (λ k. Some (f k)) (omega arith)
 range_at f a (suc n) (suc i) below = range_at f (a + 1) n i (omega (arith, below)) ∙ ap (λ k. Some (f k)) (omega arith)
@@ -28,7 +32,8 @@ index_at f a (suc n) zero below = ap f (omega arith)
 index_at f a (suc n) (suc i) below = index_at f (a + 1) n i (omega (arith, below)) ∙ ap f (omega arith)
 
 -- an element of the first or of the second of two lists
-pub get_first : {X : Type 0} (xs ys : List X) (i : ℕ) (x : X) → slice_get xs i ≡ Some x → slice_get (xs ++ ys) i ≡ Some x
+pub get_first : {X : Type 0} (xs ys : List X) (i : ℕ) (x : X) → slice_get xs i ≡ Some x
+    → slice_get (xs ++ ys) i ≡ Some x
 get_first [] ys i x e = absurd (cc)
 get_first (z ∷ xs) ys zero x e = e
 get_first (z ∷ xs) ys (suc i) x e = get_first xs ys i x e
@@ -56,7 +61,8 @@ things_next plan v =
     = ap (flat_map (things_of_var plan)) (range_split 0 v 1 (v + 1) v refl (omega arith))
     ∙ (flat_map-append (things_of_var plan) (numbers_below v) (v ∷ [])
     ∙ ap (λ xs. flat_map (things_of_var plan) (numbers_below v) ++ xs) (append-nil (things_of_var plan v))) in
-    ap (λ xs. slots ++ xs) split ∙ sym (append_assoc slots (flat_map (things_of_var plan) (numbers_below v)) (things_of_var plan v))
+    ap (λ xs. slots ++ xs) split
+    ∙ sym (append_assoc slots (flat_map (things_of_var plan) (numbers_below v)) (things_of_var plan v))
 
 grains_of_var : (plan : Plan) (v : ℕ) → length (things_of_var plan v) ≡ count_of plan v + 1
 grains_of_var plan v = length-replicate (count_of plan v + 1) (Var v)
@@ -65,7 +71,8 @@ grains_of_var plan v = length-replicate (count_of plan v + 1) (Var v)
 pub things_length : (plan : Plan) (v : ℕ) → length (things_before plan v) ≡ first_place plan v
 things_length plan zero =
     let slots = map Slot (numbers_below (length plan.slots)) in
-    let count : length slots ≡ length plan.slots = length-map (numbers_below (length plan.slots)) Slot ∙ length_range 0 (length plan.slots) in
+    let count : length slots ≡ length plan.slots
+    = length-map (numbers_below (length plan.slots)) Slot ∙ length_range 0 (length plan.slots) in
     ap length (append-nil slots) ∙ (count ∙ omega arith)
 things_length plan (suc v) =
     let before = things_length plan v in
@@ -103,7 +110,8 @@ thing_of_var plan v (suc k) i below few =
         get_first (things_before plan k) (things_of_var plan k) (first_place plan v + i) (Var v) (next earlier)
     by (inr last) next =
         let is : v ≡ k = omega (arith, below, last) in
-        subst (λ w. slice_get (things_before plan k ++ things_of_var plan k) (first_place plan v + i) ≡ Some (Var w)) (sym is)
+        subst (λ w. slice_get (things_before plan k ++ things_of_var plan k) (first_place plan v + i) ≡ Some (Var w))
+        (sym is)
         (get_second (things_before plan k) (things_of_var plan k) (first_place plan v + i) i
         (ap (λ w. first_place plan w + i) is ∙ ap (λ n. n + i) (sym (things_length plan k)))
         ∙ get_replicate (count_of plan k + 1) i (Var k) (subst (λ w. i < count_of plan w + 1) is few))
@@ -117,7 +125,8 @@ first_is plan v below = index_at (first_place plan) 0 (length plan.vars) v below
 
 slot_thing : (plan : Plan) (i k : ℕ) → i < length plan.slots → slice_get (things_before plan k) i ≡ Some (Slot i)
 slot_thing plan i k below =
-    get_first (map Slot (numbers_below (length plan.slots))) (flat_map (things_of_var plan) (numbers_below k)) i (Slot i)
+    get_first (map Slot (numbers_below (length plan.slots))) (flat_map (things_of_var plan) (numbers_below k)) i
+    (Slot i)
     (range_at Slot 0 (length plan.slots) i below ∙ ap (λ n. Some (Slot n)) (omega arith))
 
 pub index_tells_places : IndexTellsPlaces
@@ -157,7 +166,8 @@ by_thing plan (out_at v g) (Var w) e is =
     let p = and_parts (nat_lt v (length plan.vars)) (nat_lt g (count_of plan v)) e in
     let first = first_is plan v (ltb-true v (length plan.vars) p.0) in
     let rest : first_place plan v + (1 + g) - first_in (index_of plan) v ≡ suc g = omega (arith, first) in
-    ap (λ z. place_after z (first_place plan v + (1 + g) - first_in (index_of plan) z)) (sym same) ∙ ap (place_after v) rest
+    ap (λ z. place_after z (first_place plan v + (1 + g) - first_in (index_of plan) z)) (sym same)
+    ∙ ap (place_after v) rest
 
 pub index_tells_back : IndexTellsBack
 index_tells_back plan place e =

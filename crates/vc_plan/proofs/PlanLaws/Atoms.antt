@@ -16,7 +16,8 @@ pub value_exact : (a b : Value) → same_value a b ≡ true → a ≡ b
 value_exact (Text s) (Text t) e = ap Text (eqb-true s t e)
 value_exact (Text s) (Num b) e = absurd (cc)
 value_exact (Num a) (Text t) e = absurd (cc)
-value_exact (Num a) (Num b) e = let d = Decides-int_eq a.millionths b.millionths in ap (λ z. Num (record { millionths = z })) (d.0 e)
+value_exact (Num a) (Num b) e = let d = Decides-int_eq a.millionths b.millionths in
+    ap (λ z. Num (record { millionths = z })) (d.0 e)
 
 pub value_itself : (a : Value) → same_value a a ≡ true
 value_itself (Text s) = eq-eqb s s refl

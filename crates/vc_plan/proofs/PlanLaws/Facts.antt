@@ -41,7 +41,8 @@ facts plan set clear =
           (all_at same_atom atom_exact atom_itself (λ c. not (list_any (collides plan c) set)) set a inner.1 h)) k;
       room = λ v. elim (cases_lt v (length plan.vars)) [
         | inl below ↦
-            none_at nat_eq number_exact number_itself (is_exhausted plan (seen_of set)) (numbers_below (length plan.vars)) v (not-true some outer.1)
+            none_at nat_eq number_exact number_itself (is_exhausted plan (seen_of set))
+            (numbers_below (length plan.vars)) v (not-true some outer.1)
             (range_has 0 (length plan.vars) v (omega arith) (omega arith))
         | inr past ↦ not_exhausted_past plan (seen_of set) v past
       ];
@@ -58,11 +59,13 @@ clear_from plan set f =
     (λ a h. not_from_false (list_any (collides plan a) set)
     (none_passes same_atom atom_exact atom_itself (collides plan a) set (λ b k. f.apart a b h k))) in
     let rooms : some ≡ false
-    = none_passes nat_eq number_exact number_itself (is_exhausted plan (seen_of set)) (numbers_below (length plan.vars)) (λ v h. f.room v) in
+    = none_passes nat_eq number_exact number_itself (is_exhausted plan (seen_of set)) (numbers_below (length plan.vars))
+    (λ v h. f.room v) in
     and_from (names && pairs) (not some) (and_from names pairs all_named all_apart) (not_from_false some rooms)
 
 -- a slot that is here stays here
-pub slot_stays : (s t : Seen) → ((i : ℕ) → s.here i ≡ true → t.here i ≡ true) → (o : Option ℕ) → is_slot_here s o ≡ true → is_slot_here t o ≡ true
+pub slot_stays : (s t : Seen) → ((i : ℕ) → s.here i ≡ true → t.here i ≡ true) → (o : Option ℕ) → is_slot_here s o ≡ true
+    → is_slot_here t o ≡ true
 slot_stays s t f None e = e
 slot_stays s t f (Some i) e = f i e
 
@@ -75,7 +78,8 @@ fewer plan part set within f =
       named = λ a h. f.named a (within a h);
       apart = λ a b h k. f.apart a b (within a h) (within b k);
       room = λ v. false_from_ne_true (is_exhausted plan s v) (λ e.
-          let p : (is_here plan s v ≡ true) × (are_all_out plan s v ≡ true) = and_parts (is_here plan s v) (are_all_out plan s v) e in
+          let p : (is_here plan s v ≡ true) × (are_all_out plan s v ≡ true)
+          = and_parts (is_here plan s v) (are_all_out plan s v) e in
           both
           (and_from (is_here plan t v) (are_all_out plan t v)
           (slot_stays s t (λ i h. within (Here i) h) (slot_in (slice_get plan.vars v)) p.0)
@@ -83,5 +87,6 @@ fewer plan part set within f =
           (f.room v));
     }
 
-pub part_clear : (plan : Plan) (part set : List Atom) → is_clear plan set ≡ true → Within same_atom part set → is_clear plan part ≡ true
+pub part_clear : (plan : Plan) (part set : List Atom) → is_clear plan set ≡ true → Within same_atom part set
+    → is_clear plan part ≡ true
 part_clear plan part set clear within = clear_from plan part (fewer plan part set within (facts plan set clear))

@@ -16,8 +16,10 @@ use Rattle.vc_plan.proofs.PlanLaws.Extending.{Extends, extends, says_has, here_s
 use Rattle.vc_plan.proofs.PlanLaws.Facts.{part_clear}
 use Rattle.vc_plan.proofs.PlanLaws.Rules.{rule_below}
 
-source_below : (plan : Plan) (s t : Seen) → Extends plan s t → (v : ℕ) (said : Given Atom) → Below (if_here plan s v said) (if_here plan t v said)
-source_below plan s t x v said = below_when (is_here plan s v) (is_here plan t v) said said (here_stays plan s t x v) (λ e. below_self said)
+source_below : (plan : Plan) (s t : Seen) → Extends plan s t → (v : ℕ) (said : Given Atom)
+    → Below (if_here plan s v said) (if_here plan t v said)
+source_below plan s t x v said =
+    below_when (is_here plan s v) (is_here plan t v) said said (here_stays plan s t x v) (λ e. below_self said)
 
 said_below : (plan : Plan) (sources : Sources) (s t : Seen) → Extends plan s t → (giver : Giver)
     → Below (giver_says plan sources giver s) (giver_says plan sources giver t)

@@ -24,19 +24,23 @@ unfolding IsDistinct
 base_distinct = (tt, tt)
 
 -- where one round or more end settled, they began at a clear set
-began_clear : (plan : Plan) (sources : Sources) (n : ℕ) (start set : List Atom) → 0 < n → settle (system_of plan sources) n start ≡ settled set
+began_clear : (plan : Plan) (sources : Sources) (n : ℕ) (start set : List Atom) → 0 < n
+    → settle (system_of plan sources) n start ≡ settled set
     → is_clear plan start ≡ true
 began_clear plan sources zero start set some ends = absurd (omega arith)
 began_clear plan sources (suc n) start set some ends =
     let system = system_of plan sources in
-    let r : counting.Ran system (system_laws plan sources) n start set = counting.ran system (system_laws plan sources) n start set ends in
-    part_clear plan start (next_round system start) r.clear (λ a h. with_all_left same_atom atom_exact atom_itself start (all_given system start) a h)
+    let r : counting.Ran system (system_laws plan sources) n start set
+    = counting.ran system (system_laws plan sources) n start set ends in
+    part_clear plan start (next_round system start) r.clear
+    (λ a h. with_all_left same_atom atom_exact atom_itself start (all_given system start) a h)
 
 pub rounds_suffice : RoundsSuffice
 rounds_suffice plan sources set root ends =
     let clear : is_clear plan base ≡ true = began_clear plan sources (atom_count plan) base set (omega arith) ends in
     let c : settling.IsClosed (system_of plan sources) set
-    = counting.enough_rounds (system_of plan sources) (system_laws plan sources) (atom_count plan) base set clear base_distinct (omega arith)
+    = counting.enough_rounds (system_of plan sources) (system_laws plan sources) (atom_count plan) base set clear
+    base_distinct (omega arith)
     (clear_sets_are_small plan) ends in
     record { clear = c.clear; calm = c.calm; given = c.given }
 
@@ -46,10 +50,14 @@ same_set a b e = cc
 
 pub settles_below_closed : SettlesBelowClosed
 settles_below_closed plan sources closed c w =
-    let low = settling.settles_within (system_of plan sources) (system_laws plan sources) (atom_count plan) base closed (record { clear = c.clear; calm = c.calm; given = c.given }) w in
+    let low
+    = settling.settles_within (system_of plan sources) (system_laws plan sources) (atom_count plan) base closed
+    (record { clear = c.clear; calm = c.calm; given = c.given }) w in
     (low.set, low.is)
 
 pub settles_least : SettlesLeast
 settles_least plan sources set closed ends c w =
-    let low = settling.settles_within (system_of plan sources) (system_laws plan sources) (atom_count plan) base closed (record { clear = c.clear; calm = c.calm; given = c.given }) w in
+    let low
+    = settling.settles_within (system_of plan sources) (system_laws plan sources) (atom_count plan) base closed
+    (record { clear = c.clear; calm = c.calm; given = c.given }) w in
     subst (λ s. Within same_atom s closed) (same_set low.set set (sym low.is ∙ ends)) low.within

@@ -3,7 +3,8 @@ use Rattle.std.proofs.Common.{◌≡◌, ℕ, ℤ, true, List, refl, sym, ◌∙
 use Rattle.std.specs.Prelude.{Option, None, Some, option_map, slice_get}
 use Rattle.vc_value.specs.declared.value.Value.{Value}
 use Rattle.vc_plan.specs.declared.conditions.Condition.{Condition}
-use Rattle.vc_plan.specs.declared.conditions.Condition.TheVariants.{Always, Compared, IsIn, Specified, Holds, Filled, Not', And', Or'}
+use Rattle.vc_plan.specs.declared.conditions.Condition.TheVariants.{Always, Compared, IsIn, Specified, Holds, Filled}
+use Rattle.vc_plan.specs.declared.conditions.Condition.TheVariants.{Not', And', Or'}
 use Rattle.vc_plan.specs.declared.conditions.Kleene.{Kleene}
 use Rattle.vc_plan.specs.declared.conditions.Kleene.TheVariants.{True, False, Unknown}
 use Rattle.vc_plan.specs.declared.conditions.Piece.{Piece}
@@ -17,7 +18,8 @@ use Rattle.vc_plan.specs.Numbers.{applied, joined}
 use Rattle.vc_plan.specs.Pieces.{relates, lies_in_some}
 use Rattle.vc_plan.specs.Readings.{net_reading}
 use Rattle.vc_plan.specs.Seen.{Seen}
-use Rattle.vc_plan.specs.Truth.{number_of_value, value_of_number, number, term_value, compared, is_in, specified, truth, truth_in, value_in_term, truth_at, value_at}
+use Rattle.vc_plan.specs.Truth.{number_of_value, value_of_number, number, term_value, compared, is_in, specified, truth}
+use Rattle.vc_plan.specs.Truth.{truth_in, value_in_term, truth_at, value_at}
 
 -- what the first is, the second is
 abbrev pub Later : {A : Type 0} → Option A → Option A → Type 0
@@ -35,7 +37,8 @@ map_later : (f : ℤ → ℤ) (o p : Option ℤ) → Later o p → Later (option
 map_later f None p h z e = absurd (cc)
 map_later f (Some y) p h z e = ap (option_map f) (h y refl) ∙ e
 
-joined_later : (operator : Operator) (o p x y : Option ℤ) → Later o p → Later x y → Later (joined operator o x) (joined operator p y)
+joined_later : (operator : Operator) (o p x y : Option ℤ) → Later o p → Later x y
+    → Later (joined operator o x) (joined operator p y)
 joined_later operator None p x y f g z e = absurd (cc)
 joined_later operator (Some a) p None y f g z e = absurd (cc)
 joined_later operator (Some a) p (Some b) y f g z e =
@@ -81,15 +84,18 @@ sharper_or Unknown l True n e f = ap (kleene_or l) f ∙ or_true l
 sharper_or Unknown l False n e f = tt
 sharper_or Unknown l Unknown n e f = tt
 
-pub sharper_compared : (r : Relation) (o p x y : Option Value) → Later o p → Later x y → Sharper (compared r o x) (compared r p y)
+pub sharper_compared : (r : Relation) (o p x y : Option Value) → Later o p → Later x y
+    → Sharper (compared r o x) (compared r p y)
 sharper_compared r None p x y f g = tt
 sharper_compared r (Some a) p None y f g = tt
 sharper_compared r (Some a) p (Some b) y f g =
-    sharper_same (truth_of (relates r a b)) (compared r p y) (ap (λ q. compared r q y) (f a refl) ∙ ap (compared r (Some a)) (g b refl))
+    sharper_same (truth_of (relates r a b)) (compared r p y)
+    (ap (λ q. compared r q y) (f a refl) ∙ ap (compared r (Some a)) (g b refl))
 
 sharper_in : (pieces : List Piece) (o p : Option Value) → Later o p → Sharper (is_in pieces o) (is_in pieces p)
 sharper_in pieces None p f = tt
-sharper_in pieces (Some a) p f = sharper_same (truth_of (lies_in_some pieces a)) (is_in pieces p) (ap (is_in pieces) (f a refl))
+sharper_in pieces (Some a) p f =
+    sharper_same (truth_of (lies_in_some pieces a)) (is_in pieces p) (ap (is_in pieces) (f a refl))
 
 sharper_specified : (o p : Option Value) → Later o p → Sharper (specified Unknown o) (specified Unknown p)
 sharper_specified None p f = tt
@@ -115,7 +121,8 @@ module _ (s t : Seen) (later : (v : ℕ) → Later (s.value v) (t.value v)) wher
   number_later (Applied' function p a) z e =
       map_later (applied function) (number (net_reading s) a) (number (net_reading t) a) (number_later a) z e
   number_later (Joined' operator p a q b) z e =
-      joined_later operator (number (net_reading s) a) (number (net_reading t) a) (number (net_reading s) b) (number (net_reading t) b)
+      joined_later operator (number (net_reading s) a) (number (net_reading t) a) (number (net_reading s) b)
+      (number (net_reading t) b)
       (number_later a) (number_later b) z e
 
   pub term_later : (term : Term) → Later (term_value (net_reading s) term) (term_value (net_reading t) term)
@@ -127,13 +134,15 @@ module _ (s t : Seen) (later : (v : ℕ) → Later (s.value v) (t.value v)) wher
       value_of_later (number (net_reading s) (Applied' function p a)) (number (net_reading t) (Applied' function p a))
       (number_later (Applied' function p a)) x e
   term_later (Joined' operator p a q b) x e =
-      value_of_later (number (net_reading s) (Joined' operator p a q b)) (number (net_reading t) (Joined' operator p a q b))
+      value_of_later (number (net_reading s) (Joined' operator p a q b))
+      (number (net_reading t) (Joined' operator p a q b))
       (number_later (Joined' operator p a q b)) x e
 
   pub truth_sharper : (c : Condition) → Sharper (truth (net_reading s) c) (truth (net_reading t) c)
   truth_sharper Always = refl
   truth_sharper (Compared r a b) =
-      sharper_compared r (term_value (net_reading s) a) (term_value (net_reading t) a) (term_value (net_reading s) b) (term_value (net_reading t) b)
+      sharper_compared r (term_value (net_reading s) a) (term_value (net_reading t) a) (term_value (net_reading s) b)
+      (term_value (net_reading t) b)
       (term_later a) (term_later b)
   truth_sharper (IsIn v pieces) = sharper_in pieces (s.value v) (t.value v) (later v)
   truth_sharper (Specified v) = sharper_specified (s.value v) (t.value v) (later v)
@@ -141,9 +150,11 @@ module _ (s t : Seen) (later : (v : ℕ) → Later (s.value v) (t.value v)) wher
   truth_sharper (Filled set) = tt
   truth_sharper (Not' p c) = sharper_not (truth (net_reading s) c) (truth (net_reading t) c) (truth_sharper c)
   truth_sharper (And' p c q d) =
-      sharper_and (truth (net_reading s) c) (truth (net_reading t) c) (truth (net_reading s) d) (truth (net_reading t) d) (truth_sharper c) (truth_sharper d)
+      sharper_and (truth (net_reading s) c) (truth (net_reading t) c) (truth (net_reading s) d)
+      (truth (net_reading t) d) (truth_sharper c) (truth_sharper d)
   truth_sharper (Or' p c q d) =
-      sharper_or (truth (net_reading s) c) (truth (net_reading t) c) (truth (net_reading s) d) (truth (net_reading t) d) (truth_sharper c) (truth_sharper d)
+      sharper_or (truth (net_reading s) c) (truth (net_reading t) c) (truth (net_reading s) d) (truth (net_reading t) d)
+      (truth_sharper c) (truth_sharper d)
 
   truth_in_sharper : (o : Option Condition) → Sharper (truth_in (net_reading s) o) (truth_in (net_reading t) o)
   truth_in_sharper None = tt
@@ -154,8 +165,10 @@ module _ (s t : Seen) (later : (v : ℕ) → Later (s.value v) (t.value v)) wher
   value_in_later (Some term) x e = term_later term x e
 
   -- a plan's conditions and terms
-  pub truth_at_sharper : (plan : Plan) (c : ℕ) → Sharper (truth_at plan (net_reading s) c) (truth_at plan (net_reading t) c)
+  pub truth_at_sharper : (plan : Plan) (c : ℕ)
+      → Sharper (truth_at plan (net_reading s) c) (truth_at plan (net_reading t) c)
   truth_at_sharper plan c = truth_in_sharper (slice_get plan.conditions c)
 
-  pub value_at_later : (plan : Plan) (term : ℕ) → Later (value_at plan (net_reading s) term) (value_at plan (net_reading t) term)
+  pub value_at_later : (plan : Plan) (term : ℕ)
+      → Later (value_at plan (net_reading s) term) (value_at plan (net_reading t) term)
   value_at_later plan term x e = value_in_later (slice_get plan.terms term) x e

@@ -17,7 +17,8 @@ use Rattle.vc_plan.proofs.PlanRows.WholeModels.{listed, piece_line, plain, whole
 abbrev three_domains : List Domain
 three_domains = Nums 0 (from_to 1 9 ∷ []) ∷ Texts (0 ∷ 1 ∷ []) ∷ Nums 0 (from_to 1 9 ∷ []) ∷ []
 
-two_domains : Breaks (codes "one_domain") (record box { domains = three_domains; vars = length_at 1 0 ∷ length_at 2 2 ∷ [] })
+two_domains : Breaks (codes "one_domain")
+    (record box { domains = three_domains; vars = length_at 1 0 ∷ length_at 2 2 ∷ [] })
 two_domains = refl
 
 open_once : Breaks (codes "one_domain")
@@ -77,14 +78,16 @@ lengths list domain = record box {
 }
 
 cut_lengths : broken
-    (lengths (Nums 0 (from_to 1 9 ∷ from_to 10 20 ∷ [])) (Nums 0 (from_to 1 4 ∷ from_to 5 5 ∷ from_to 6 9 ∷ from_to 10 20 ∷ []))) ≡ []
+    (lengths (Nums 0 (from_to 1 9 ∷ from_to 10 20 ∷ []))
+    (Nums 0 (from_to 1 4 ∷ from_to 5 5 ∷ from_to 6 9 ∷ from_to 10 20 ∷ []))) ≡ []
 cut_lengths = refl
 
 no_length : Breaks (codes "some_grain") (lengths (Nums 0 []) (Nums 0 []))
 no_length = refl
 
 -- grains that share numbers
-shared : Breaks (codes "proper") (lengths (Nums 0 (from_to 1 9 ∷ [])) (Nums 0 (from_to 1 5 ∷ from_to 3 9 ∷ from_to 6 9 ∷ [])))
+shared : Breaks (codes "proper")
+    (lengths (Nums 0 (from_to 1 9 ∷ [])) (Nums 0 (from_to 1 5 ∷ from_to 3 9 ∷ from_to 6 9 ∷ [])))
 shared = refl
 
 -- 6 to 9 missing, 5 missing between two grains, 10 too many, two entries joined, and another number of decimals
@@ -115,7 +118,8 @@ uncut p = refl
 
 -- STEPS, which a restriction compares with 1 and with 2, cut at 1 alone
 cut_once : (p : Box (Unit {0}) Global) → Breaks (codes "cut")
-    (record (whole_step p) { domains = Nums 0 (from_to 0 0 ∷ from_to 1 1 ∷ from_to 2 50 ∷ []) ∷ Nums 1 flow_grains ∷ [] })
+    (record (whole_step p)
+    { domains = Nums 0 (from_to 0 0 ∷ from_to 1 1 ∷ from_to 2 50 ∷ []) ∷ Nums 1 flow_grains ∷ [] })
 cut_once p = refl
 
 -- options of which one isn't listed with the characteristic, and numbers for options

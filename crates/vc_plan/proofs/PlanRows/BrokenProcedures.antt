@@ -16,7 +16,8 @@ use Rattle.vc_plan.specs.declared.procedures.Trigger.TheVariants.{ValueIn, TextI
 use Rattle.vc_plan.proofs.PlanRows.Facts.{Breaks, broken}
 use Rattle.vc_plan.proofs.PlanRows.Models.{from_to}
 use Rattle.vc_plan.proofs.PlanRows.SmallModels.{box, cutting, key, fills, looking, keyed, keyed_table}
-use Rattle.vc_plan.proofs.PlanRows.WholeModels.{piece_line, plain, profile, whole_step, whole_ring, whole_paint, whole_machine, whole_gear}
+use Rattle.vc_plan.proofs.PlanRows.WholeModels.{piece_line, plain, profile, whole_step, whole_ring, whole_paint}
+use Rattle.vc_plan.proofs.PlanRows.WholeModels.{whole_machine, whole_gear}
 use Rattle.vc_plan.proofs.StageRows.StageModels.{says}
 
 -- the root's procedure sets the drive's power; the drive's may
@@ -26,10 +27,12 @@ at_drive = record (profile 0 (says (Assign 1 1) 0 ∷ [])) { slot = 1 }
 own_power : broken (record whole_machine { procedures = at_drive ∷ [] }) ≡ []
 own_power = refl
 
-drives_power : Breaks (codes "own_writes") (record whole_machine { procedures = profile 0 (says (Assign 1 1) 0 ∷ []) ∷ [] })
+drives_power : Breaks (codes "own_writes")
+    (record whole_machine { procedures = profile 0 (says (Assign 1 1) 0 ∷ []) ∷ [] })
 drives_power = refl
 
-default_power : Breaks (codes "own_writes") (record whole_machine { procedures = profile 0 (says (SetDefault 1 1) 0 ∷ []) ∷ [] })
+default_power : Breaks (codes "own_writes")
+    (record whole_machine { procedures = profile 0 (says (SetDefault 1 1) 0 ∷ []) ∷ [] })
 default_power = refl
 
 -- look-ups without a key, with none but keys, with a key twice, and of a column that isn't one
@@ -95,7 +98,8 @@ at_no_option = refl
 
 -- the root's procedure at a value of the drive
 at_drive's_value : Breaks (codes "triggers")
-    (record whole_machine { procedures = record (profile 0 (says (Assign 0 2) 0 ∷ [])) { trigger = ValueIn 1 (OneText 2) } ∷ [] })
+    (record whole_machine
+    { procedures = record (profile 0 (says (Assign 0 2) 0 ∷ [])) { trigger = ValueIn 1 (OneText 2) } ∷ [] })
 at_drive's_value = refl
 
 -- preconditions at values: at the whole of an entry, at a part of it, and at another's value
@@ -138,7 +142,8 @@ same_operation : Breaks (codes "operations_in_order")
     (record box { operations = cutting 1 10 ∷ cutting 1 10 ∷ cutting 2 10 ∷ cutting 2 10 ∷ [] })
 same_operation = refl
 
--- procedures: the drive's before the root's, a value's before the profile's, a later value's and a later characteristic's first
+-- procedures: the drive's before the root's, a value's before the profile's, a later value's and a later
+-- characteristic's first
 drive_first : Breaks (codes "procedures_in_order")
     (record whole_machine { procedures = at_drive ∷ profile 0 (says (Assign 0 2) 0 ∷ []) ∷ [] })
 drive_first = refl
@@ -167,7 +172,8 @@ later_characteristic_first : Breaks (codes "procedures_in_order")
     (in_order_of (at_value (ValueIn 2 (OneText 5)) ∷ at_value (ValueIn 1 (OneText 4)) ∷ []))
 later_characteristic_first = refl
 
-option_first : Breaks (codes "procedures_in_order") (in_order_of (at_value (TextIn 0 7) ∷ at_value (ValueIn 2 (OneText 5)) ∷ []))
+option_first : Breaks (codes "procedures_in_order")
+    (in_order_of (at_value (TextIn 0 7) ∷ at_value (ValueIn 2 (OneText 5)) ∷ []))
 option_first = refl
 
 -- preconditions: those of a characteristic before those of its values
@@ -179,14 +185,16 @@ guarded guards = record whole_paint { guards = guards }
 
 guards_in_order : broken
     (guarded
-    (own_guard (Var 0) ∷ own_guard (Var 2) ∷ guard (Var 2) (OneText 5) ∷ guard (Var 2) (OneText 6) ∷ guard (Set 0) (OneText 7) ∷ []))
+    (own_guard (Var 0) ∷ own_guard (Var 2) ∷ guard (Var 2) (OneText 5) ∷ guard (Var 2) (OneText 6)
+    ∷ guard (Set 0) (OneText 7) ∷ []))
     ≡ []
 guards_in_order = refl
 
 value's_first : Breaks (codes "guards_in_order") (guarded (guard (Var 2) (OneText 5) ∷ own_guard (Var 2) ∷ []))
 value's_first = refl
 
-second_value's_first : Breaks (codes "guards_in_order") (guarded (guard (Var 2) (OneText 6) ∷ guard (Var 2) (OneText 5) ∷ []))
+second_value's_first : Breaks (codes "guards_in_order")
+    (guarded (guard (Var 2) (OneText 6) ∷ guard (Var 2) (OneText 5) ∷ []))
 second_value's_first = refl
 
 trim's_first : Breaks (codes "guards_in_order") (guarded (own_guard (Var 2) ∷ own_guard (Var 0) ∷ []))
@@ -195,5 +203,6 @@ trim's_first = refl
 options_first : Breaks (codes "guards_in_order") (guarded (own_guard (Set 0) ∷ own_guard (Var 0) ∷ []))
 options_first = refl
 
-drive's_first : Breaks (codes "guards_in_order") (record whole_machine { guards = own_guard (Var 1) ∷ own_guard (Var 0) ∷ [] })
+drive's_first : Breaks (codes "guards_in_order")
+    (record whole_machine { guards = own_guard (Var 1) ∷ own_guard (Var 0) ∷ [] })
 drive's_first = refl

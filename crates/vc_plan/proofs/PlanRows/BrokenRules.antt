@@ -53,7 +53,8 @@ inferring_last : Breaks (codes "own_slots")
     (record whole_ring { rules = last 0 ∷ last 1 ∷ record (last 2) { inferred = 2 ∷ [] } ∷ [] })
 inferring_last = refl
 
--- the lid at slot 1 is as long as that at slot 2, which isn't among the rule's slots; and the first is inferred at the second's
+-- the lid at slot 1 is as long as that at slot 2, which isn't among the rule's slots; and the first is inferred at the
+-- second's
 abbrev two_lids : List ℕ → List ℕ → Plan
 two_lids slots inferred = record box {
   terms = Literal (whole 1) ∷ Read 0 ∷ Read 1 ∷ [];
@@ -96,7 +97,8 @@ five_objects = refl
 number_zero : Breaks (codes "numbered") (with_rules (of 0 0 a_is_1 ∷ []))
 number_zero = refl
 
-numbered_last : Breaks (codes "numbered") (record whole_ring { rules = record (last 0) { number = 1 } ∷ last 1 ∷ last 2 ∷ [] })
+numbered_last : Breaks (codes "numbered")
+    (record whole_ring { rules = record (last 0) { number = 1 } ∷ last 1 ∷ last 2 ∷ [] })
 numbered_last = refl
 
 -- two restrictions of one number; with two numbers or of two constraints they may stand
@@ -116,7 +118,8 @@ drive_by rules = record whole_machine { rules = last 0 ∷ last 1 ∷ rules }
 two_selections : broken (drive_by (of 0 1 (own_rule 1 (Line 1)) ∷ of 0 2 (own_rule 0 (Line 1)) ∷ [])) ≡ []
 two_selections = refl
 
-same_selection : Breaks (codes "lines_once") (drive_by (of 0 1 (own_rule 1 (Line 1)) ∷ of 0 1 (own_rule 0 (Line 1)) ∷ []))
+same_selection : Breaks (codes "lines_once")
+    (drive_by (of 0 1 (own_rule 1 (Line 1)) ∷ of 0 1 (own_rule 0 (Line 1)) ∷ []))
 same_selection = refl
 
 no_selection : broken (drive_by (own_rule 0 (Line 1) ∷ [])) ≡ []
@@ -144,7 +147,8 @@ asking_last : Breaks (codes "asked_by_right")
     (record whole_ring { rules = last 0 ∷ last 1 ∷ record (last 2) { condition = 1 } ∷ [] })
 asking_last = refl
 
-last_of_constraint : Breaks (codes "asked_by_right") (record whole_ring { rules = last 0 ∷ last 1 ∷ of 0 1 (last 2) ∷ [] })
+last_of_constraint : Breaks (codes "asked_by_right")
+    (record whole_ring { rules = last 0 ∷ last 1 ∷ of 0 1 (last 2) ∷ [] })
 last_of_constraint = refl
 
 asking_line : Breaks (codes "asked_by_right") (drive_by (own_rule 1 (Line 1) ∷ []))

@@ -24,9 +24,11 @@ machine = record whole_machine {
   terms = Literal (whole 1) ∷ Literal (Text 2) ∷ Literal (Text 0) ∷ Read 1 ∷ Read 0 ∷ [];
 }
 
--- a procedure of the machine that asks for the power, and one that takes it; the drive's may, and may ask for its parent's
+-- a procedure of the machine that asks for the power, and one that takes it; the drive's may, and may ask for its
+-- parent's
 abbrev done : ℕ → Action → ℕ → Plan
-done slot action condition = record machine { procedures = record (profile 0 (says action condition ∷ [])) { slot = slot } ∷ [] }
+done slot action condition =
+    record machine { procedures = record (profile 0 (says action condition ∷ [])) { slot = slot } ∷ [] }
 
 asks_power : Breaks (codes "procedure_reads") (done 0 (Assign 0 2) 2)
 asks_power = refl
@@ -49,16 +51,20 @@ total_below = refl
 abbrev on_power : Selection
 on_power = record { dependency = 0; condition = 2 }
 
-guarded : Breaks (codes "guard_reads") (record machine { guards = record { at = Var 0; value = None; dependency = 0; condition = 2 } ∷ [] })
+guarded : Breaks (codes "guard_reads")
+    (record machine { guards = record { at = Var 0; value = None; dependency = 0; condition = 2 } ∷ [] })
 guarded = refl
 
-own_guard : broken (record machine { guards = record { at = Var 1; value = None; dependency = 0; condition = 2 } ∷ [] }) ≡ []
+own_guard : broken (record machine { guards = record { at = Var 1; value = None; dependency = 0; condition = 2 } ∷ [] })
+    ≡ []
 own_guard = refl
 
-required : Breaks (codes "requirement_reads") (record machine { requirements = record { at = Var 0; selection = on_power } ∷ [] })
+required : Breaks (codes "requirement_reads")
+    (record machine { requirements = record { at = Var 0; selection = on_power } ∷ [] })
 required = refl
 
-operation : Breaks (codes "operation_reads") (record machine { operations = record (cutting 0 10) { selections = on_power ∷ [] } ∷ [] })
+operation : Breaks (codes "operation_reads")
+    (record machine { operations = record (cutting 0 10) { selections = on_power ∷ [] } ∷ [] })
 operation = refl
 
 timed : Breaks (codes "operation_reads") (record box {
@@ -68,7 +74,10 @@ timed : Breaks (codes "operation_reads") (record box {
 timed = refl
 
 line : Breaks (codes "line_reads")
-    (record machine { lines = piece_line 10 (codes "DRIVE") 0 [] ∷ piece_line 20 (codes "SEAL") 0 (on_power ∷ []) ∷ [] })
+    (record machine {
+      lines = piece_line 10 (codes "DRIVE") 0 [] ∷ piece_line 20 (codes "SEAL") 0 (on_power ∷ [])
+          ∷ [];
+    })
 line = refl
 
 -- a lid's screws by its own length may be; a box's lids by the first lid's may not
@@ -96,5 +105,6 @@ sibling's_options : Breaks (codes "line_reads") (record box {
 sibling's_options = refl
 
 -- a drive that is there by its own power
-by_itself : Breaks (codes "component_reads") (record machine { rules = last 0 ∷ last 1 ∷ of 0 1 (own_rule 2 (Line 1)) ∷ [] })
+by_itself : Breaks (codes "component_reads")
+    (record machine { rules = last 0 ∷ last 1 ∷ of 0 1 (own_rule 2 (Line 1)) ∷ [] })
 by_itself = refl

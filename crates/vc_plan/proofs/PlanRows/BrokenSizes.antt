@@ -41,7 +41,8 @@ rules valid = let e = valid.rule_limit in cc
 atoms : IsValid (record bare { domains = Texts (replicate 999 0) ∷ []; vars = replicate 40 (fixed_var 0) }) → ⊥
 atoms valid = let e = valid.atom_limit in cc
 
-just_40_000 : atom_count (record bare { slots = []; domains = Texts (replicate 999 0) ∷ []; vars = replicate 40 (fixed_var 0) })
+just_40_000 : atom_count
+    (record bare { slots = []; domains = Texts (replicate 999 0) ∷ []; vars = replicate 40 (fixed_var 0) })
     ≡ 40_000
 just_40_000 = refl
 

@@ -64,7 +64,8 @@ plus p a b = Joined' Plus p a p b
 abbrev greatest : Box (Unit {0}) Global → Term
 greatest p =
     over_1 p
-    (plus p (over_1 p (plus p (over_1 p (plus p (over_1 p (digits 999_999_999_999)) (digits 999_999))) (digits 999_999))) (digits 999_999))
+    (plus p (over_1 p (plus p (over_1 p (plus p (over_1 p (digits 999_999_999_999)) (digits 999_999)))
+    (digits 999_999))) (digits 999_999))
 
 greatest_size : (p : Box (Unit {0}) Global) → size (greatest p) + 10 ^ 6 ≡ 10 ^ 36
 greatest_size p = refl
@@ -151,7 +152,8 @@ left_passes p e = cc
 -- a sum over parts inside a function and in a join, and in a part of a condition
 sum_inside : (p : Box (Unit {0}) Global)
     → map has_part_sum
-    (Literal (whole 1) ∷ Read 0 ∷ Applied' Abs p (PartCount 0) ∷ plus p (PartSum 0 0) (Read 0) ∷ plus p (Read 0) (PartSum 0 0) ∷ [])
+    (Literal (whole 1) ∷ Read 0 ∷ Applied' Abs p (PartCount 0) ∷ plus p (PartSum 0 0) (Read 0)
+    ∷ plus p (Read 0) (PartSum 0 0) ∷ [])
     ≡ false ∷ false ∷ true ∷ true ∷ true ∷ []
 sum_inside p = refl
 
@@ -160,7 +162,8 @@ many = Compared Greater (Literal (whole 3)) (PartCount 0)
 
 sum_asked : (p : Box (Unit {0}) Global)
     → map condition_sums
-    (anything ∷ many ∷ Not' p many ∷ And' p anything p many ∷ And' p many p anything ∷ Or' p anything p many ∷ Or' p many p anything ∷ [])
+    (anything ∷ many ∷ Not' p many ∷ And' p anything p many ∷ And' p many p anything ∷ Or' p anything p many
+    ∷ Or' p many p anything ∷ [])
     ≡ false ∷ true ∷ true ∷ true ∷ true ∷ true ∷ true ∷ []
 sum_asked p = refl
 
@@ -172,6 +175,7 @@ summed_quantity p = refl
 summing_rule : Breaks (codes "no_sum_asked") (let plan = whole_gear in record plan {
   conditions = Always ∷ many ∷ [];
   rules =
-      rule 1 [] Never ∷ last 0 ∷ last 1 ∷ last 2 ∷ last 3 ∷ own_rule 0 (Line 1) ∷ own_rule 0 (Line 2) ∷ own_rule 0 (Line 3) ∷ [];
+      rule 1 [] Never ∷ last 0 ∷ last 1 ∷ last 2 ∷ last 3 ∷ own_rule 0 (Line 1) ∷ own_rule 0 (Line 2)
+      ∷ own_rule 0 (Line 3) ∷ [];
 })
 summing_rule = refl

@@ -1,4 +1,5 @@
--- Plans that break one fact alone: numbers of things that aren't there, and slots and classes that aren't those of the objects.
+-- Plans that break one fact alone: numbers of things that aren't there, and slots and classes that aren't those of the
+-- objects.
 use Rattle.std.proofs.Common.{◌≡◌, [], ◌∷◌, false, refl}
 use Rattle.std.specs.Prelude.{None, codes}
 use Rattle.vc_value.specs.declared.table_header.Domain.TheVariants.{Texts, Nums}
@@ -13,7 +14,8 @@ use Rattle.vc_plan.specs.declared.terms.Term.TheVariants.{Literal, Read}
 use Rattle.vc_plan.proofs.PlanRows.Facts.{Breaks, broken}
 use Rattle.vc_plan.proofs.PlanRows.Models.{root, open_var, fixed_var, rule, last, from_to}
 use Rattle.vc_plan.proofs.PlanRows.SmallModels.{bare, box, options_at, screw, cutting, deep, part_of}
-use Rattle.vc_plan.proofs.PlanRows.WholeModels.{listed, object, piece_line, profile, stripe, whole_ring, whole_paint, whole_machine, whole_gear}
+use Rattle.vc_plan.proofs.PlanRows.WholeModels.{listed, object, piece_line, profile, stripe, whole_ring, whole_paint}
+use Rattle.vc_plan.proofs.PlanRows.WholeModels.{whole_machine, whole_gear}
 use Rattle.vc_plan.proofs.StageRows.StageModels.{says}
 
 -- things that aren't there: a list of seven decimals
@@ -45,7 +47,10 @@ var_nowhere : Breaks (codes "vars_there")
 var_nowhere = refl
 
 set_nowhere : Breaks (codes "sets_there")
-    (record whole_paint { sets = record (options_at 0 3) { characteristic = 3 } ∷ record (options_at 1 3) { characteristic = 3 } ∷ [] })
+    (record whole_paint {
+      sets = record (options_at 0 3) { characteristic = 3 }
+          ∷ record (options_at 1 3) { characteristic = 3 } ∷ [];
+    })
 set_nowhere = refl
 
 -- a domain that no variable has, of a text that isn't there
@@ -89,7 +94,10 @@ guard_without_name : Breaks (codes "guards_there")
 guard_without_name = refl
 
 requirement_without_name : Breaks (codes "requirements_there")
-    (record whole_paint { requirements = record { at = Set 0; selection = record { dependency = 4; condition = 1 } } ∷ [] })
+    (record whole_paint {
+      requirements = record { at = Set 0; selection = record { dependency = 4; condition = 1 } }
+          ∷ [];
+    })
 requirement_without_name = refl
 
 -- no slot at all, and a root that stands deep
@@ -142,7 +150,8 @@ slot_for_a_seal = refl
 
 -- a component's selection condition beside its line
 selection_at_component : Breaks (codes "line_selections")
-    (record whole_machine { lines = piece_line 10 (codes "DRIVE") 0 (record { dependency = 0; condition = 1 } ∷ []) ∷ [] })
+    (record whole_machine
+    { lines = piece_line 10 (codes "DRIVE") 0 (record { dependency = 0; condition = 1 } ∷ []) ∷ [] })
 selection_at_component = refl
 
 -- classes
@@ -170,7 +179,8 @@ other_order : Breaks (codes "class_vars") (record whole_ring { objects = object 
 other_order = refl
 
 -- a set that the class hasn't, and a lid without its options
-set_not_of_class : Breaks (codes "class_sets") (record whole_paint { objects = object (codes "PAINT") (0 ∷ 1 ∷ 2 ∷ []) ∷ [] })
+set_not_of_class : Breaks (codes "class_sets")
+    (record whole_paint { objects = object (codes "PAINT") (0 ∷ 1 ∷ 2 ∷ []) ∷ [] })
 set_not_of_class = refl
 
 missing_set : Breaks (codes "class_sets") (record box { sets = options_at 1 1 ∷ [] })
@@ -178,7 +188,10 @@ missing_set = refl
 
 -- a characteristic with a variable and a set breaks two facts: the class has it once
 both : broken
-    (record whole_paint { sets = record (options_at 0 3) { characteristic = 3 } ∷ record (options_at 0 2) { characteristic = 2 } ∷ [] })
+    (record whole_paint {
+      sets = record (options_at 0 3) { characteristic = 3 }
+          ∷ record (options_at 0 2) { characteristic = 2 } ∷ [];
+    })
     ≡ codes "class_vars" ∷ codes "class_sets" ∷ []
 both = refl
 

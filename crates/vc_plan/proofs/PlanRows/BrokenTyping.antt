@@ -4,7 +4,8 @@ use Rattle.std.specs.Prelude.{None, codes, Box}
 use Rattle.std.specs.declared.alloc.Global.{Global}
 use Rattle.vc_value.specs.declared.value.Value.TheVariants.{Text}
 use Rattle.vc_plan.specs.declared.conditions.Condition.{Condition}
-use Rattle.vc_plan.specs.declared.conditions.Condition.TheVariants.{Always, Compared, IsIn, Specified, Holds, Filled, Not', And'}
+use Rattle.vc_plan.specs.declared.conditions.Condition.TheVariants.{Always, Compared, IsIn, Specified, Holds, Filled}
+use Rattle.vc_plan.specs.declared.conditions.Condition.TheVariants.{Not', And'}
 use Rattle.vc_plan.specs.declared.conditions.Piece.TheVariants.{OneText, Stretch}
 use Rattle.vc_plan.specs.declared.conditions.Relation.TheVariants.{Equal, Less, AtMost, Greater}
 use Rattle.vc_plan.specs.declared.plans.Named.TheVariants.{Var}
@@ -21,7 +22,8 @@ use Rattle.vc_plan.specs.declared.terms.Term.TheVariants.{Literal, Read, PartSum
 use Rattle.vc_plan.proofs.PlanRows.Facts.{Breaks, broken}
 use Rattle.vc_plan.proofs.PlanRows.Models.{root, rule, of, own_rule, last, column, whole, from_to}
 use Rattle.vc_plan.proofs.PlanRows.SmallModels.{bare, cutting, key, fills, looking, part_of}
-use Rattle.vc_plan.proofs.PlanRows.WholeModels.{object, piece_line, profile, whole_ring, whole_paint, whole_machine, whole_gear}
+use Rattle.vc_plan.proofs.PlanRows.WholeModels.{object, piece_line, profile, whole_ring, whole_paint, whole_machine}
+use Rattle.vc_plan.proofs.PlanRows.WholeModels.{whole_gear}
 use Rattle.vc_plan.proofs.StageRows.StageModels.{says}
 
 -- RING with one more condition
@@ -125,7 +127,8 @@ abbrev capped : Condition → Plan
 capped c = record whole_paint {
   objects = object (codes "PAINT") (0 ∷ 1 ∷ 2 ∷ 3 ∷ []) ∷ object (codes "CAP") [] ∷ [];
   slots = root ∷ part_of 0 1 1 0 ∷ [];
-  conditions = Always ∷ Compared Equal (Read 1) (Literal (Text 4)) ∷ Compared Equal (Read 1) (Literal (Text 3)) ∷ c ∷ [];
+  conditions = Always ∷ Compared Equal (Read 1) (Literal (Text 4)) ∷ Compared Equal (Read 1) (Literal (Text 3)) ∷ c
+      ∷ [];
   rules = last 0 ∷ last 1 ∷ last 2 ∷ of 3 1 (own_rule 3 (Line 1)) ∷ [];
   lines = piece_line 10 (codes "CAP") 2 [] ∷ [];
 }
@@ -174,7 +177,11 @@ counting_line : Breaks (codes "no_sum_asked")
 counting_line = refl
 
 counting_statement : broken
-    (record whole_gear { conditions = Always ∷ many_parts ∷ []; procedures = profile 0 (says (Assign 0 2) 1 ∷ []) ∷ [] }) ≡ []
+    (record whole_gear {
+      conditions = Always ∷ many_parts ∷ [];
+      procedures = profile 0 (says (Assign 0 2) 1 ∷ [])
+          ∷ [];
+    }) ≡ []
 counting_statement = refl
 
 -- a quantity that counts parts, and a time that does
@@ -184,10 +191,12 @@ counted_quantity : Breaks (codes "no_sum_meant")
     })
 counted_quantity = refl
 
-counted_time : Breaks (codes "no_sum_meant") (record whole_gear { operations = record (cutting 0 10) { time = 3 } ∷ [] })
+counted_time : Breaks (codes "no_sum_meant")
+    (record whole_gear { operations = record (cutting 0 10) { time = 3 } ∷ [] })
 counted_time = refl
 
--- a sum of totals, which no part has; of weights below a part without parts; and of the powers of drives, which are texts
+-- a sum of totals, which no part has; of weights below a part without parts; and of the powers of drives, which are
+-- texts
 sum_of_totals : Breaks (codes "sums_asked")
     (record whole_gear { conditions = Always ∷ Compared Greater (PartSum 0 1) (Literal (whole 3)) ∷ [] })
 sum_of_totals = refl
@@ -224,7 +233,8 @@ cubed_inside p = refl
 abbrev divided : Box (Unit {0}) Global → Term → Term
 divided p a = Joined' Over p a p large
 
-divided_twice : (p : Box (Unit {0}) Global) → broken (record bare { terms = divided p (divided p (square p)) ∷ [] }) ≡ []
+divided_twice : (p : Box (Unit {0}) Global)
+    → broken (record bare { terms = divided p (divided p (square p)) ∷ [] }) ≡ []
 divided_twice p = refl
 
 divided_thrice : (p : Box (Unit {0}) Global)

@@ -49,7 +49,8 @@ no_version : Breaks (codes "version") (record bare { version = 1_000_000 })
 no_version = refl
 
 -- other names
-characteristic_in_lower_case : Breaks (codes "names") (record bare { characteristics = listed (codes "w") (Texts []) ∷ [] })
+characteristic_in_lower_case : Breaks (codes "names")
+    (record bare { characteristics = listed (codes "w") (Texts []) ∷ [] })
 characteristic_in_lower_case = refl
 
 abbrev with_unit : List ℕ → Plan
@@ -96,7 +97,8 @@ with_line line = record whole_paint { lines = line ∷ [] }
 material_of_line : Breaks (codes "line_words") (with_line (piece_line 10 (codes "stripe") 2 []))
 material_of_line = refl
 
-unit_of_line : Breaks (codes "line_words") (with_line (record (piece_line 10 (codes "STRIPE") 2 []) { unit = codes "p c" }))
+unit_of_line : Breaks (codes "line_words")
+    (with_line (record (piece_line 10 (codes "STRIPE") 2 []) { unit = codes "p c" }))
 unit_of_line = refl
 
 last_item : broken (with_line (piece_line 9999 (codes "STRIPE") 2 [])) ≡ []
@@ -135,7 +137,8 @@ thirty_one_letters = refl
 
 abbrev ten_umlauts : List ℕ
 ten_umlauts =
-    195 ∷ 164 ∷ 195 ∷ 164 ∷ 195 ∷ 164 ∷ 195 ∷ 164 ∷ 195 ∷ 164 ∷ 195 ∷ 164 ∷ 195 ∷ 164 ∷ 195 ∷ 164 ∷ 195 ∷ 164 ∷ 195 ∷ 164 ∷ []
+    195 ∷ 164 ∷ 195 ∷ 164 ∷ 195 ∷ 164 ∷ 195 ∷ 164 ∷ 195 ∷ 164 ∷ 195 ∷ 164 ∷ 195 ∷ 164 ∷ 195 ∷ 164 ∷ 195 ∷ 164 ∷ 195
+    ∷ 164 ∷ []
 
 thirty_umlauts : broken (saying (ten_umlauts ++ (ten_umlauts ++ ten_umlauts))) ≡ []
 thirty_umlauts = refl
@@ -178,7 +181,8 @@ two_characteristics : Breaks (codes "names_once")
     (record bare { characteristics = listed (codes "W") (Texts []) ∷ listed (codes "W") (Nums 0 []) ∷ [] })
 two_characteristics = refl
 
-two_dependencies : Breaks (codes "dependencies_once") (record bare { dependencies = codes "C" ∷ codes "D" ∷ codes "C" ∷ [] })
+two_dependencies : Breaks (codes "dependencies_once")
+    (record bare { dependencies = codes "C" ∷ codes "D" ∷ codes "C" ∷ [] })
 two_dependencies = refl
 
 abbrev empty_table : Table
@@ -187,7 +191,8 @@ empty_table = record { name = codes "T"; columns = []; rows = [] }
 two_tables : Breaks (codes "tables_once") (record bare { tables = empty_table ∷ empty_table ∷ [] })
 two_tables = refl
 
-two_objects : Breaks (codes "materials_once") (record bare { objects = object (codes "BARE") [] ∷ object (codes "BARE") [] ∷ [] })
+two_objects : Breaks (codes "materials_once")
+    (record bare { objects = object (codes "BARE") [] ∷ object (codes "BARE") [] ∷ [] })
 two_objects = refl
 
 two_texts : Breaks (codes "texts_once") (record bare { texts = codes "A" ∷ codes "B" ∷ codes "A" ∷ [] })

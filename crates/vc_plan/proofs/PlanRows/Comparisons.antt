@@ -17,7 +17,8 @@ use Rattle.vc_plan.specs.Bounds.{place_bound, out_at, is_at}
 use Rattle.vc_plan.specs.Gives.{by_rule, gives}
 use Rattle.vc_plan.specs.Seen.{seen_of}
 use Rattle.vc_plan.specs.Settle.{settlement_of}
-use Rattle.vc_plan.proofs.PlanRows.Models.{empty, root, open_var, open_pair, fixed_pair, rule, last, users, whole, number, from_to}
+use Rattle.vc_plan.proofs.PlanRows.Models.{empty, root, open_var, open_pair, fixed_pair, rule, last, users, whole}
+use Rattle.vc_plan.proofs.PlanRows.Models.{number, from_to}
 
 abbrev given : Plan → List Atom → Given Atom
 given plan set = gives plan (users []) (by_rule 0) (seen_of set)
@@ -60,10 +61,12 @@ unknown : given (narrows AtMost) (Here 0 ∷ []) ≡ atoms []
 unknown = refl
 
 -- the inferred side may stand on the right
-on_the_right : given (open_pair both (rule 0 (1 ∷ []) (Compare Greater 0 1))) (Is 0 (whole 2) ∷ Here 0 ∷ []) ≡ atoms (Out 1 1 ∷ Out 1 2 ∷ [])
+on_the_right : given (open_pair both (rule 0 (1 ∷ []) (Compare Greater 0 1))) (Is 0 (whole 2) ∷ Here 0 ∷ [])
+    ≡ atoms (Out 1 1 ∷ Out 1 2 ∷ [])
 on_the_right = refl
 
-not_turned : given (open_pair both (rule 0 (1 ∷ []) (Compare Greater 0 1))) (Is 0 (whole 2) ∷ Here 0 ∷ []) ≢ atoms (Out 1 0 ∷ Out 1 1 ∷ [])
+not_turned : given (open_pair both (rule 0 (1 ∷ []) (Compare Greater 0 1))) (Is 0 (whole 2) ∷ Here 0 ∷ []) ≢ atoms
+    (Out 1 0 ∷ Out 1 1 ∷ [])
 not_turned e = cc
 
 -- not restrictable: the value of the only grain left that isn't wholly outside
@@ -87,17 +90,20 @@ not_alone p = refl
 
 -- equal: the other side's value, rounded; a half away from zero
 equal : (p : Box (Unit {0}) Global)
-    → given (open_pair (half p) (rule 0 (0 ∷ []) (Equate 0 1))) (Is 1 (whole 3) ∷ Here 0 ∷ []) ≡ atoms (Is 0 (whole 2) ∷ [])
+    → given (open_pair (half p) (rule 0 (0 ∷ []) (Equate 0 1))) (Is 1 (whole 3) ∷ Here 0 ∷ [])
+    ≡ atoms (Is 0 (whole 2) ∷ [])
 equal p = refl
 
 -- no clash where both have values and a side is inferred: the value that follows collides
 two_values : (p : Box (Unit {0}) Global)
-    → given (open_pair (half p) (rule 0 (0 ∷ []) (Equate 0 1))) (Is 0 (whole 1) ∷ Is 1 (whole 3) ∷ Here 0 ∷ []) ≡ atoms (Is 0 (whole 2) ∷ [])
+    → given (open_pair (half p) (rule 0 (0 ∷ []) (Equate 0 1))) (Is 0 (whole 1) ∷ Is 1 (whole 3) ∷ Here 0 ∷ [])
+    ≡ atoms (Is 0 (whole 2) ∷ [])
 two_values p = refl
 
 -- a clash where no grain holds it: there is no 0
 no_grain : (p : Box (Unit {0}) Global)
-    → given (open_pair (Read 0 ∷ Joined' Over p (Read 1) p (Literal (whole 9)) ∷ []) (rule 0 (0 ∷ []) (Equate 0 1))) (Is 1 (whole 3) ∷ Here 0 ∷ [])
+    → given (open_pair (Read 0 ∷ Joined' Over p (Read 1) p (Literal (whole 9)) ∷ []) (rule 0 (0 ∷ []) (Equate 0 1)))
+    (Is 1 (whole 3) ∷ Here 0 ∷ [])
     ≡ clash
 no_grain p = refl
 
@@ -137,10 +143,12 @@ restrictable_bound = refl
 fixed_bound : place_bound (infers AtMost) (is_at 0) ≡ 6
 fixed_bound = refl
 
-equate_bound : (p : Box (Unit {0}) Global) → place_bound (open_pair (half p) (rule 0 (0 ∷ []) (Equate 0 1))) (is_at 0) ≡ 3
+equate_bound : (p : Box (Unit {0}) Global)
+    → place_bound (open_pair (half p) (rule 0 (0 ∷ []) (Equate 0 1))) (is_at 0) ≡ 3
 equate_bound p = refl
 
 -- a variable read twice counts once
 once : (p : Box (Unit {0}) Global)
-    → place_bound (open_pair (Read 0 ∷ Joined' Times p (Read 1) p (Read 1) ∷ []) (rule 0 (0 ∷ []) (Equate 0 1))) (is_at 0) ≢ 4
+    → place_bound (open_pair (Read 0 ∷ Joined' Times p (Read 1) p (Read 1) ∷ []) (rule 0 (0 ∷ []) (Equate 0 1)))
+    (is_at 0) ≢ 4
 once p e = cc

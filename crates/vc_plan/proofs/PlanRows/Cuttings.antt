@@ -64,7 +64,8 @@ in_a_sum : (p : Box (Unit {0}) Global)
 in_a_sum p = refl
 
 -- a condition doesn't round its literal
-unrounded : asked (Compared Equal (Read 1) (Literal (number (pos 5_050_000)))) ≡ record { millionths = pos 5_050_000 } ∷ []
+unrounded : asked (Compared Equal (Read 1) (Literal (number (pos 5_050_000))))
+    ≡ record { millionths = pos 5_050_000 } ∷ []
 unrounded = refl
 
 -- the items of IN, with both ends of an interval
@@ -97,16 +98,20 @@ left_of_or p e = cc
 against : said (Among 1 (Against AtMost (whole 5))) ≡ dec 5 ∷ dec 5 ∷ []
 against = refl
 
-rounded_too : said (Among 1 (Against Equal (number (pos 5_050_000)))) ≡ record { millionths = pos 5_050_000 } ∷ record { millionths = pos 5_100_000 } ∷ []
+rounded_too : said (Among 1 (Against Equal (number (pos 5_050_000))))
+    ≡ record { millionths = pos 5_050_000 } ∷ record { millionths = pos 5_100_000 } ∷ []
 rounded_too = refl
 
-not_rounded : map (λ n. int_eq n.millionths (pos 5_050_000)) (said (Among 1 (Against Equal (number (pos 5_050_000))))) ≢ true ∷ true ∷ []
+not_rounded : map (λ n. int_eq n.millionths (pos 5_050_000)) (said (Among 1 (Against Equal (number (pos 5_050_000))))) ≢
+    true ∷ true ∷ []
 not_rounded e = cc
 
-unequal : said (Among 1 (Against Unequal (number (pos 5_050_000)))) ≡ record { millionths = pos 5_050_000 } ∷ record { millionths = pos 5_050_000 } ∷ []
+unequal : said (Among 1 (Against Unequal (number (pos 5_050_000))))
+    ≡ record { millionths = pos 5_050_000 } ∷ record { millionths = pos 5_050_000 } ∷ []
 unequal = refl
 
-one_of : said (Among 1 (OneOf (Stretch (from_to 5 5) ∷ Stretch (from_to 7 9) ∷ []))) ≡ dec 5 ∷ dec 5 ∷ dec 7 ∷ dec 9 ∷ []
+one_of : said (Among 1 (OneOf (Stretch (from_to 5 5) ∷ Stretch (from_to 7 9) ∷ [])))
+    ≡ dec 5 ∷ dec 5 ∷ dec 7 ∷ dec 9 ∷ []
 one_of = refl
 
 of_the_other : said (Among 0 (Against AtMost (whole 5))) ≡ []

@@ -1,5 +1,6 @@
 -- The facts of a valid plan as tests with their names, and which of them a plan breaks.
-use Rattle.std.proofs.Common.{◌≡◌, ℕ, zero, suc, Bool, true, false, cond, ◌&&◌, List, [], ◌∷◌, length, drop, refl, sym, ◌∙◌}
+use Rattle.std.proofs.Common.{◌≡◌, ℕ, zero, suc, Bool, true, false, cond, ◌&&◌, List, [], ◌∷◌, length, drop, refl, sym}
+use Rattle.std.proofs.Common.{◌∙◌}
 use Rattle.std.proofs.Common.{arith, subst}
 use Rattle.std.proofs.lemmas.Bool.{and_parts, ltb-true}
 use Rattle.std.proofs.lemmas.Str.{IsUtf8-from_ascii}
@@ -7,20 +8,24 @@ use Rattle.std.specs.Prelude.{◌^◌, IsUtf8, IsAscii, not, ◌==◌, nat_lt, n
 use Rattle.std.specs.List.{list_all}
 use Rattle.vc_value.specs.Words.{same_bytes}
 use Rattle.vc_plan.specs.declared.plans.Plan.{Plan}
-use Rattle.vc_plan.specs.Alike.{are_of_one_domain, sets_of_one_domain, is_proper, have_one_bill, have_one_routing, lines_at, operations_at}
+use Rattle.vc_plan.specs.Alike.{are_of_one_domain, sets_of_one_domain, is_proper, have_one_bill, have_one_routing}
+use Rattle.vc_plan.specs.Alike.{lines_at, operations_at}
 use Rattle.vc_plan.specs.Bounds.{cell_bound}
 use Rattle.vc_plan.specs.Classes.{has_sets, has_its_vars, has_its_sets, are_procedures_in_order, are_guards_in_order}
 use Rattle.vc_plan.specs.Cuts.{is_cut}
 use Rattle.vc_plan.specs.Domains.{numbers_below, count_of, atom_count}
 use Rattle.vc_plan.specs.Lists.{has_its_list, has_its_texts, are_listed}
 use Rattle.vc_plan.specs.PartSums.{sums_numbers, condition_sums_numbers}
-use Rattle.vc_plan.specs.Ranges.{characteristic_there, object_there, slot_there, var_there, set_there, domain_there, condition_there, term_there}
+use Rattle.vc_plan.specs.Ranges.{characteristic_there, object_there, slot_there, var_there, set_there, domain_there}
+use Rattle.vc_plan.specs.Ranges.{condition_there, term_there}
 use Rattle.vc_plan.specs.RuleRanges.{rule_there, table_there}
 use Rattle.vc_plan.specs.ProcedureRanges.{procedure_there}
 use Rattle.vc_plan.specs.BillRanges.{line_there, operation_there, guard_there, requirement_there}
 use Rattle.vc_plan.specs.Orders.{are_apart, are_in_order}
-use Rattle.vc_plan.specs.Slots.{is_root, is_below, follows_in_preorder, is_item_before, has_its_slots, leaves_selections}
-use Rattle.vc_plan.specs.RuleShapes.{stays_at_its_slots, is_numbered, has_one_last, has_its_lines, are_one_rule, are_one_line, are_with_and_without, asks_by_right, columns_once, is_not_among}
+use Rattle.vc_plan.specs.Slots.{is_root, is_below, follows_in_preorder, is_item_before, has_its_slots}
+use Rattle.vc_plan.specs.Slots.{leaves_selections}
+use Rattle.vc_plan.specs.RuleShapes.{stays_at_its_slots, is_numbered, has_one_last, has_its_lines, are_one_rule}
+use Rattle.vc_plan.specs.RuleShapes.{are_one_line, are_with_and_without, asks_by_right, columns_once, is_not_among}
 use Rattle.vc_plan.specs.LookUps.{writes_own, action_proper, keys_apart, trigger_listed, guard_listed}
 use Rattle.vc_plan.specs.Outside.{conditions_outside, terms_outside}
 use Rattle.vc_plan.specs.Scopes.{reads_own, guard_own, requirement_own, operation_own, line_own, rule_own}
@@ -28,7 +33,8 @@ use Rattle.vc_plan.specs.Spelling.{is_upper_name, is_material, is_unit, is_text}
 use Rattle.vc_plan.specs.Typing.{is_numeric, condition_typed, kind_typed, statement_typed}
 use Rattle.vc_plan.specs.Monotone.{has_part_sum, condition_sums, is_for_nets}
 use Rattle.vc_plan.specs.Sizes.{is_small, condition_small}
-use Rattle.vc_plan.specs.Valid.{IsValid, each_slot, each_var, each_statement, asks, means, is_line_before, is_operation_before, has_graphic_texts, list_length, is_four_digits}
+use Rattle.vc_plan.specs.Valid.{IsValid, each_slot, each_var, each_statement, asks, means, is_line_before}
+use Rattle.vc_plan.specs.Valid.{is_operation_before, has_graphic_texts, list_length, is_four_digits}
 
 pub record Fact : Type 0 where
   pub name : List ℕ
@@ -118,7 +124,8 @@ facts plan =
     ∷ fact (codes "operation_reads") (list_all (operation_own plan) plan.operations)
     ∷ fact (codes "line_reads") (list_all (line_own plan) plan.lines)
     ∷ fact (codes "component_reads") (list_all (rule_own plan) plan.rules)
-    ∷ fact (codes "triggers") (list_all (λ procedure. trigger_listed plan procedure.slot procedure.trigger) plan.procedures)
+    ∷ fact (codes "triggers")
+    (list_all (λ procedure. trigger_listed plan procedure.slot procedure.trigger) plan.procedures)
     ∷ fact (codes "guards") (list_all (guard_listed plan) plan.guards)
     ∷ fact (codes "lines_in_order") (are_in_order is_line_before plan.lines)
     ∷ fact (codes "operations_in_order") (are_in_order is_operation_before plan.operations)
@@ -149,7 +156,8 @@ facts plan =
     ∷ fact (codes "atom_limit") (nat_le (atom_count plan) 40_000)
     ∷ fact (codes "cell_limit") (nat_le (cell_bound plan) 500_000)
     ∷ fact (codes "characteristic_limit") (nat_le (length plan.characteristics) 2_000)
-    ∷ fact (codes "list_limit") (list_all (λ characteristic. nat_le (list_length characteristic) 1_000) plan.characteristics)
+    ∷ fact (codes "list_limit")
+    (list_all (λ characteristic. nat_le (list_length characteristic) 1_000) plan.characteristics)
     ∷ fact (codes "class_limit") (list_all (λ object. nat_le (length object.characteristics) 500) plan.objects)
     ∷ fact (codes "object_limit") (nat_le (length plan.objects) 500)
     ∷ fact (codes "dependency_limit") (nat_le (length plan.dependencies) 2_000)
@@ -159,7 +167,8 @@ facts plan =
     ∷ fact (codes "line_limit") (each_slot plan (λ i. nat_le (length (lines_at plan i)) 1_000))
     ∷ fact (codes "operation_limit") (each_slot plan (λ i. nat_le (length (operations_at plan i)) 1_000))
     ∷ fact (codes "procedure_limit") (nat_lt (length plan.procedures) (2 ^ 32))
-    ∷ fact (codes "statement_limit") (list_all (λ procedure. nat_lt (length procedure.statements) (2 ^ 32)) plan.procedures)
+    ∷ fact (codes "statement_limit")
+    (list_all (λ procedure. nat_lt (length procedure.statements) (2 ^ 32)) plan.procedures)
     ∷ []
 
 -- those that a plan breaks
@@ -175,7 +184,8 @@ abbrev pub Hold : List Fact → Type 0
 Hold [] = Unit {0}
 Hold (f ∷ fs) = (f.holds ≡ true) × Hold fs
 
-one_holds : (b : Bool) (name : List ℕ) (rest : List (List ℕ)) → cond b rest (name ∷ rest) ≡ [] → (b ≡ true) × (rest ≡ [])
+one_holds : (b : Bool) (name : List ℕ) (rest : List (List ℕ)) → cond b rest (name ∷ rest) ≡ []
+    → (b ≡ true) × (rest ≡ [])
 one_holds true name rest e = (refl, e)
 one_holds false name rest e = absurd (cc e)
 
@@ -218,7 +228,8 @@ ascii_texts (first ∷ texts) h (suc t) text is =
     let both = and_parts (list_all (λ b. nat_lt b 128) first) (list_all (list_all (λ b. nat_lt b 128)) texts) h in
     ascii_texts texts both.1 t text is
 
-pub valid_from : (plan : Plan) → list_all (list_all (λ b. nat_lt b 128)) plan.texts ≡ true → broken plan ≡ [] → IsValid plan
+pub valid_from : (plan : Plan) → list_all (list_all (λ b. nat_lt b 128)) plan.texts ≡ true → broken plan ≡ []
+    → IsValid plan
 valid_from plan in_ascii none = from_both plan (none_fails (facts plan) none) (ascii_texts plan.texts in_ascii)
 
 pub refused : (plan : Plan) (name : List ℕ) (names : List (List ℕ)) → broken plan ≡ name ∷ names → IsValid plan → ⊥

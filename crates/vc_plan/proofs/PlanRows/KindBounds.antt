@@ -17,10 +17,12 @@ use Rattle.vc_plan.specs.declared.terms.Term.TheVariants.{Literal, Read, Joined'
 use Rattle.vc_plan.specs.Bounds.{Place, bound_of, cell_bound, clash_bound, here_at, is_at, out_at}
 use Rattle.vc_plan.proofs.PlanRows.Models.{column, empty, last, own_rule, root, rule, table_of, three_grains, whole}
 
--- variables 0 and 1 have the grains 1, 2 .. 3 and 4, variable 2 is a text of slot 1; condition 1 reads 2, 1 and 2 again. Term 2
+-- variables 0 and 1 have the grains 1, 2 .. 3 and 4, variable 2 is a text of slot 1; condition 1 reads 2, 1 and 2
+-- again. Term 2
 -- has the second variable twice. The table has three rows, of which two have 1 in the first column
 abbrev var : Bool → ℕ → ℕ → Var
-var restrictable slot domain = record { slot = slot; characteristic = domain; domain = domain; restrictable = restrictable }
+var restrictable slot domain =
+    record { slot = slot; characteristic = domain; domain = domain; restrictable = restrictable }
 
 abbrev plan : Bool → Box (Unit {0}) Global → Plan
 plan restrictable p = record empty {
@@ -28,11 +30,13 @@ plan restrictable p = record empty {
   tables = table_of ((whole 1 ∷ whole 1 ∷ []) ∷ (whole 1 ∷ whole 4 ∷ []) ∷ (whole 4 ∷ whole 4 ∷ []) ∷ []) ∷ [];
   slots = root ∷ record { parent = Some 0; depth = 1; object = 1; line = 0 } ∷ [];
   vars = var restrictable 0 0 ∷ var restrictable 0 0 ∷ var false 1 1 ∷ [];
-  conditions = Always ∷ And' p (And' p (Compared Equal (Read 2) (Literal (Text 0))) p (Specified 1)) p (Specified 2) ∷ [];
+  conditions = Always ∷ And' p (And' p (Compared Equal (Read 2) (Literal (Text 0))) p (Specified 1)) p (Specified 2)
+      ∷ [];
   terms = Read 0 ∷ Read 1 ∷ Joined' Times p (Read 1) p (Read 1) ∷ [];
 }
 
--- the bounds of an atom at each place, and of a clash: two slots, two variables of the condition, and what the kind needs
+-- the bounds of an atom at each place, and of a clash: two slots, two variables of the condition, and what the kind
+-- needs
 abbrev places : List Place
 places = here_at 1 ∷ out_at 0 0 ∷ out_at 0 2 ∷ out_at 1 0 ∷ is_at 0 ∷ is_at 1 ∷ []
 
@@ -46,20 +50,26 @@ own_bounds kind p =
     clash_bound (plan false p) (own_rule 1 kind) ∷ map (bound_of (plan false p) (own_rule 1 kind)) places
 
 -- Among: of a grain that isn't allowed 4, of a value and of a clash with the variable's grains
-among_open : (p : Box (Unit {0}) Global) → bounds true (0 ∷ []) (Among 0 (Against AtMost (whole 3))) p ≡ 7 ∷ 0 ∷ 0 ∷ 4 ∷ 0 ∷ 0 ∷ 0 ∷ []
+among_open : (p : Box (Unit {0}) Global)
+    → bounds true (0 ∷ []) (Among 0 (Against AtMost (whole 3))) p ≡ 7 ∷ 0 ∷ 0 ∷ 4 ∷ 0 ∷ 0 ∷ 0 ∷ []
 among_open p = refl
 
-among_fixed : (p : Box (Unit {0}) Global) → bounds false (0 ∷ []) (Among 0 (Against AtMost (whole 3))) p ≡ 7 ∷ 0 ∷ 0 ∷ 0 ∷ 0 ∷ 7 ∷ 0 ∷ []
+among_fixed : (p : Box (Unit {0}) Global)
+    → bounds false (0 ∷ []) (Among 0 (Against AtMost (whole 3))) p ≡ 7 ∷ 0 ∷ 0 ∷ 0 ∷ 0 ∷ 7 ∷ 0 ∷ []
 among_fixed p = refl
 
-among_checked : (p : Box (Unit {0}) Global) → bounds false [] (Among 0 (Against AtMost (whole 3))) p ≡ 7 ∷ 0 ∷ 0 ∷ 0 ∷ 0 ∷ 0 ∷ 0 ∷ []
+among_checked : (p : Box (Unit {0}) Global)
+    → bounds false [] (Among 0 (Against AtMost (whole 3))) p ≡ 7 ∷ 0 ∷ 0 ∷ 0 ∷ 0 ∷ 0 ∷ 0 ∷ []
 among_checked p = refl
 
--- Compare: with the different variables of both sides; and the grains of each inferred lone side that isn't restrictable
-compare_open : (p : Box (Unit {0}) Global) → bounds true (0 ∷ 1 ∷ []) (Compare AtMost 0 1) p ≡ 6 ∷ 0 ∷ 6 ∷ 6 ∷ 6 ∷ 0 ∷ 0 ∷ []
+-- Compare: with the different variables of both sides; and the grains of each inferred lone side that isn't
+-- restrictable
+compare_open : (p : Box (Unit {0}) Global)
+    → bounds true (0 ∷ 1 ∷ []) (Compare AtMost 0 1) p ≡ 6 ∷ 0 ∷ 6 ∷ 6 ∷ 6 ∷ 0 ∷ 0 ∷ []
 compare_open p = refl
 
-compare_fixed : (p : Box (Unit {0}) Global) → bounds false (0 ∷ 1 ∷ []) (Compare AtMost 0 1) p ≡ 12 ∷ 0 ∷ 0 ∷ 0 ∷ 0 ∷ 12 ∷ 12 ∷ []
+compare_fixed : (p : Box (Unit {0}) Global)
+    → bounds false (0 ∷ 1 ∷ []) (Compare AtMost 0 1) p ≡ 12 ∷ 0 ∷ 0 ∷ 0 ∷ 0 ∷ 12 ∷ 12 ∷ []
 compare_fixed p = refl
 
 left_side : (p : Box (Unit {0}) Global) → bounds false (0 ∷ []) (Compare AtMost 0 1) p ≡ 9 ∷ 0 ∷ 0 ∷ 0 ∷ 0 ∷ 9 ∷ 0 ∷ []
@@ -68,17 +78,21 @@ left_side p = refl
 right_side : (p : Box (Unit {0}) Global) → bounds false (1 ∷ []) (Compare AtMost 0 1) p ≡ 9 ∷ 0 ∷ 0 ∷ 0 ∷ 0 ∷ 0 ∷ 9 ∷ []
 right_side p = refl
 
-one_side_only : (p : Box (Unit {0}) Global) → bounds false (0 ∷ 1 ∷ []) (Compare AtMost 0 1) p ≢ 9 ∷ 0 ∷ 0 ∷ 0 ∷ 0 ∷ 9 ∷ 9 ∷ []
+one_side_only : (p : Box (Unit {0}) Global)
+    → bounds false (0 ∷ 1 ∷ []) (Compare AtMost 0 1) p ≢ 9 ∷ 0 ∷ 0 ∷ 0 ∷ 0 ∷ 9 ∷ 9 ∷ []
 one_side_only p e = cc
 
 -- a variable on both sides has its grains on each; one twice on a side that isn't lone counts once
-same_side : (p : Box (Unit {0}) Global) → bounds false (0 ∷ []) (Compare AtMost 0 0) p ≡ 11 ∷ 0 ∷ 0 ∷ 0 ∷ 0 ∷ 11 ∷ 0 ∷ []
+same_side : (p : Box (Unit {0}) Global)
+    → bounds false (0 ∷ []) (Compare AtMost 0 0) p ≡ 11 ∷ 0 ∷ 0 ∷ 0 ∷ 0 ∷ 11 ∷ 0 ∷ []
 same_side p = refl
 
-counted_once : (p : Box (Unit {0}) Global) → bounds true (0 ∷ 1 ∷ []) (Compare AtMost 0 2) p ≡ 6 ∷ 0 ∷ 6 ∷ 6 ∷ 0 ∷ 0 ∷ 0 ∷ []
+counted_once : (p : Box (Unit {0}) Global)
+    → bounds true (0 ∷ 1 ∷ []) (Compare AtMost 0 2) p ≡ 6 ∷ 0 ∷ 6 ∷ 6 ∷ 0 ∷ 0 ∷ 0 ∷ []
 counted_once p = refl
 
-counted_twice : (p : Box (Unit {0}) Global) → bounds true (0 ∷ 1 ∷ []) (Compare AtMost 0 2) p ≢ 7 ∷ 0 ∷ 7 ∷ 7 ∷ 0 ∷ 0 ∷ 0 ∷ []
+counted_twice : (p : Box (Unit {0}) Global)
+    → bounds true (0 ∷ 1 ∷ []) (Compare AtMost 0 2) p ≢ 7 ∷ 0 ∷ 7 ∷ 7 ∷ 0 ∷ 0 ∷ 0 ∷ []
 counted_twice p e = cc
 
 -- Equate: of the value of each inferred lone side, restrictable or not
@@ -118,7 +132,8 @@ line p = refl
 line_twice : (p : Box (Unit {0}) Global) → own_bounds (Line 1) p ≢ 0 ∷ 4 ∷ 0 ∷ 0 ∷ 0 ∷ 0 ∷ 0 ∷ []
 line_twice p e = cc
 
--- of more rules the greatest counts, of atoms and of clashes: 3 for the slot, 4 for each of two grains, 3, 3 and 2 for the
+-- of more rules the greatest counts, of atoms and of clashes: 3 for the slot, 4 for each of two grains, 3, 3 and 2 for
+-- the
 -- values, and 7 for a clash
 cells : (p : Box (Unit {0}) Global)
     → cell_bound (record (plan true p) {

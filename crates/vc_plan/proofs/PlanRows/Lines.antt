@@ -42,7 +42,8 @@ anyway e = cc
 sleeping : settles_at machine (users (Some (Text 1) ∷ Some (Text 2) ∷ [])) (Here 0 ∷ Is 0 (Text 1) ∷ []) ≡ true
 sleeping = refl
 
-awake : settles_at machine (users (Some (Text 0) ∷ Some (Text 2) ∷ [])) (Here 0 ∷ Is 0 (Text 0) ∷ Here 1 ∷ Is 1 (Text 2) ∷ []) ≡ true
+awake : settles_at machine (users (Some (Text 0) ∷ Some (Text 2) ∷ []))
+    (Here 0 ∷ Is 0 (Text 0) ∷ Here 1 ∷ Is 1 (Text 2) ∷ []) ≡ true
 awake = refl
 
 -- premises: that the parent is here, and the condition's variable

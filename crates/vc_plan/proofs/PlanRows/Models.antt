@@ -74,7 +74,8 @@ rule condition inferred kind = record {
 
 -- a rule of no constraint and no selection condition
 abbrev pub own_rule : ℕ → Kind → Rule
-own_rule condition kind = record { dependency = None; number = 0; slots = []; condition = condition; inferred = []; kind = kind }
+own_rule condition kind =
+    record { dependency = None; number = 0; slots = []; condition = condition; inferred = []; kind = kind }
 
 -- the rule as a restriction of this number, of this constraint, or as a selection condition
 abbrev pub of : ℕ → ℕ → Rule → Rule

@@ -19,7 +19,8 @@ large = refl
 medium : settles_at pump (users (Some (Text 1) ∷ [])) (Here 0 ∷ Is 0 (Text 1) ∷ Out 0 2 ∷ Out 1 2 ∷ []) ≡ true
 medium = refl
 
-not_small : settles_at pump (users (Some (Text 1) ∷ [])) (Here 0 ∷ Is 0 (Text 1) ∷ Out 0 0 ∷ Out 0 2 ∷ Out 1 2 ∷ []) ≢ true
+not_small : settles_at pump (users (Some (Text 1) ∷ [])) (Here 0 ∷ Is 0 (Text 1) ∷ Out 0 0 ∷ Out 0 2 ∷ Out 1 2 ∷ []) ≢
+    true
 not_small e = cc
 
 -- the motor tells the size too

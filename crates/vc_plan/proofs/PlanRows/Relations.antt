@@ -60,7 +60,8 @@ opposite_of m n = map (λ r. not (relates (opposite r) (whole m) (whole n))) rel
 turned_round : (turned_of 2 1 ≡ of_numbers 1 2) × (turned_of 2 2 ≡ of_numbers 2 2) × (turned_of 2 3 ≡ of_numbers 3 2)
 turned_round = (refl, refl, refl)
 
-opposite_to : (opposite_of 1 2 ≡ of_numbers 1 2) × (opposite_of 2 2 ≡ of_numbers 2 2) × (opposite_of 3 2 ≡ of_numbers 3 2)
+opposite_to : (opposite_of 1 2 ≡ of_numbers 1 2) × (opposite_of 2 2 ≡ of_numbers 2 2)
+    × (opposite_of 3 2 ≡ of_numbers 3 2)
 opposite_to = (refl, refl, refl)
 
 turned_as_opposite : relates (turned Less) (whole 2) (whole 2) ≢ true
@@ -94,11 +95,13 @@ less_by_left_end e = cc
 at_least_by_right_end : of_grain AtLeast ≢ true ∷ true ∷ true ∷ false ∷ []
 at_least_by_right_end e = cc
 
--- the first variable, which is restrictable and has the grains 1, 2 .. 3 and 4, against 1.4 and 3.6: only behind `=` is a
+-- the first variable, which is restrictable and has the grains 1, 2 .. 3 and 4, against 1.4 and 3.6: only behind `=` is
+-- a
 -- literal rounded
 abbrev against : Relation → ℕ → Given Atom
 against r millionths =
-    gives (open_pair [] (rule 0 (0 ∷ []) (Among 0 (Against r (number (pos millionths)))))) (users []) (by_rule 0) (seen_of (Here 0 ∷ []))
+    gives (open_pair [] (rule 0 (0 ∷ []) (Among 0 (Against r (number (pos millionths)))))) (users []) (by_rule 0)
+    (seen_of (Here 0 ∷ []))
 
 at_most_3_6 : against AtMost 3_600_000 ≡ atoms (Out 0 2 ∷ [])
 at_most_3_6 = refl
@@ -127,7 +130,8 @@ equal_to_1_4 = refl
 -- the second variable in each relation to the first, which is 2; the sides stand the other way round
 abbrev on_the_right : Relation → Given Atom
 on_the_right r =
-    gives (open_pair (Read 0 ∷ Read 1 ∷ []) (rule 0 (1 ∷ []) (Compare r 0 1))) (users []) (by_rule 0) (seen_of (Is 0 (whole 2) ∷ Here 0 ∷ []))
+    gives (open_pair (Read 0 ∷ Read 1 ∷ []) (rule 0 (1 ∷ []) (Compare r 0 1))) (users []) (by_rule 0)
+    (seen_of (Is 0 (whole 2) ∷ Here 0 ∷ []))
 
 two_below : on_the_right Less ≡ atoms (Out 1 0 ∷ [])
 two_below = refl
@@ -144,7 +148,8 @@ two_at_least = refl
 -- where no side is a lone variable, equal means to 6 decimals: 1 / 3 is 0.333333, and 2 isn't 3 / 2
 abbrev equates : Box (Unit {0}) Global → Value → Value → Term → Given Atom
 equates p a b other =
-    gives (fixed_pair (Joined' Over p (Read 0) p (Literal (whole 1)) ∷ other ∷ []) (rule 0 [] (Equate 0 1))) (users []) (by_rule 0)
+    gives (fixed_pair (Joined' Over p (Read 0) p (Literal (whole 1)) ∷ other ∷ []) (rule 0 [] (Equate 0 1))) (users [])
+    (by_rule 0)
     (seen_of (Is 0 a ∷ Is 1 b ∷ Here 0 ∷ []))
 
 abbrev by : Box (Unit {0}) Global → ℕ → Term

@@ -72,7 +72,9 @@ none_inside = refl
 rounded : given (infers (Against Equal (number (pos 1_400_000)))) (Here 0 ∷ []) ≡ atoms (Is 0 (whole 1) ∷ [])
 rounded = refl
 
-not_in_list : given (infers (OneOf (Stretch (record { low = record { millionths = pos 1_400_000 }; high = record { millionths = pos 1_400_000 } }) ∷ [])))
+not_in_list : given (infers
+    (OneOf (Stretch (record
+    { low = record { millionths = pos 1_400_000 }; high = record { millionths = pos 1_400_000 } }) ∷ [])))
     (Here 0 ∷ []) ≡ clash
 not_in_list = refl
 
@@ -115,14 +117,17 @@ last_absent : given (open_pair [] (last 0)) (Out 0 1 ∷ Out 0 2 ∷ []) ≡ ato
 last_absent = refl
 
 -- what a statement wrote: its value, or a clash where no grain holds it
-written : gives (open_pair [] (last 0)) (record { user = []; written = Some (record { mark = Held (whole 4); procedure = 0; statement = 0 }) ∷ [] })
+written : gives (open_pair [] (last 0))
+    (record { user = []; written = Some (record { mark = Held (whole 4); procedure = 0; statement = 0 }) ∷ [] })
     (by_entry 0) (seen_of (Here 0 ∷ [])) ≡ atoms (Is 0 (whole 4) ∷ [])
 written = refl
 
-outside : gives (open_pair [] (last 0)) (record { user = []; written = Some (record { mark = Outside; procedure = 0; statement = 0 }) ∷ [] })
+outside : gives (open_pair [] (last 0))
+    (record { user = []; written = Some (record { mark = Outside; procedure = 0; statement = 0 }) ∷ [] })
     (by_entry 0) (seen_of (Here 0 ∷ [])) ≡ clash
 outside = refl
 
-sleeping : gives (open_pair [] (last 0)) (record { user = []; written = Some (record { mark = Outside; procedure = 0; statement = 0 }) ∷ [] })
+sleeping : gives (open_pair [] (last 0))
+    (record { user = []; written = Some (record { mark = Outside; procedure = 0; statement = 0 }) ∷ [] })
     (by_entry 0) (seen_of []) ≢ clash
 sleeping e = cc

@@ -12,7 +12,8 @@ use Rattle.vc_plan.specs.declared.rules.Kind.TheVariants.{Among, ByTable}
 use Rattle.vc_plan.specs.declared.rules.Restriction.TheVariants.{Against}
 use Rattle.vc_plan.specs.declared.terms.Term.TheVariants.{Literal, Read}
 use Rattle.vc_plan.specs.Settle.{settlement_of}
-use Rattle.vc_plan.proofs.PlanRows.Models.{empty, root, open_var, fixed_var, rule, of, last, column, table_of, users, settles_at}
+use Rattle.vc_plan.proofs.PlanRows.Models.{empty, root, open_var, fixed_var, rule, of, last, column, table_of, users}
+use Rattle.vc_plan.proofs.PlanRows.Models.{settles_at}
 
 abbrev pub ring : Plan
 ring = record empty {

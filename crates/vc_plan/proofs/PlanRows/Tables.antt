@@ -11,7 +11,8 @@ use Rattle.vc_plan.specs.declared.rules.Kind.TheVariants.{ByTable}
 use Rattle.vc_plan.specs.declared.rules.Operand.TheVariants.{Constant}
 use Rattle.vc_plan.specs.Gives.{by_rule, gives}
 use Rattle.vc_plan.specs.Seen.{seen_of}
-use Rattle.vc_plan.proofs.PlanRows.Models.{empty, root, open_var, fixed_var, rule, column, table_of, users, whole, number, three_grains}
+use Rattle.vc_plan.proofs.PlanRows.Models.{empty, root, open_var, fixed_var, rule, column, table_of, users, whole}
+use Rattle.vc_plan.proofs.PlanRows.Models.{number, three_grains}
 
 abbrev given : Plan → List Atom → Given Atom
 given plan set = gives plan (users []) (by_rule 0) (seen_of set)
@@ -21,7 +22,8 @@ abbrev call : List Var → List Binding → List ℕ → Plan
 call vars columns inferred = record empty {
   domains = three_grains ∷ three_grains ∷ [];
   tables = table_of (
-      (whole 1 ∷ whole 1 ∷ []) ∷ (whole 1 ∷ whole 4 ∷ []) ∷ (whole 4 ∷ whole 4 ∷ []) ∷ (whole 2 ∷ number (pos 1_500_000) ∷ []) ∷ []
+      (whole 1 ∷ whole 1 ∷ []) ∷ (whole 1 ∷ whole 4 ∷ []) ∷ (whole 4 ∷ whole 4 ∷ [])
+      ∷ (whole 2 ∷ number (pos 1_500_000) ∷ []) ∷ []
       ) ∷ [];
   slots = root ∷ [];
   vars = vars;
@@ -57,7 +59,8 @@ no_row : given infers (Is 0 (whole 4) ∷ Is 1 (whole 1) ∷ Here 0 ∷ []) ≡ 
 no_row = refl
 
 -- a literal stands for its column
-literal : given (call (fixed_var 0 ∷ []) (column 0 0 ∷ record { column = 1; operand = Constant (whole 1) } ∷ []) (0 ∷ [])) (Here 0 ∷ [])
+literal : given (call (fixed_var 0 ∷ []) (column 0 0 ∷ record { column = 1; operand = Constant (whole 1) } ∷ [])
+    (0 ∷ [])) (Here 0 ∷ [])
     ≡ atoms (Is 0 (whole 1) ∷ [])
 literal = refl
 

@@ -6,7 +6,8 @@ use Rattle.vc_value.specs.declared.table_header.Domain.TheVariants.{Texts}
 use Rattle.vc_value.specs.declared.value.Value.TheVariants.{Text}
 use Rattle.vc_plan.specs.declared.atoms.Atom.TheVariants.{Here, Is}
 use Rattle.vc_plan.specs.declared.conditions.Condition.{Condition}
-use Rattle.vc_plan.specs.declared.conditions.Condition.TheVariants.{Compared, IsIn, Specified, Holds, Filled, Not', And', Or'}
+use Rattle.vc_plan.specs.declared.conditions.Condition.TheVariants.{Compared, IsIn, Specified, Holds, Filled, Not'}
+use Rattle.vc_plan.specs.declared.conditions.Condition.TheVariants.{And', Or'}
 use Rattle.vc_plan.specs.declared.conditions.Kleene.{Kleene}
 use Rattle.vc_plan.specs.declared.conditions.Kleene.TheVariants.{True, False, Unknown}
 use Rattle.vc_plan.specs.declared.conditions.Piece.TheVariants.{OneText}
@@ -87,7 +88,8 @@ unfilled = refl
 not_unknown : (p : Box (Unit {0}) Global) → net (Not' p (Specified 1)) ≡ Unknown
 not_unknown p = refl
 
-and_false : (p : Box (Unit {0}) Global) → net (And' p (Specified 1) p (Compared Equal (Read 0) (Literal (Text 1)))) ≡ False
+and_false : (p : Box (Unit {0}) Global)
+    → net (And' p (Specified 1) p (Compared Equal (Read 0) (Literal (Text 1)))) ≡ False
 and_false p = refl
 
 and_unknown : (p : Box (Unit {0}) Global) → net (And' p (Specified 1) p (Specified 0)) ≡ Unknown
@@ -96,5 +98,6 @@ and_unknown p = refl
 or_true : (p : Box (Unit {0}) Global) → net (Or' p (Specified 1) p (Specified 0)) ≡ True
 or_true p = refl
 
-or_unknown : (p : Box (Unit {0}) Global) → net (Or' p (Specified 1) p (Compared Equal (Read 0) (Literal (Text 1)))) ≡ Unknown
+or_unknown : (p : Box (Unit {0}) Global)
+    → net (Or' p (Specified 1) p (Compared Equal (Read 0) (Literal (Text 1)))) ≡ Unknown
 or_unknown p = refl

@@ -20,7 +20,8 @@ use Rattle.vc_plan.specs.Typing.{condition_typed, action_typed}
 use Rattle.vc_plan.specs.Valid.{IsValid}
 use Rattle.vc_plan.proofs.PlanRows.Facts.{valid_from}
 use Rattle.vc_plan.proofs.PlanRows.Models.{empty, root, pump, last, whole}
-use Rattle.vc_plan.proofs.PlanRows.WholeModels.{whole_pump, whole_step, whole_ring, whole_paint, whole_machine, whole_gear}
+use Rattle.vc_plan.proofs.PlanRows.WholeModels.{whole_pump, whole_step, whole_ring, whole_paint, whole_machine}
+use Rattle.vc_plan.proofs.PlanRows.WholeModels.{whole_gear}
 
 -- the models of the rows
 pump_valid : (p : Box (Unit {0}) Global) → IsValid (whole_pump p)
@@ -79,7 +80,9 @@ uncut = refl
 
 -- and with twice 5, which is no literal as a whole side
 no_literal : (p : Box (Unit {0}) Global)
-    → is_cut (record pump { conditions = Compared AtMost (Read 2) (Joined' Times p (Literal (whole 2)) p (Literal (whole 5))) ∷ [] }) 2 ≢ false
+    → is_cut (record pump
+    { conditions = Compared AtMost (Read 2) (Joined' Times p (Literal (whole 2)) p (Literal (whole 5))) ∷ [] }) 2 ≢
+    false
 no_literal p e = cc
 
 -- a size against a number, and sizes in an order
@@ -93,7 +96,8 @@ text_order e = cc
 under_not : (p : Box (Unit {0}) Global) → is_for_nets (Not' p (And' p (Specified 0) p Always)) ≡ false
 under_not p = refl
 
-beside_not : (p : Box (Unit {0}) Global) → is_for_nets (And' p (Not' p (Compared Equal (Read 0) (Literal (Text 1)))) p (Specified 0)) ≢ false
+beside_not : (p : Box (Unit {0}) Global)
+    → is_for_nets (And' p (Not' p (Compared Equal (Read 0) (Literal (Text 1)))) p (Specified 0)) ≢ false
 beside_not p e = cc
 
 -- (FLOW times FLOW) times so many: 10 ^ 8 at most, 10 ^ 10, and on

@@ -90,7 +90,8 @@ whole_pump p = record pump {
       ∷ Joined' Plus p (Literal (whole 15)) p (Joined' Over p (Read 2) p (Literal (whole 2)))
       ∷ [];
   lines = housing ∷ seal ∷ [];
-  operations = record { slot = 0; number = 10; name = codes "ASSY"; unit = codes "MIN"; time = 2; selections = [] } ∷ [];
+  operations = record { slot = 0; number = 10; name = codes "ASSY"; unit = codes "MIN"; time = 2; selections = [] }
+      ∷ [];
 }
 
 -- STEP

@@ -1,5 +1,6 @@
 -- Lists of bill lines put together from a line and what follows it, and what is taken out of them.
-use Rattle.std.proofs.Common.{◌≡◌, ℕ, ◌<◌, Bool, true, false, not, cond, ◌||◌, List, [], ◌∷◌, ◌++◌, map, refl, sym, ap, ◌∙◌, arith}
+use Rattle.std.proofs.Common.{◌≡◌, ℕ, ◌<◌, Bool, true, false, not, cond, ◌||◌, List, [], ◌∷◌, ◌++◌, map, refl, sym, ap}
+use Rattle.std.proofs.Common.{◌∙◌, arith}
 use Rattle.std.proofs.lemmas.Bool.{and_parts, eqb-true, ltb-true}
 use Rattle.std.proofs.lemmas.Grind.{flat_map-append}
 use Rattle.std.proofs.lemmas.List.{append-nil}
@@ -20,7 +21,8 @@ all_flat p test f each (n ∷ ns) h =
     all_append p (f n) (flat_map f ns) (each n both.0) (all_flat p test f each ns both.1)
 
 -- where none passes, nothing is left
-pub none_passes : (p : BillLine → Bool) (rows : List BillLine) → list_all (λ row. not (p row)) rows ≡ true → filter p rows ≡ []
+pub none_passes : (p : BillLine → Bool) (rows : List BillLine) → list_all (λ row. not (p row)) rows ≡ true
+    → filter p rows ≡ []
 none_passes p [] h = refl
 none_passes p (row ∷ rows) h =
     let both = and_parts (not (p row)) (list_all (λ r. not (p r)) rows) h in
@@ -42,7 +44,8 @@ heads_pass p test head part passes none (n ∷ ns) h =
     ∙ ap (λ rows. rows ++ filter p (flat_map (λ m. head m ∷ part m) ns)) (none n both.0)
     ∙ heads_pass p test head part passes none ns both.1)
   where
-    step : (b : Bool) → b ≡ true → (left more : List BillLine) → left ≡ more → cond b (head n ∷ left) left ≡ head n ∷ more
+    step : (b : Bool) → b ≡ true → (left more : List BillLine) → left ≡ more
+        → cond b (head n ∷ left) left ≡ head n ∷ more
     step true e left more same = ap (λ rows. head n ∷ rows) same
     step false e left more same = absurd (cc)
 

@@ -1,5 +1,6 @@
 -- In a bill the lines of a slot come with the line that it stands for.
-use Rattle.std.proofs.Common.{◌≡◌, ℕ, zero, suc, ◌+◌, ◌<◌, ◌≤◌, Bool, true, false, not, cond, ◌&&◌, List, [], ◌∷◌, ◌++◌, length, map, refl, sym, ap, subst, ◌∙◌, arith}
+use Rattle.std.proofs.Common.{◌≡◌, ℕ, zero, suc, ◌+◌, ◌<◌, ◌≤◌, Bool, true, false, not, cond, ◌&&◌, List, [], ◌∷◌, ◌++◌}
+use Rattle.std.proofs.Common.{length, map, refl, sym, ap, subst, ◌∙◌, arith}
 use Rattle.std.proofs.lemmas.Bool.{and_parts, and_from, eqb-true, eqb-false, eq-eqb, le-leb, leb-true}
 use Rattle.std.proofs.lemmas.List.{append-nil}
 use Rattle.std.specs.Prelude.{Option, None, Some, nat_le, ◌==◌}
@@ -65,7 +66,8 @@ module _ (plan : Plan) (valid : IsValid plan) (seen : Seen) (reading : Reading) 
       (part_passes (is_from k) bill (component_of plan n)
       (λ j is. let part = part_after plan valid seen reading k n j h is in
       let later = part.after in
-      all_grows (is_from j) (is_from k) (λ row e. let low = leb-true j row.slot e in le-leb k row.slot (omega (arith, low, later)))
+      all_grows (is_from j) (is_from k)
+      (λ row e. let low = leb-true j row.slot e in le-leb k row.slot (omega (arith, low, later)))
       (bill j) (low_rows levels (level + 1) j part.there))))
       (lines_of plan seen reading k) (taken plan seen reading k)
 
@@ -94,15 +96,20 @@ module _ (plan : Plan) (valid : IsValid plan) (seen : Seen) (reading : Reading) 
   none_brought : (i level : ℕ) → i < length plan.slots → flat_map (brings i) (own_bill plan seen reading level i) ≡ []
   none_brought i level there =
       gives_none (brings i) (λ row. is_from i row && is_own_row row)
-      (λ row h. let both = and_parts (is_from i row) (is_own_row row) h in brings_none i row both.0 both.1 (component_of plan row.line) refl)
+      (λ row h. let both = and_parts (is_from i row) (is_own_row row) h in
+      brings_none i row both.0 both.1 (component_of plan row.line) refl)
       (own_bill plan seen reading level i)
-      (both_pass (is_from i) is_own_row (own_bill plan seen reading level i) (low_rows (length plan.slots) level i there)
+      (both_pass (is_from i) is_own_row (own_bill plan seen reading level i)
+      (low_rows (length plan.slots) level i there)
       (own_rows (length plan.slots) level i))
 
   -- of a slot's own bill its lines are those of the slot
-  pub own_left : (i level : ℕ) → i < length plan.slots → filter (is_of i) (own_bill plan seen reading level i) ≡ own i level
+  pub own_left : (i level : ℕ) → i < length plan.slots
+      → filter (is_of i) (own_bill plan seen reading level i) ≡ own i level
   own_left i level there =
-      ap (filter (is_of i)) (one_bill plan valid seen reading (length plan.slots) (suc (length plan.slots)) level i there (omega arith) (omega arith))
+      ap (filter (is_of i))
+      (one_bill plan valid seen reading (length plan.slots) (suc (length plan.slots)) level i there (omega arith)
+      (omega arith))
       ∙ heads_pass (is_of i) (takes plan seen reading i) (bill_line plan reading level i)
       (λ n. below (own_bill plan seen reading (level + 1)) (component_of plan n)) (λ n. eq-eqb i i refl)
       (λ n h. none_passes (is_of i) (below (own_bill plan seen reading (level + 1)) (component_of plan n))
@@ -115,18 +122,22 @@ module _ (plan : Plan) (valid : IsValid plan) (seen : Seen) (reading : Reading) 
       (lines_of plan seen reading i) (taken plan seen reading i)
 
   own_brought : (i level : ℕ) → i < length plan.slots
-      → filter (is_of i) (own_bill plan seen reading level i) ≡ own i level ++ flat_map (brings i) (own_bill plan seen reading level i)
+      → filter (is_of i) (own_bill plan seen reading level i)
+      ≡ own i level ++ flat_map (brings i) (own_bill plan seen reading level i)
   own_brought i level there =
-      own_left i level there ∙ sym (append-nil (own i level)) ∙ ap (λ rows. own i level ++ rows) (sym (none_brought i level there))
+      own_left i level there ∙ sym (append-nil (own i level))
+      ∙ ap (λ rows. own i level ++ rows) (sym (none_brought i level there))
 
   -- in the bill of another slot the lines of the slot are those that rows bring
   abbrev pub Brought : ℕ → ℕ → ℕ → Type 0
-  Brought i level k = filter (is_of i) (own_bill plan seen reading level k) ≡ flat_map (brings i) (own_bill plan seen reading level k)
+  Brought i level k = filter (is_of i) (own_bill plan seen reading level k)
+      ≡ flat_map (brings i) (own_bill plan seen reading level k)
 
   part_brought : (i level : ℕ) → i < length plan.slots → (o : Option ℕ)
       → ((j : ℕ) → o ≡ Some j → (j ≡ i → ⊥) → Brought i (level + 1) j)
       → filter (is_of i) (below (own_bill plan seen reading (level + 1)) o)
-      ≡ cond (is_number i o) (own i (level + 1)) [] ++ flat_map (brings i) (below (own_bill plan seen reading (level + 1)) o)
+      ≡ cond (is_number i o) (own i (level + 1)) []
+      ++ flat_map (brings i) (below (own_bill plan seen reading (level + 1)) o)
   part_brought i level there None later = refl
   part_brought i level there (Some j) later = step (i == j) refl
     where
@@ -134,14 +145,16 @@ module _ (plan : Plan) (valid : IsValid plan) (seen : Seen) (reading : Reading) 
           ≡ cond b (own i (level + 1)) [] ++ flat_map (brings i) (own_bill plan seen reading (level + 1) j)
       step true is =
           subst (λ k. filter (is_of i) (own_bill plan seen reading (level + 1) k)
-          ≡ own i (level + 1) ++ flat_map (brings i) (own_bill plan seen reading (level + 1) k)) (eqb-true i j is) (own_brought i (level + 1) there)
+          ≡ own i (level + 1) ++ flat_map (brings i) (own_bill plan seen reading (level + 1) k)) (eqb-true i j is)
+          (own_brought i (level + 1) there)
       step false is = later j refl (λ same. eqb-false i j is (sym same))
 
   head_out : (i level k n : ℕ) (rest : List BillLine) → (k ≡ i → ⊥)
       → filter (is_of i) (bill_line plan reading level k n ∷ rest) ≡ filter (is_of i) rest
   head_out i level k n rest other = step (k == i) refl (filter (is_of i) rest)
     where
-      step : (b : Bool) → (k == i) ≡ b → (left : List BillLine) → cond b (bill_line plan reading level k n ∷ left) left ≡ left
+      step : (b : Bool) → (k == i) ≡ b → (left : List BillLine)
+          → cond b (bill_line plan reading level k n ∷ left) left ≡ left
       step true is left = absurd (other (eqb-true k i is))
       step false is left = refl
 
@@ -152,7 +165,8 @@ module _ (plan : Plan) (valid : IsValid plan) (seen : Seen) (reading : Reading) 
       let levels = length plan.slots in
       let whole = one_bill plan valid seen reading levels (suc levels) level k there (omega arith) (omega arith) in
       ap (filter (is_of i)) whole
-      ∙ parts_same (is_of i) (brings i) (takes plan seen reading k) (chunk plan reading (own_bill plan seen reading (level + 1)) level k)
+      ∙ parts_same (is_of i) (brings i) (takes plan seen reading k)
+      (chunk plan reading (own_bill plan seen reading (level + 1)) level k)
       (λ n h. head_out i level k n (below (own_bill plan seen reading (level + 1)) (component_of plan n)) other
       ∙ part_brought i level at (component_of plan n)
       (λ j is not_i. let part = part_after plan valid seen reading k n j h is in

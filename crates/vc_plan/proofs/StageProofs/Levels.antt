@@ -1,5 +1,6 @@
 -- The lines of an instance, and that more levels than slots add nothing to its bill.
-use Rattle.std.proofs.Common.{◌≡◌, ℕ, zero, suc, ◌+◌, ◌<◌, ◌≤◌, Bool, true, false, cond, List, [], ◌∷◌, ◌++◌, length, refl, ap, ◌∙◌, arith}
+use Rattle.std.proofs.Common.{◌≡◌, ℕ, zero, suc, ◌+◌, ◌<◌, ◌≤◌, Bool, true, false, cond, List, [], ◌∷◌, ◌++◌, length}
+use Rattle.std.proofs.Common.{refl, ap, ◌∙◌, arith}
 use Rattle.std.proofs.lemmas.Bool.{and_parts, and_from, eqb-true}
 use Rattle.std.specs.Prelude.{Option, None, Some, slice_get, ◌==◌}
 use Rattle.std.specs.List.{filter, flat_map, list_all}
@@ -44,7 +45,8 @@ pub part_after : (plan : Plan) → IsValid plan → (seen : Seen) (reading : Rea
     → takes plan seen reading i n ≡ true → component_of plan n ≡ Some j → IsComponent plan i j
 part_after plan valid seen reading i n j takes is = of_line (slice_get plan.lines n) refl takes
   where
-    of_line : (o : Option Line) → slice_get plan.lines n ≡ o → is_line_of plan seen reading i n o ≡ true → IsComponent plan i j
+    of_line : (o : Option Line) → slice_get plan.lines n ≡ o → is_line_of plan seen reading i n o ≡ true
+        → IsComponent plan i j
     of_line None e h = absurd (cc)
     of_line (Some line) e h =
         let both = and_parts (line.slot == i) (takes_line plan seen reading line (component_of plan n)) h in
@@ -58,7 +60,8 @@ below_same f g None same = refl
 below_same f g (Some j) same = same j refl
 
 -- two numbers of levels, enough for the slots behind this one, give one bill
-pub one_bill : (plan : Plan) → IsValid plan → (seen : Seen) (reading : Reading) (m n level i : ℕ) → i < length plan.slots
+pub one_bill : (plan : Plan) → IsValid plan → (seen : Seen) (reading : Reading) (m n level i : ℕ)
+    → i < length plan.slots
     → length plan.slots ≤ m + i → length plan.slots ≤ n + i
     → bill_from plan seen reading m level i ≡ bill_from plan seen reading n level i
 one_bill plan valid seen reading zero n level i there enough more = absurd (omega arith)
@@ -68,7 +71,8 @@ one_bill plan valid seen reading (suc m) (suc n) level i there enough more =
     (λ l. bill_line plan reading level i l ∷ below (bill_from plan seen reading m (level + 1)) (component_of plan l))
     (λ l. bill_line plan reading level i l ∷ below (bill_from plan seen reading n (level + 1)) (component_of plan l))
     (λ l takes. ap (λ rows. bill_line plan reading level i l ∷ rows)
-    (below_same (bill_from plan seen reading m (level + 1)) (bill_from plan seen reading n (level + 1)) (component_of plan l)
+    (below_same (bill_from plan seen reading m (level + 1)) (bill_from plan seen reading n (level + 1))
+    (component_of plan l)
     (λ j is. let part = part_after plan valid seen reading i l j takes is in
     let later = part.after in
     one_bill plan valid seen reading m n (level + 1) j part.there (omega (arith, later)) (omega (arith, later)))))

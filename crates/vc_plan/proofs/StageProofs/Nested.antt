@@ -1,5 +1,6 @@
 -- In a bill each line is followed at once by its component's own bill, and that by no deeper line.
-use Rattle.std.proofs.Common.{◌≡◌, ◌⊎◌, inl, inr, ℕ, zero, suc, ◌+◌, ◌<◌, ◌≤◌, true, List, [], ◌∷◌, ◌++◌, length, refl, sym, ap, subst, ◌∙◌, arith}
+use Rattle.std.proofs.Common.{◌≡◌, ◌⊎◌, inl, inr, ℕ, zero, suc, ◌+◌, ◌<◌, ◌≤◌, true, List, [], ◌∷◌, ◌++◌, length, refl}
+use Rattle.std.proofs.Common.{sym, ap, subst, ◌∙◌, arith}
 use Rattle.std.proofs.lemmas.Bool.{and_parts, leb-true}
 use Rattle.std.proofs.lemmas.List.{append_assoc, append-nil}
 use Rattle.std.specs.Prelude.{Option, None, Some, nat_le, slice_get}
@@ -50,7 +51,8 @@ shallow l m [] [] h a b = tt
 shallow l m [] (y ∷ ys) h a b = omega arith
 shallow l m (r ∷ rest) ys h a b = a
 
-level_of : (level : ℕ) (before more : List BillLine) (row : BillLine) → AtLeast level (before ++ row ∷ more) → level ≤ row.level
+level_of : (level : ℕ) (before more : List BillLine) (row : BillLine) → AtLeast level (before ++ row ∷ more)
+    → level ≤ row.level
 level_of level [] more row h =
     leb-true level row.level (and_parts (nat_le level row.level) (list_all (λ r. nat_le level r.level) more) h).0
 level_of level (b ∷ before) more row h =
@@ -64,7 +66,8 @@ some_slot (slot ∷ slots) e = omega arith
 module _ (plan : Plan) (seen : Seen) (reading : Reading) where
   -- a row's component's bill follows it at once, and no deeper row follows that
   abbrev Follows : BillLine → List BillLine → Type 0
-  Follows row after = (rest : List BillLine) × (after ≡ component_bill plan seen reading row ++ rest) × IsNoDeeper row.level rest
+  Follows row after = (rest : List BillLine) × (after ≡ component_bill plan seen reading row ++ rest)
+      × IsNoDeeper row.level rest
 
   abbrev Nested : List BillLine → Type 0
   Nested rows = (before after : List BillLine) (row : BillLine) → rows ≡ before ++ row ∷ after → Follows row after
@@ -98,7 +101,8 @@ module _ (plan : Plan) (seen : Seen) (reading : Reading) where
       in_first w f = (
         f.0 ++ ys,
         w.rest ∙ ap (λ rows. rows ++ ys) f.1 ∙ append_assoc (component_bill plan seen reading row) f.0 ys,
-        shallow level row.level f.0 ys (level_of level before w.more row (subst (AtLeast level) w.is at_least)) f.2 no_deeper,
+        shallow level row.level f.0 ys (level_of level before w.more row (subst (AtLeast level) w.is at_least)) f.2
+            no_deeper,
       )
 
   -- the lines of an instance, each with its component's bill
@@ -116,7 +120,8 @@ module _ (plan : Plan) (seen : Seen) (reading : Reading) where
   nested_lines level i parts [] h = nested_nil
   nested_lines level i parts (n ∷ ns) h =
       let both = and_parts (takes plan seen reading i n) (list_all (takes plan seen reading i) ns) h in
-      nested_append level (chunk plan reading (own_bill plan seen reading (level + 1)) level i n) (lines_with level i ns)
+      nested_append level (chunk plan reading (own_bill plan seen reading (level + 1)) level i n)
+      (lines_with level i ns)
       (nested_cons (bill_line plan reading level i n) (parts n both.0)) (nested_lines level i parts ns both.1)
       (chunk_deep plan reading (own_bill plan seen reading (level + 1)) level i
       (λ j. deep plan seen reading (length plan.slots) (level + 1) j) n)
@@ -134,12 +139,15 @@ module _ (plan : Plan) (seen : Seen) (reading : Reading) where
   nested_bill valid zero level i there enough = absurd (omega arith)
   nested_bill valid (suc m) level i there enough =
       let levels = length plan.slots in
-      subst Nested (sym (one_bill plan valid seen reading levels (suc levels) level i there (omega arith) (omega arith)))
+      subst Nested (sym (one_bill plan valid seen reading levels (suc levels) level i there (omega arith)
+      (omega arith)))
       (nested_lines level i
       (λ n takes. nested_part valid level i n takes
-      (λ j after before_end. nested_bill valid m (level + 1) j before_end (omega (arith, after))) (component_of plan n) refl)
+      (λ j after before_end. nested_bill valid m (level + 1) j before_end (omega (arith, after))) (component_of plan n)
+      refl)
       (lines_of plan seen reading i) (taken plan seen reading i))
 
 pub components_follow : ComponentsFollow
 components_follow plan valid seen reading before after row e =
-    nested_bill plan seen reading valid (length plan.slots) 1 0 (some_slot plan.slots valid.root) (omega arith) before after row e
+    nested_bill plan seen reading valid (length plan.slots) 1 0 (some_slot plan.slots valid.root) (omega arith) before
+    after row e

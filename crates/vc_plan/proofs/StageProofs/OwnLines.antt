@@ -1,5 +1,6 @@
 -- An instance's bill has its own lines at its level, and deeper ones else.
-use Rattle.std.proofs.Common.{◌≡◌, ℕ, zero, suc, ◌+◌, ◌<◌, ◌≤◌, Bool, true, false, cond, List, [], ◌∷◌, ◌++◌, length, map, refl, ap, ◌∙◌, arith}
+use Rattle.std.proofs.Common.{◌≡◌, ℕ, zero, suc, ◌+◌, ◌<◌, ◌≤◌, Bool, true, false, cond, List, [], ◌∷◌, ◌++◌, length}
+use Rattle.std.proofs.Common.{map, refl, ap, ◌∙◌, arith}
 use Rattle.std.proofs.lemmas.Bool.{and_parts, and_from, eqb-true, eq-eqb, le-leb, leb-true}
 use Rattle.std.proofs.lemmas.List.Elements.{filter-append}
 use Rattle.std.specs.Prelude.{Option, None, Some, nat_le, ◌==◌}
@@ -37,11 +38,13 @@ chunk_deep plan reading bill level i depth n =
     part None = refl
     part (Some j) = higher level (bill j) (depth j)
 
-flat_deep : (plan : Plan) (reading : Reading) (bill : ℕ → List BillLine) (level i : ℕ) → ((j : ℕ) → AtLeast (level + 1) (bill j))
+flat_deep : (plan : Plan) (reading : Reading) (bill : ℕ → List BillLine) (level i : ℕ)
+    → ((j : ℕ) → AtLeast (level + 1) (bill j))
     → (ns : List ℕ) → AtLeast level (flat_map (chunk plan reading bill level i) ns)
 flat_deep plan reading bill level i depth [] = refl
 flat_deep plan reading bill level i depth (n ∷ ns) =
-    all_append (λ row. nat_le level row.level) (chunk plan reading bill level i n) (flat_map (chunk plan reading bill level i) ns)
+    all_append (λ row. nat_le level row.level) (chunk plan reading bill level i n)
+    (flat_map (chunk plan reading bill level i) ns)
     (chunk_deep plan reading bill level i depth n) (flat_deep plan reading bill level i depth ns)
 
 pub deep : (plan : Plan) (seen : Seen) (reading : Reading) (levels level i : ℕ)
@@ -64,15 +67,19 @@ none_left level (row ∷ rows) h =
     step true is low none = let same = eqb-true row.level level is in absurd (omega (arith, same, low))
     step false is low none = none
 
-flat_own : (plan : Plan) (reading : Reading) (bill : ℕ → List BillLine) (level i : ℕ) → ((j : ℕ) → AtLeast (level + 1) (bill j))
+flat_own : (plan : Plan) (reading : Reading) (bill : ℕ → List BillLine) (level i : ℕ)
+    → ((j : ℕ) → AtLeast (level + 1) (bill j))
     → (ns : List ℕ)
-    → filter (λ row. row.level == level) (flat_map (chunk plan reading bill level i) ns) ≡ map (bill_line plan reading level i) ns
+    → filter (λ row. row.level == level) (flat_map (chunk plan reading bill level i) ns)
+    ≡ map (bill_line plan reading level i) ns
 flat_own plan reading bill level i depth [] = refl
 flat_own plan reading bill level i depth (n ∷ ns) =
     first (level == level) (eq-eqb level level refl) (bill_line plan reading level i n)
-    (filter (λ row. row.level == level) (below bill (component_of plan n) ++ flat_map (chunk plan reading bill level i) ns))
+    (filter (λ row. row.level == level)
+    (below bill (component_of plan n) ++ flat_map (chunk plan reading bill level i) ns))
     (map (bill_line plan reading level i) ns)
-    (filter-append (λ row. row.level == level) (below bill (component_of plan n)) (flat_map (chunk plan reading bill level i) ns)
+    (filter-append (λ row. row.level == level) (below bill (component_of plan n))
+    (flat_map (chunk plan reading bill level i) ns)
     ∙ ap (λ rows. rows ++ filter (λ row. row.level == level) (flat_map (chunk plan reading bill level i) ns))
     (part (component_of plan n))
     ∙ flat_own plan reading bill level i depth ns)

@@ -1,5 +1,6 @@
 -- Slots come after their parents, and a component's slot after its owner's.
-use Rattle.std.proofs.Common.{◌≡◌, ℕ, zero, suc, ◌+◌, ◌<◌, ◌≤◌, Bool, true, false, not, cond, List, [], ◌∷◌, length, drop, refl, sym, ap, ◌∙◌, arith}
+use Rattle.std.proofs.Common.{◌≡◌, ℕ, zero, suc, ◌+◌, ◌<◌, ◌≤◌, Bool, true, false, not, cond, List, [], ◌∷◌, length}
+use Rattle.std.proofs.Common.{drop, refl, sym, ap, ◌∙◌, arith}
 use Rattle.std.proofs.Common.{inl, inr}
 use Rattle.std.proofs.lemmas.Bool.{and_parts, and_from, eq-eqb, eqb-true, le-leb, leb-true, or_cases}
 use Rattle.std.specs.Prelude.{Option, None, Some, is_some, nat_le, slice_get, ◌==◌}
@@ -44,7 +45,8 @@ each_number p a (suc n) i h low high =
 
 -- the slots before this one come after their parents
 abbrev pub Parents : Plan → ℕ → Type 0
-Parents plan k = (i : ℕ) (slot : Slot) (p : ℕ) → i < k → slice_get plan.slots i ≡ Some slot → slot.parent ≡ Some p → p < i
+Parents plan k = (i : ℕ) (slot : Slot) (p : ℕ) → i < k → slice_get plan.slots i ≡ Some slot → slot.parent ≡ Some p
+    → p < i
 
 -- a number that is there is at most this one
 abbrev UpTo : ℕ → Option ℕ → Type 0
@@ -57,7 +59,8 @@ low : (plan : Plan) (b : ℕ) → Parents plan (b + 1) → (n : ℕ) (o : Option
 low plan b before zero o h = refl
 low plan b before (suc n) None h = refl
 low plan b before (suc n) (Some i) h =
-    and_from (nat_le i b) (list_all (λ q. nat_le q b) (lineage plan n (parent_in (slice_get plan.slots i)))) (le-leb i b h)
+    and_from (nat_le i b) (list_all (λ q. nat_le q b) (lineage plan n (parent_in (slice_get plan.slots i))))
+    (le-leb i b h)
     (low plan b before n (parent_in (slice_get plan.slots i)) (up (slice_get plan.slots i) refl))
   where
     up_parent : (slot : Slot) → slice_get plan.slots i ≡ Some slot → (o : Option ℕ) → slot.parent ≡ o → UpTo b o
@@ -135,7 +138,8 @@ component_after plan valid n j line at_line is =
     of_slot (slice_get plan.slots j) refl
     (found (λ k. is_for_line n (slice_get plan.slots k)) (numbers_below (length plan.slots)) j is)
   where
-    of_parent : (slot : Slot) → slice_get plan.slots j ≡ Some slot → (slot.line == n) ≡ true → (o : Option ℕ) → slot.parent ≡ o
+    of_parent : (slot : Slot) → slice_get plan.slots j ≡ Some slot → (slot.line == n) ≡ true → (o : Option ℕ)
+        → slot.parent ≡ o
         → is_some o ≡ true
         → IsComponent plan line.slot j
     of_parent slot at_slot for_line None parent e = absurd (cc)

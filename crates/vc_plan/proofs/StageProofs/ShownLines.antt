@@ -13,6 +13,8 @@ use Rattle.vc_plan.proofs.StageProofs.Upward.{parents_are_here}
 pub bills_show_taken_lines : BillsShowTakenLines
 bills_show_taken_lines plan valid users sets entries ends i there =
     let set = last_set plan sets in
-    let upward = parents_are_here plan valid (sources_of users entries) set (last_stage_settles plan users sets entries ends) in
+    let upward
+    = parents_are_here plan valid (sources_of users entries) set
+    (last_stage_settles plan users sets entries ends) in
     ap (λ evaluated. filter (λ row. row.slot == i) (bill_after plan users evaluated)) ends
     ∙ bills_have_taken_lines plan valid (seen_of set) (reading_of plan users (seen_of set)) upward i there

@@ -1,5 +1,6 @@
 -- A bill has of each instance the lines that it takes.
-use Rattle.std.proofs.Common.{◌≡◌, ℕ, zero, suc, ◌+◌, ◌<◌, Bool, true, false, not, cond, List, [], ◌∷◌, ◌++◌, length, refl, sym, ap, ◌∙◌, arith}
+use Rattle.std.proofs.Common.{◌≡◌, ℕ, zero, suc, ◌+◌, ◌<◌, Bool, true, false, not, cond, List, [], ◌∷◌, ◌++◌, length}
+use Rattle.std.proofs.Common.{refl, sym, ap, ◌∙◌, arith}
 use Rattle.std.proofs.lemmas.Bool.{and_parts, eqb-true, eqb-false, eq-eqb}
 use Rattle.std.specs.Prelude.{Option, None, Some, is_some, slice_get, ◌==◌}
 use Rattle.std.specs.List.{filter, flat_map, list_any}
@@ -39,8 +40,10 @@ same_line x y e = cc
 
 module _ (plan : Plan) (valid : IsValid plan) (seen : Seen) (reading : Reading) where
   -- a row whose slot isn't the parent brings none
-  of_parent_alone : (i p : ℕ) (slot : Slot) → slice_get plan.slots i ≡ Some slot → IsOwned plan i p slot → (row : BillLine)
-      → is_own_row plan valid seen reading row ≡ true → is_of plan valid seen reading p row ≡ false → brings plan valid seen reading i row ≡ []
+  of_parent_alone : (i p : ℕ) (slot : Slot) → slice_get plan.slots i ≡ Some slot → IsOwned plan i p slot
+      → (row : BillLine)
+      → is_own_row plan valid seen reading row ≡ true → is_of plan valid seen reading p row ≡ false
+      → brings plan valid seen reading i row ≡ []
   of_parent_alone i p slot at mine row takes other = of_component (component_of plan row.line) refl
     where
       not_here : component_of plan row.line ≡ Some i → ⊥
@@ -49,7 +52,8 @@ module _ (plan : Plan) (valid : IsValid plan) (seen : Seen) (reading : Reading) 
           let same = same_slot found.slot slot (sym found.at ∙ at) in
           let for_line : slot.line ≡ row.line = sym (ap (λ s. s.line) same) ∙ found.for_line in
           let of_row = taken_line plan seen reading row.slot row.line takes in
-          let lines = same_line of_row.line mine.line (sym of_row.at ∙ ap (slice_get plan.lines) (sym for_line) ∙ mine.at) in
+          let lines
+          = same_line of_row.line mine.line (sym of_row.at ∙ ap (slice_get plan.lines) (sym for_line) ∙ mine.at) in
           eqb-false row.slot p other (sym of_row.own ∙ ap (λ l. l.slot) lines ∙ mine.owner)
 
       step : (j : ℕ) → component_of plan row.line ≡ Some j → (b : Bool) → (i == j) ≡ b
@@ -63,7 +67,8 @@ module _ (plan : Plan) (valid : IsValid plan) (seen : Seen) (reading : Reading) 
       of_component (Some j) e = step j e (i == j) refl
 
   -- the slot is the component of its line alone
-  is_component : (i p : ℕ) (slot : Slot) → slice_get plan.slots i ≡ Some slot → slot.parent ≡ Some p → IsOwned plan i p slot
+  is_component : (i p : ℕ) (slot : Slot) → slice_get plan.slots i ≡ Some slot → slot.parent ≡ Some p
+      → IsOwned plan i p slot
       → (n : ℕ)
       → is_number i (component_of plan n) ≡ (n == slot.line)
   is_component i p slot at parent mine n = step (n == slot.line) refl
@@ -74,7 +79,8 @@ module _ (plan : Plan) (valid : IsValid plan) (seen : Seen) (reading : Reading) 
           let same = same_slot found.slot slot (sym found.at ∙ at) in
           eqb-false n slot.line other (sym found.for_line ∙ ap (λ s. s.line) same)
 
-      of_number : (n == slot.line) ≡ false → (j : ℕ) → component_of plan n ≡ Some j → (b : Bool) → (i == j) ≡ b → b ≡ false
+      of_number : (n == slot.line) ≡ false → (j : ℕ) → component_of plan n ≡ Some j → (b : Bool) → (i == j) ≡ b
+          → b ≡ false
       of_number other j is true e = absurd (other_line other (is ∙ ap Some (sym (eqb-true i j e))))
       of_number other j is false e = refl
 
@@ -89,14 +95,18 @@ module _ (plan : Plan) (valid : IsValid plan) (seen : Seen) (reading : Reading) 
       step false e = of_component e (component_of plan n) refl
 
   -- what a slot takes, by what its parent does
-  inherited : IsUpward plan seen → (i p : ℕ) (slot : Slot) → slice_get plan.slots (suc i) ≡ Some slot → slot.parent ≡ Some p
+  inherited : IsUpward plan seen → (i p : ℕ) (slot : Slot) → slice_get plan.slots (suc i) ≡ Some slot
+      → slot.parent ≡ Some p
       → suc i < length plan.slots → IsOwned plan (suc i) p slot
       → filter (λ row. row.slot == p) (bill_of plan seen reading) ≡ taken_lines plan seen reading p
       → filter (λ row. row.slot == suc i) (bill_of plan seen reading) ≡ taken_lines plan seen reading (suc i)
   inherited upward i p slot at parent there mine before =
-      brought plan valid seen reading (suc i) there (length plan.slots) 1 0 (λ same. omega (arith, same)) (omega arith) (omega arith)
-      ∙ gives_left (brings plan valid seen reading (suc i)) (is_of plan valid seen reading p) (is_own_row plan valid seen reading)
-      (of_parent_alone (suc i) p slot at mine) (bill_of plan seen reading) (own_rows plan valid seen reading (length plan.slots) 1 0)
+      brought plan valid seen reading (suc i) there (length plan.slots) 1 0 (λ same. omega (arith, same)) (omega arith)
+      (omega arith)
+      ∙ gives_left (brings plan valid seen reading (suc i)) (is_of plan valid seen reading p)
+      (is_own_row plan valid seen reading)
+      (of_parent_alone (suc i) p slot at mine) (bill_of plan seen reading)
+      (own_rows plan valid seen reading (length plan.slots) 1 0)
       ∙ ap (flat_map (brings plan valid seen reading (suc i))) before
       ∙ of_parent (seen.here p) refl
     where
@@ -118,17 +128,21 @@ module _ (plan : Plan) (valid : IsValid plan) (seen : Seen) (reading : Reading) 
       not_here absent false is = refl
 
       of_parent : (b : Bool) → seen.here p ≡ b
-          → flat_map (brings plan valid seen reading (suc i)) (cond b (own plan valid seen reading p (depth_of plan p + 1)) [])
+          → flat_map (brings plan valid seen reading (suc i))
+          (cond b (own plan valid seen reading p (depth_of plan p + 1)) [])
           ≡ cond (seen.here (suc i)) (own plan valid seen reading (suc i) (depth_of plan (suc i) + 1)) []
       of_parent false absent = not_here absent (seen.here (suc i)) refl
       of_parent true is =
-          flat_of_map (brings plan valid seen reading (suc i)) (bill_line plan reading (depth_of plan p + 1) p) (lines_of plan seen reading p)
+          flat_of_map (brings plan valid seen reading (suc i)) (bill_line plan reading (depth_of plan p + 1) p)
+          (lines_of plan seen reading p)
           ∙ flat_pointwise
           (λ n. brings plan valid seen reading (suc i) (bill_line plan reading (depth_of plan p + 1) p n))
           (λ n. cond (n == slot.line) (own plan valid seen reading (suc i) (depth_of plan p + 1 + 1)) [])
-          (λ n. ap (λ b. cond b (own plan valid seen reading (suc i) (depth_of plan p + 1 + 1)) []) (is_component (suc i) p slot at parent mine n))
+          (λ n. ap (λ b. cond b (own plan valid seen reading (suc i) (depth_of plan p + 1 + 1)) [])
+          (is_component (suc i) p slot at parent mine n))
           (lines_of plan seen reading p)
-          ∙ met_once slot.line (own plan valid seen reading (suc i) (depth_of plan p + 1 + 1)) (lines_of plan seen reading p)
+          ∙ met_once slot.line (own plan valid seen reading (suc i) (depth_of plan p + 1 + 1))
+          (lines_of plan seen reading p)
           (items_ascend plan seen reading p)
           ∙ ap (λ b. cond b (own plan valid seen reading (suc i) (depth_of plan p + 1 + 1)) []) here
           ∙ ap (λ d. cond (seen.here (suc i)) (own plan valid seen reading (suc i) (d + 1)) []) (sym depth)
@@ -150,13 +164,16 @@ module _ (plan : Plan) (valid : IsValid plan) (seen : Seen) (reading : Reading) 
       shallow = of_slot (slice_get plan.slots 0) valid.root
   below_all upward (suc k) (suc i) less there =
       let slot = get_there plan.slots (suc i) there in
-      of_parent slot.0 slot.1 slot.0.parent refl (λ p lower. below_all upward k p (omega (arith, lower)) (omega (arith, lower)))
+      of_parent slot.0 slot.1 slot.0.parent refl
+      (λ p lower. below_all upward k p (omega (arith, lower)) (omega (arith, lower)))
     where
       of_parent : (slot : Slot) → slice_get plan.slots (suc i) ≡ Some slot → (o : Option ℕ) → slot.parent ≡ o
-          → ((p : ℕ) → p < suc i → filter (λ row. row.slot == p) (bill_of plan seen reading) ≡ taken_lines plan seen reading p)
+          → ((p : ℕ) → p < suc i
+          → filter (λ row. row.slot == p) (bill_of plan seen reading) ≡ taken_lines plan seen reading p)
           → filter (λ row. row.slot == suc i) (bill_of plan seen reading) ≡ taken_lines plan seen reading (suc i)
       of_parent slot at None parent earlier =
-          absurd (differ (sym (ap (is_below plan slot) parent) ∙ all_behind (λ s. is_below plan s s.parent) plan.slots i slot valid.below at))
+          absurd (differ (sym (ap (is_below plan slot) parent)
+          ∙ all_behind (λ s. is_below plan s s.parent) plan.slots i slot valid.below at))
         where
           differ : false ≡ true → ⊥
           differ e = cc
@@ -165,4 +182,5 @@ module _ (plan : Plan) (valid : IsValid plan) (seen : Seen) (reading : Reading) 
           (earlier p (parents_come_first plan valid (suc i) p slot at parent))
 
 pub bills_have_taken_lines : BillsHaveTakenLines
-bills_have_taken_lines plan valid seen reading upward i there = below_all plan valid seen reading upward (i + 1) i (omega arith) there
+bills_have_taken_lines plan valid seen reading upward i there =
+    below_all plan valid seen reading upward (i + 1) i (omega arith) there

@@ -1,9 +1,11 @@
 -- A slot comes to be here by a Line alone, and so where its parent is here.
-use Rattle.std.proofs.Common.{◌≡◌, inl, inr, ℕ, zero, suc, Bool, true, false, not, cond, ◌&&◌, List, [], ◌∷◌, map, refl, sym, ap, subst, ◌∙◌, arith}
+use Rattle.std.proofs.Common.{◌≡◌, inl, inr, ℕ, zero, suc, Bool, true, false, not, cond, ◌&&◌, List, [], ◌∷◌, map, refl}
+use Rattle.std.proofs.Common.{sym, ap, subst, ◌∙◌, arith}
 use Rattle.std.proofs.lemmas.Bool.{eqb-true, or_cases, or_left, or_right}
 use Rattle.std.specs.Prelude.{Option, None, Some, is_none, min, slice_get, ◌==◌}
 use Rattle.std.specs.List.{filter, list_all, list_any}
-use Rattle.vc_base.specs.Rounds.{Given, clash, atoms, atoms_of, broken, settled, all_given, next_round, settle, some_clash}
+use Rattle.vc_base.specs.Rounds.{Given, clash, atoms, atoms_of, broken, settled, all_given, next_round, settle}
+use Rattle.vc_base.specs.Rounds.{some_clash}
 use Rattle.vc_base.specs.Sets.{has}
 use Rattle.vc_base.proofs.SetLaws.{with_all_cases, with_all_left}
 use Rattle.vc_base.proofs.Settling as settling
@@ -21,23 +23,28 @@ use Rattle.vc_plan.specs.declared.rules.Binding.{Binding}
 use Rattle.vc_plan.specs.declared.rules.Kind.{Kind}
 use Rattle.vc_plan.specs.declared.rules.Kind.TheVariants.{Among, Compare, Equate, ByTable, Never, Last, Line}
 use Rattle.vc_plan.specs.declared.rules.Rule.{Rule}
-use Rattle.vc_plan.specs.Answers.{nothing, clash_if, beside, gathered, fresh, is_nothing, value_atoms, only_value, last_atoms}
+use Rattle.vc_plan.specs.Answers.{nothing, clash_if, beside, gathered, fresh, is_nothing, value_atoms, only_value}
+use Rattle.vc_plan.specs.Answers.{last_atoms}
 use Rattle.vc_plan.specs.Domains.{is_restrictable, atom_count, decimals_of, grains_of}
-use Rattle.vc_plan.specs.Gives.{Giver, by_rule, by_user, by_entry, acts, entry_says, if_here, gives, giver_says, kind_gives, mark_says, not_out, rule_says, value_says}
+use Rattle.vc_plan.specs.Gives.{Giver, by_rule, by_user, by_entry, acts, entry_says, if_here, gives, giver_says}
+use Rattle.vc_plan.specs.Gives.{kind_gives, mark_says, not_out, rule_says, value_says}
 use Rattle.vc_plan.specs.Kleene.{is_false}
 use Rattle.vc_plan.specs.Clear.{is_clear}
 use Rattle.vc_plan.specs.Pieces.{lies_in_some, turned}
 use Rattle.vc_plan.specs.Readings.{net_reading}
 use Rattle.vc_plan.specs.Truth.{compared, value_at}
 use Rattle.vc_plan.proofs.PlanLaws.Givers.{system_laws}
-use Rattle.vc_plan.specs.Restrictions.{allows, among, compare, confined, decimals_in_side, differ, equal_to, equate, failing, is_inferred, left_with, lone, lone_inferred, of_remaining, related, rounded_value}
+use Rattle.vc_plan.specs.Restrictions.{allows, among, compare, confined, decimals_in_side, differ, equal_to, equate}
+use Rattle.vc_plan.specs.Restrictions.{failing, is_inferred, left_with, lone, lone_inferred, of_remaining, related}
+use Rattle.vc_plan.specs.Restrictions.{rounded_value}
 use Rattle.vc_plan.specs.Seen.{Seen, is_here, is_parent_here, is_slot_here, parent_in, same_atom, says, seen_of}
 use Rattle.vc_plan.specs.Settle.{base, system_of}
 use Rattle.vc_plan.specs.Slots.{is_root}
 use Rattle.vc_plan.specs.Sources.{Entry, Sources, entry_of, user_of}
 use Rattle.vc_plan.specs.StageLaws.{ParentsAreHere}
 use Rattle.vc_plan.specs.Valid.{IsValid}
-use Rattle.vc_plan.specs.TableRows.{agreed, by_table, columns_of, first_cell, for_variable, is_possible_in, missing_grains, narrowed, rows_for, rows_of, value_if}
+use Rattle.vc_plan.specs.TableRows.{agreed, by_table, columns_of, first_cell, for_variable, is_possible_in}
+use Rattle.vc_plan.specs.TableRows.{missing_grains, narrowed, rows_for, rows_of, value_if}
 use Rattle.vc_plan.proofs.PlanLaws.Atoms.{atom_exact, atom_itself}
 use Rattle.vc_plan.proofs.StageProofs.Parents.{no_parent}
 
@@ -82,10 +89,14 @@ others_last plan v (g ∷ (h ∷ more)) = refl
 
 others_confined : (plan : Plan) (seen : Seen) (v : ℕ) (test : Piece → Bool) → Others (confined plan seen v test)
 others_confined plan seen v test =
-    others_if (is_restrictable plan v) (atoms (map (Out v) (failing plan v test))) (of_remaining plan v (left_with plan seen v test))
-    (others_out v (failing plan v test)) (others_clash_if _ (atoms (last_atoms plan v (left_with plan seen v test))) (others_last plan v (left_with plan seen v test)))
+    others_if (is_restrictable plan v) (atoms (map (Out v) (failing plan v test)))
+    (of_remaining plan v (left_with plan seen v test))
+    (others_out v (failing plan v test))
+    (others_clash_if _ (atoms (last_atoms plan v (left_with plan seen v test)))
+    (others_last plan v (left_with plan seen v test)))
 
-others_related : (plan : Plan) (seen : Seen) (r : Relation) (o : Option ℕ) (a : Option Value) → Others (related plan seen r o a)
+others_related : (plan : Plan) (seen : Seen) (r : Relation) (o : Option ℕ) (a : Option Value)
+    → Others (related plan seen r o a)
 others_related plan seen r None a = refl
 others_related plan seen r (Some v) None = refl
 others_related plan seen r (Some v) (Some a) = others_confined plan seen v _
@@ -94,7 +105,8 @@ others_equal : (plan : Plan) (o : Option ℕ) (a : Option Value) → Others (equ
 others_equal plan None a = refl
 others_equal plan (Some v) None = refl
 others_equal plan (Some v) (Some a) =
-    others_if (lies_in_some (grains_of plan v) (rounded_value (decimals_of plan v) a)) (atoms (Is v (rounded_value (decimals_of plan v) a) ∷ [])) clash refl refl
+    others_if (lies_in_some (grains_of plan v) (rounded_value (decimals_of plan v) a))
+    (atoms (Is v (rounded_value (decimals_of plan v) a) ∷ [])) clash refl refl
 
 others_value_if : (test : Value → Bool) (v : ℕ) (o : Option Value) → Others (atoms (value_if test v o))
 others_value_if test v None = refl
@@ -104,14 +116,16 @@ others_value_if test v (Some a) = step (test a)
     step true = refl
     step false = refl
 
-others_agreed : (plan : Plan) (v : ℕ) (own : List Binding) (rows : List (List Value)) → Others (atoms (agreed plan v own rows))
+others_agreed : (plan : Plan) (v : ℕ) (own : List Binding) (rows : List (List Value))
+    → Others (atoms (agreed plan v own rows))
 others_agreed plan v own [] = refl
 others_agreed plan v own (row ∷ rows) = others_value_if _ v (first_cell own row)
 
 others_variable : (plan : Plan) (seen : Seen) (table : ℕ) (columns : List Binding) (v : ℕ)
     → Others (for_variable plan seen table columns v)
 others_variable plan seen table columns v =
-    step (is_restrictable plan v) (map (Out v) (missing_grains plan v (columns_of v columns) (rows_for plan seen table columns v)))
+    step (is_restrictable plan v)
+    (map (Out v) (missing_grains plan v (columns_of v columns) (rows_for plan seen table columns v)))
     (agreed plan v (columns_of v columns) (rows_for plan seen table columns v))
     (others_out v (missing_grains plan v (columns_of v columns) (rows_for plan seen table columns v)))
     (others_agreed plan v (columns_of v columns) (rows_for plan seen table columns v))
@@ -122,7 +136,8 @@ others_variable plan seen table columns v =
 
 -- what an answer says of slots, it says of those whose parent is here
 abbrev TellsUpward : Plan → Seen → Given Atom → Type 0
-TellsUpward plan seen given = (i : ℕ) → has same_atom (atoms_of given) (Here i) ≡ true → is_parent_here plan seen i ≡ true
+TellsUpward plan seen given = (i : ℕ) → has same_atom (atoms_of given) (Here i) ≡ true
+    → is_parent_here plan seen i ≡ true
 
 none_here : (xs : List Atom) (i : ℕ) → list_all is_other xs ≡ true → has same_atom xs (Here i) ≡ true → ⊥
 none_here [] i h e = never e
@@ -154,11 +169,13 @@ line_tells plan seen j false is i e = absurd (never e)
     never : false ≡ true → ⊥
     never e = cc
 
-kind_tells : (plan : Plan) (seen : Seen) (rule : Rule) (kind : Kind) → TellsUpward plan seen (kind_gives plan seen rule kind)
+kind_tells : (plan : Plan) (seen : Seen) (rule : Rule) (kind : Kind)
+    → TellsUpward plan seen (kind_gives plan seen rule kind)
 kind_tells plan seen rule (Among v restriction) =
     let test = allows plan v restriction in
     others_tell plan seen (among plan seen rule v restriction)
-    (others_if (is_inferred rule v) (confined plan seen v test) (clash_if (is_nothing (left_with plan seen v test)) nothing)
+    (others_if (is_inferred rule v) (confined plan seen v test)
+    (clash_if (is_nothing (left_with plan seen v test)) nothing)
     (others_confined plan seen v test) (others_clash_if (is_nothing (left_with plan seen v test)) nothing refl))
 kind_tells plan seen rule (Compare r a b) =
     let first = value_at plan (net_reading seen) a in
@@ -176,16 +193,21 @@ kind_tells plan seen rule (Equate a b) =
     let w = lone_inferred plan rule b in
     let decimals = min (decimals_in_side plan (lone plan a)) (decimals_in_side plan (lone plan b)) in
     others_tell plan seen (equate plan seen rule a b)
-    (others_clash_if ((is_none v && is_none w) && differ decimals first second) (beside (equal_to plan v second) (equal_to plan w first))
-    (others_beside (equal_to plan v second) (equal_to plan w first) (others_equal plan v second) (others_equal plan w first)))
+    (others_clash_if ((is_none v && is_none w) && differ decimals first second)
+    (beside (equal_to plan v second) (equal_to plan w first))
+    (others_beside (equal_to plan v second) (equal_to plan w first) (others_equal plan v second)
+    (others_equal plan w first)))
 kind_tells plan seen rule (ByTable table columns) =
     others_tell plan seen (by_table plan seen rule table columns)
     (others_clash_if (not (list_any (is_possible_in plan seen columns) (rows_of plan table)))
     (gathered (for_variable plan seen table columns) (narrowed rule columns))
-    (others_gathered (for_variable plan seen table columns) (others_variable plan seen table columns) (narrowed rule columns)))
+    (others_gathered (for_variable plan seen table columns) (others_variable plan seen table columns)
+    (narrowed rule columns)))
 kind_tells plan seen rule Never = others_tell plan seen clash refl
 kind_tells plan seen rule (Last v) =
-    others_tell plan seen (kind_gives plan seen rule (Last v)) (step (is_here plan seen v) (last_atoms plan v (not_out plan seen v)) (others_last plan v (not_out plan seen v)))
+    others_tell plan seen (kind_gives plan seen rule (Last v))
+    (step (is_here plan seen v) (last_atoms plan v (not_out plan seen v))
+    (others_last plan v (not_out plan seen v)))
   where
     step : (b : Bool) (xs : List Atom) → Others (atoms xs) → Others (atoms (cond b xs []))
     step true xs h = h
@@ -217,10 +239,12 @@ giver_tells : (plan : Plan) (sources : Sources) (giver : Giver) (seen : Seen)
 giver_tells plan sources (by_rule r) seen = rule_tells plan seen (slice_get plan.rules r)
 giver_tells plan sources (by_user v) seen =
     others_tell plan seen (if_here plan seen v (value_says v (user_of sources v)))
-    (others_if (is_here plan seen v) (value_says v (user_of sources v)) nothing (value_others v (user_of sources v)) refl)
+    (others_if (is_here plan seen v) (value_says v (user_of sources v)) nothing (value_others v (user_of sources v))
+    refl)
 giver_tells plan sources (by_entry v) seen =
     others_tell plan seen (if_here plan seen v (entry_says v (entry_of sources v)))
-    (others_if (is_here plan seen v) (entry_says v (entry_of sources v)) nothing (entry_others v (entry_of sources v)) refl)
+    (others_if (is_here plan seen v) (entry_says v (entry_of sources v)) nothing (entry_others v (entry_of sources v))
+    refl)
 
 -- what isn't said yet was given
 any_left : (p q : Atom → Bool) (xs : List Atom) → list_any p (filter q xs) ≡ true → list_any p xs ≡ true
@@ -248,10 +272,12 @@ record Up (plan : Plan) (set : List Atom) : Type 0 where
   parents : (i p : ℕ) (slot : Slot) → slice_get plan.slots i ≡ Some slot → slot.parent ≡ Some p
       → has same_atom set (Here i) ≡ true → has same_atom set (Here p) ≡ true
 
-next_up : (plan : Plan) (sources : Sources) (set : List Atom) → Up plan set → Up plan (next_round (system_of plan sources) set)
+next_up : (plan : Plan) (sources : Sources) (set : List Atom) → Up plan set
+    → Up plan (next_round (system_of plan sources) set)
 next_up plan sources set up = record {
   root = with_all_left same_atom atom_exact atom_itself set (all_given (system_of plan sources) set) (Here 0) up.root;
-  parents = λ i p slot at parent e. with_all_left same_atom atom_exact atom_itself set (all_given (system_of plan sources) set) (Here p)
+  parents = λ i p slot at parent e. with_all_left same_atom atom_exact atom_itself set
+      (all_given (system_of plan sources) set) (Here p)
       (elim (with_all_cases same_atom atom_exact atom_itself set (all_given (system_of plan sources) set) (Here i) e) [
         | inl stood ↦ up.parents i p slot at parent stood
         | inr came ↦ from_giver i p slot at parent came
@@ -261,9 +287,13 @@ next_up plan sources set up = record {
     from_giver : (i p : ℕ) (slot : Slot) → slice_get plan.slots i ≡ Some slot → slot.parent ≡ Some p
         → has same_atom (all_given (system_of plan sources) set) (Here i) ≡ true → has same_atom set (Here p) ≡ true
     from_giver i p slot at parent came =
-        let r = settling.giver_of (system_of plan sources) (system_laws plan sources) (λ g. atoms_of (gives plan sources g (seen_of set)))
+        let r
+        = settling.giver_of (system_of plan sources) (system_laws plan sources)
+        (λ g. atoms_of (gives plan sources g (seen_of set)))
         (system_of plan sources).givers (Here i) came in
-        let here = fresh_tells plan (seen_of set) (giver_says plan sources r.0 (seen_of set)) (giver_tells plan sources r.0 (seen_of set)) i r.2 in
+        let here
+        = fresh_tells plan (seen_of set) (giver_says plan sources r.0 (seen_of set))
+        (giver_tells plan sources r.0 (seen_of set)) i r.2 in
         sym (ap (λ o. is_slot_here (seen_of set) (parent_in o)) at ∙ ap (is_slot_here (seen_of set)) parent) ∙ here
 
 settled_up : (plan : Plan) (sources : Sources) (n : ℕ) (start set : List Atom) → Up plan start
@@ -279,7 +309,8 @@ settled_up plan sources (suc n) start set up ends =
   where
     step : (b c : Bool)
         → (settle (system_of plan sources) n (next_round (system_of plan sources) start) ≡ settled set → Up plan set)
-        → cond b broken (cond c (settle (system_of plan sources) n (next_round (system_of plan sources) start)) broken) ≡ settled set → Up plan set
+        → cond b broken (cond c (settle (system_of plan sources) n (next_round (system_of plan sources) start)) broken)
+        ≡ settled set → Up plan set
     step true c later e = absurd (cc e)
     step false true later e = later e
     step false false later e = absurd (cc e)

@@ -27,7 +27,8 @@ chosen_values = refl
 
 -- 5, 2.5, a text, and a value of a variable that isn't there
 other_values : map fits
-    ((Some (whole 5) ∷ []) ∷ (None ∷ Some (number (pos 2_500_000)) ∷ []) ∷ (Some (Text 1) ∷ []) ∷ (None ∷ None ∷ Some (whole 1) ∷ []) ∷ [])
+    ((Some (whole 5) ∷ []) ∷ (None ∷ Some (number (pos 2_500_000)) ∷ []) ∷ (Some (Text 1) ∷ [])
+    ∷ (None ∷ None ∷ Some (whole 1) ∷ []) ∷ [])
     ≡ false ∷ false ∷ false ∷ false ∷ []
 other_values = refl
 
@@ -38,7 +39,8 @@ any_decimals e = cc
 abbrev holds : List (List ℕ) → Bool
 holds texts = users_fit paint (record { values = []; texts = texts })
 
-texts : map holds ([] ∷ ((7 ∷ 9 ∷ []) ∷ []) ∷ ((7 ∷ 5 ∷ []) ∷ []) ∷ ([] ∷ (7 ∷ []) ∷ []) ∷ []) ≡ true ∷ true ∷ false ∷ false ∷ []
+texts : map holds ([] ∷ ((7 ∷ 9 ∷ []) ∷ []) ∷ ((7 ∷ 5 ∷ []) ∷ []) ∷ ([] ∷ (7 ∷ []) ∷ []) ∷ [])
+    ≡ true ∷ true ∷ false ∷ false ∷ []
 texts = refl
 
 any_text : holds ((7 ∷ 5 ∷ []) ∷ []) ≢ true
@@ -46,12 +48,14 @@ any_text e = cc
 
 -- to take a default away names a variable, and writes none
 written : map action_writes
-    (Assign 4 0 ∷ SetDefault 4 0 ∷ DeleteDefault 4 0 ∷ LookUp 0 [] (record { column = 1; var = 4 } ∷ record { column = 2; var = 3 } ∷ []) ∷ [])
+    (Assign 4 0 ∷ SetDefault 4 0 ∷ DeleteDefault 4 0
+    ∷ LookUp 0 [] (record { column = 1; var = 4 } ∷ record { column = 2; var = 3 } ∷ []) ∷ [])
     ≡ (4 ∷ []) ∷ (4 ∷ []) ∷ [] ∷ (4 ∷ 3 ∷ []) ∷ []
 written = refl
 
 named : map named_by
-    (Assign 4 0 ∷ SetDefault 4 0 ∷ DeleteDefault 4 0 ∷ LookUp 0 [] (record { column = 1; var = 4 } ∷ record { column = 2; var = 3 } ∷ []) ∷ [])
+    (Assign 4 0 ∷ SetDefault 4 0 ∷ DeleteDefault 4 0
+    ∷ LookUp 0 [] (record { column = 1; var = 4 } ∷ record { column = 2; var = 3 } ∷ []) ∷ [])
     ≡ (4 ∷ []) ∷ (4 ∷ []) ∷ (4 ∷ []) ∷ (4 ∷ 3 ∷ []) ∷ []
 named = refl
 
@@ -59,7 +63,8 @@ deletion_writes : action_writes (DeleteDefault 4 0) ≢ 4 ∷ []
 deletion_writes e = cc
 
 -- MACH's root may not take away the default of its drive
-own_default : map (writes_own machine) (always 1 (says (DeleteDefault 1 1) 0 ∷ []) ∷ always 0 (says (DeleteDefault 1 1) 0 ∷ []) ∷ [])
+own_default : map (writes_own machine)
+    (always 1 (says (DeleteDefault 1 1) 0 ∷ []) ∷ always 0 (says (DeleteDefault 1 1) 0 ∷ []) ∷ [])
     ≡ true ∷ false ∷ []
 own_default = refl
 
@@ -77,8 +82,12 @@ procedures plan many valid = let few = ltb-true (length plan.procedures) (2 ^ 32
 abbrev few_statements : Procedure → Bool
 few_statements procedure = nat_lt (length procedure.statements) (2 ^ 32)
 
-statements : (plan : Plan) (procedure : Procedure) → plan.procedures ≡ procedure ∷ [] → 2 ^ 32 ≤ length procedure.statements → IsValid plan → ⊥
+statements : (plan : Plan) (procedure : Procedure) → plan.procedures ≡ procedure ∷ []
+    → 2 ^ 32 ≤ length procedure.statements → IsValid plan → ⊥
 statements plan procedure is many valid =
-    let all : list_all few_statements (procedure ∷ []) ≡ true = ap (list_all few_statements) (sym is) ∙ valid.statement_limit in
-    let few = ltb-true (length procedure.statements) (2 ^ 32) (and_parts (few_statements procedure) (list_all few_statements []) all).0 in
+    let all : list_all few_statements (procedure ∷ []) ≡ true
+    = ap (list_all few_statements) (sym is) ∙ valid.statement_limit in
+    let few
+    = ltb-true (length procedure.statements) (2 ^ 32)
+    (and_parts (few_statements procedure) (list_all few_statements []) all).0 in
     omega arith

@@ -26,7 +26,8 @@ abbrev pub gear : Plan
 gear = record empty {
   domains = Nums 1 (from_to 0 100 ∷ []) ∷ Nums 1 (from_to 0 1000 ∷ []) ∷ [];
   slots = root ∷ part 0 ∷ part 1 ∷ part 2 ∷ [];
-  vars = record { slot = 0; characteristic = 1; domain = 1; restrictable = false } ∷ weight 1 ∷ weight 2 ∷ weight 3 ∷ [];
+  vars = record { slot = 0; characteristic = 1; domain = 1; restrictable = false } ∷ weight 1 ∷ weight 2 ∷ weight 3
+      ∷ [];
   terms = Literal (whole 1) ∷ Literal (whole 2) ∷ PartSum 0 0 ∷ PartCount 0 ∷ [];
   rules = last 0 ∷ last 1 ∷ last 2 ∷ last 3 ∷ own_rule 0 (Line 1) ∷ own_rule 0 (Line 2) ∷ own_rule 0 (Line 3) ∷ [];
   procedures = always 0 (says (Assign 0 2) 0 ∷ []) ∷ [];
@@ -43,11 +44,13 @@ two_weights = refl
 
 -- 1 times 2.5, 2 times 3 and 1 times 4
 three_weights : ends_at gear (chosen (None ∷ Some two_and_a_half ∷ Some (whole 3) ∷ Some (whole 4) ∷ []))
-    (Here 0 ∷ Here 1 ∷ Here 2 ∷ Here 3 ∷ Is 1 two_and_a_half ∷ Is 2 (whole 3) ∷ Is 3 (whole 4) ∷ Is 0 (number (pos 12_500_000)) ∷ []) ≡ true
+    (Here 0 ∷ Here 1 ∷ Here 2 ∷ Here 3 ∷ Is 1 two_and_a_half ∷ Is 2 (whole 3) ∷ Is 3 (whole 4)
+    ∷ Is 0 (number (pos 12_500_000)) ∷ []) ≡ true
 three_weights = refl
 
 without_quantities : ends_at gear (chosen (None ∷ Some two_and_a_half ∷ Some (whole 3) ∷ Some (whole 4) ∷ []))
-    (Here 0 ∷ Here 1 ∷ Here 2 ∷ Here 3 ∷ Is 1 two_and_a_half ∷ Is 2 (whole 3) ∷ Is 3 (whole 4) ∷ Is 0 (number (pos 9_500_000)) ∷ []) ≢ true
+    (Here 0 ∷ Here 1 ∷ Here 2 ∷ Here 3 ∷ Is 1 two_and_a_half ∷ Is 2 (whole 3) ∷ Is 3 (whole 4)
+    ∷ Is 0 (number (pos 9_500_000)) ∷ []) ≢ true
 without_quantities e = cc
 
 -- the count of parts is the sum of their quantities
@@ -57,7 +60,14 @@ counted = refl
 
 -- a line of the bill, of this level, slot and number, with a whole quantity
 abbrev row : ℕ → ℕ → ℕ → ℕ → BillLine
-row level slot n quantity = record { level = level; slot = slot; line = n; quantity = Some (record { millionths = pos (quantity * 1_000_000) }) }
+row level slot n quantity =
+    record {
+      level = level;
+      slot = slot;
+      line = n;
+      quantity =
+          Some (record { millionths = pos (quantity * 1_000_000) });
+    }
 
 three_lines : bill gear (chosen []) ≡ row 1 0 0 1 ∷ row 1 0 1 2 ∷ row 1 0 2 1 ∷ []
 three_lines = refl

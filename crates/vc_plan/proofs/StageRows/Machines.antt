@@ -27,21 +27,24 @@ machine = record empty {
 }
 
 -- the drive is a line of the bill exactly where it is here
-driven : bill machine (chosen (Some (Text 0) ∷ [])) ≡ record { level = 1; slot = 0; line = 0; quantity = Some (record { millionths = pos 1_000_000 }) } ∷ []
+driven : bill machine (chosen (Some (Text 0) ∷ []))
+    ≡ record { level = 1; slot = 0; line = 0; quantity = Some (record { millionths = pos 1_000_000 }) } ∷ []
 driven = refl
 
 nobody_asked : bill machine (chosen []) ≡ []
 nobody_asked = refl
 
 -- a configurable line has its condition in its slot's rule, and none beside it
-taken_anyway : bill machine (chosen (Some (Text 1) ∷ [])) ≢ record { level = 1; slot = 0; line = 0; quantity = Some (record { millionths = pos 1_000_000 }) } ∷ []
+taken_anyway : bill machine (chosen (Some (Text 1) ∷ [])) ≢
+    record { level = 1; slot = 0; line = 0; quantity = Some (record { millionths = pos 1_000_000 }) } ∷ []
 taken_anyway e = cc
 
 -- a value at a slot that isn't here sleeps
 sleeping : ends_at machine (chosen (Some (Text 1) ∷ Some (Text 2) ∷ [])) (Here 0 ∷ Is 0 (Text 1) ∷ []) ≡ true
 sleeping = refl
 
-awake : ends_at machine (chosen (Some (Text 0) ∷ Some (Text 2) ∷ [])) (Here 0 ∷ Is 0 (Text 0) ∷ Here 1 ∷ Is 1 (Text 2) ∷ []) ≡ true
+awake : ends_at machine (chosen (Some (Text 0) ∷ Some (Text 2) ∷ []))
+    (Here 0 ∷ Is 0 (Text 0) ∷ Here 1 ∷ Is 1 (Text 2) ∷ []) ≡ true
 awake = refl
 
 -- the drive's procedure sets its power, one stage after the root's
@@ -65,7 +68,8 @@ in_time_runs = refl
 abbrev pub two_drives : Plan
 two_drives = record empty {
   domains = Texts (0 ∷ 1 ∷ []) ∷ Texts (2 ∷ 3 ∷ []) ∷ [];
-  slots = root ∷ record { parent = Some 0; depth = 1; object = 1; line = 0 } ∷ record { parent = Some 0; depth = 1; object = 1; line = 1 } ∷ [];
+  slots = root ∷ record { parent = Some 0; depth = 1; object = 1; line = 0 }
+      ∷ record { parent = Some 0; depth = 1; object = 1; line = 1 } ∷ [];
   vars = fixed_var 0 ∷ record { slot = 1; characteristic = 1; domain = 1; restrictable = false }
       ∷ record { slot = 2; characteristic = 1; domain = 1; restrictable = false } ∷ [];
   conditions = Always ∷ Compared Equal (Read 1) (Literal (Text 2)) ∷ [];

@@ -29,7 +29,8 @@ with procedures = record empty {
   slots = root ∷ [];
   vars = fixed_var 0 ∷ fixed_var 1 ∷ fixed_var 2 ∷ [];
   sets = record { slot = 0; characteristic = 3; domain = 3 } ∷ [];
-  conditions = Always ∷ Compared Equal (Read 1) (Literal (Text 4)) ∷ Compared Equal (Read 1) (Literal (Text 3)) ∷ Filled 0 ∷ [];
+  conditions = Always ∷ Compared Equal (Read 1) (Literal (Text 4)) ∷ Compared Equal (Read 1) (Literal (Text 3))
+      ∷ Filled 0 ∷ [];
   terms = Literal (Text 0) ∷ Literal (Text 2) ∷ Literal (whole 1) ∷ Literal (Text 9) ∷ [];
   rules = last 0 ∷ last 1 ∷ last 2 ∷ [];
   procedures = procedures;
@@ -50,7 +51,8 @@ mode a = chosen (None ∷ a ∷ [])
 start : ends_at paint (color None) (Here 0 ∷ Is 0 (Text 0) ∷ []) ≡ true
 start = refl
 
-start_entry : entry_for paint (color None) 0 ≡ Some (record { mark = Held (Text 0); hard = false; procedure = 0; statement = 0 })
+start_entry : entry_for paint (color None) 0
+    ≡ Some (record { mark = Held (Text 0); hard = false; procedure = 0; statement = 0 })
 start_entry = refl
 
 -- the user's color takes the default's place: none is entered where the color is known
@@ -67,7 +69,8 @@ blue_breaks e = cc
 mode_h : ends_at paint (mode (Some (Text 3))) (Here 0 ∷ Is 1 (Text 3) ∷ Is 0 (Text 2) ∷ []) ≡ true
 mode_h = refl
 
-mode_h_entry : entry_for paint (mode (Some (Text 3))) 0 ≡ Some (record { mark = Held (Text 2); hard = true; procedure = 1; statement = 0 })
+mode_h_entry : entry_for paint (mode (Some (Text 3))) 0
+    ≡ Some (record { mark = Held (Text 2); hard = true; procedure = 1; statement = 0 })
 mode_h_entry = refl
 
 stays_red : ends_at paint (mode (Some (Text 3))) (Here 0 ∷ Is 1 (Text 3) ∷ Is 0 (Text 0) ∷ []) ≢ true
@@ -98,7 +101,8 @@ unknown_violates e = cc
 no_stripe : bill paint (color None) ≡ []
 no_stripe = refl
 
-stripe : bill paint (mode (Some (Text 4))) ≡ record { level = 1; slot = 0; line = 0; quantity = Some (record { millionths = pos 1_000_000 }) } ∷ []
+stripe : bill paint (mode (Some (Text 4)))
+    ≡ record { level = 1; slot = 0; line = 0; quantity = Some (record { millionths = pos 1_000_000 }) } ∷ []
 stripe = refl
 
 -- a hard value that isn't in the list stands outside, and breaks the stage
@@ -113,17 +117,21 @@ default_outside : breaks_at (with (always 0 (says (SetDefault 0 3) 0 ∷ []) ∷
 default_outside = refl
 
 -- a default is deleted by its value, and stays with another
-deleted : entry_for (with (always 0 (says (SetDefault 0 0) 0 ∷ says (DeleteDefault 0 0) 0 ∷ []) ∷ [])) (color None) 0 ≡ None
+deleted : entry_for (with (always 0 (says (SetDefault 0 0) 0 ∷ says (DeleteDefault 0 0) 0 ∷ []) ∷ [])) (color None) 0
+    ≡ None
 deleted = refl
 
-kept : ends_at (with (always 0 (says (SetDefault 0 0) 0 ∷ says (DeleteDefault 0 1) 0 ∷ []) ∷ [])) (color None) (Here 0 ∷ Is 0 (Text 0) ∷ []) ≡ true
+kept : ends_at (with (always 0 (says (SetDefault 0 0) 0 ∷ says (DeleteDefault 0 1) 0 ∷ []) ∷ [])) (color None)
+    (Here 0 ∷ Is 0 (Text 0) ∷ []) ≡ true
 kept = refl
 
-hard_stays : entry_for (with (always 0 (says (Assign 0 0) 0 ∷ says (DeleteDefault 0 0) 0 ∷ []) ∷ [])) (color None) 0 ≢ None
+hard_stays : entry_for (with (always 0 (says (Assign 0 0) 0 ∷ says (DeleteDefault 0 0) 0 ∷ []) ∷ [])) (color None) 0 ≢
+    None
 hard_stays e = cc
 
 -- a default doesn't take the place of a hard entry
-over_hard : ends_at (with (always 0 (says (Assign 0 1) 0 ∷ says (SetDefault 0 0) 0 ∷ []) ∷ [])) (color None) (Here 0 ∷ Is 0 (Text 2) ∷ []) ≡ true
+over_hard : ends_at (with (always 0 (says (Assign 0 1) 0 ∷ says (SetDefault 0 0) 0 ∷ []) ∷ [])) (color None)
+    (Here 0 ∷ Is 0 (Text 2) ∷ []) ≡ true
 over_hard = refl
 
 -- a value's procedure runs by what stands when its turn comes
@@ -135,7 +143,9 @@ runs_at_once : breaks_at by_value (color None) ≡ Some 1
 runs_at_once = refl
 
 -- an empty set isn't filled
-nothing_chosen : status (record paint { guards = record { at = Set 0; value = None; dependency = 0; condition = 1 } ∷ [] }) (mode (Some (Text 3))) ≡ Some Complete
+nothing_chosen : status
+    (record paint { guards = record { at = Set 0; value = None; dependency = 0; condition = 1 } ∷ [] })
+    (mode (Some (Text 3))) ≡ Some Complete
 nothing_chosen = refl
 
 -- a text chosen at a characteristic that is hidden

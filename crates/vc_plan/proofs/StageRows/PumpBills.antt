@@ -22,13 +22,20 @@ abbrev machine : Box (Unit {0}) Global → Plan
 machine p = record pump {
   characteristics = record { name = []; unit = None; required = true; list = Texts (0 ∷ 1 ∷ 2 ∷ []) } ∷ [];
   conditions = Always ∷ Compared Equal (Read 0) (Literal (Text 2)) ∷ [];
-  terms = Literal (whole 1) ∷ Literal (whole 2) ∷ Joined' Plus p (Literal (whole 15)) p (Joined' Over p (Read 2) p (Literal (whole 2))) ∷ [];
+  terms = Literal (whole 1) ∷ Literal (whole 2)
+      ∷ Joined' Plus p (Literal (whole 15)) p (Joined' Over p (Read 2) p (Literal (whole 2))) ∷ [];
   lines = line 0 0 [] ∷ line 0 1 (record { dependency = 1; condition = 1 } ∷ []) ∷ [];
   operations = record { slot = 0; number = 10; name = []; unit = []; time = 2; selections = [] } ∷ [];
 }
 
 abbrev row : ℕ → ℕ → BillLine
-row n quantity = record { level = 1; slot = 0; line = n; quantity = Some (record { millionths = pos (quantity * 1_000_000) }) }
+row n quantity = record {
+  level = 1;
+  slot = 0;
+  line = n;
+  quantity =
+      Some (record { millionths = pos (quantity * 1_000_000) });
+}
 
 without_size : (p : Box (Unit {0}) Global) → bill (machine p) (chosen []) ≡ row 0 1 ∷ []
 without_size p = refl
@@ -40,11 +47,13 @@ small : (p : Box (Unit {0}) Global) → bill (machine p) (chosen (Some (Text 0) 
 small p e = cc
 
 -- an operation stands in the routing with or without its time
-no_time : (p : Box (Unit {0}) Global) → routing (machine p) (chosen []) ≡ record { slot = 0; operation = 0; time = None } ∷ []
+no_time : (p : Box (Unit {0}) Global)
+    → routing (machine p) (chosen []) ≡ record { slot = 0; operation = 0; time = None } ∷ []
 no_time p = refl
 
 with_flow : (p : Box (Unit {0}) Global)
-    → routing (machine p) (chosen (None ∷ None ∷ Some (whole 5) ∷ [])) ≡ record { slot = 0; operation = 0; time = Some (record { millionths = pos 17_500_000 }) } ∷ []
+    → routing (machine p) (chosen (None ∷ None ∷ Some (whole 5) ∷ []))
+    ≡ record { slot = 0; operation = 0; time = Some (record { millionths = pos 17_500_000 }) } ∷ []
 with_flow p = refl
 
 -- SIZE is asked for as long as it has no value
@@ -67,15 +76,18 @@ looked_up = record empty {
   vars = fixed_var 0 ∷ fixed_var 1 ∷ [];
   terms = Read 0 ∷ [];
   rules = last 0 ∷ last 1 ∷ [];
-  procedures = always 0 (says (LookUp 0 (record { column = 0; term = 0 } ∷ []) (record { column = 1; var = 1 } ∷ [])) 0 ∷ []) ∷ [];
+  procedures = always 0
+      (says (LookUp 0 (record { column = 0; term = 0 } ∷ []) (record { column = 1; var = 1 } ∷ [])) 0 ∷ []) ∷ [];
 }
 
-found : entry_for looked_up (chosen (Some (Text 0) ∷ [])) 1 ≡ Some (record { mark = Held (Text 2); hard = true; procedure = 0; statement = 0 })
+found : entry_for looked_up (chosen (Some (Text 0) ∷ [])) 1
+    ≡ Some (record { mark = Held (Text 2); hard = true; procedure = 0; statement = 0 })
 found = refl
 
 not_found : entry_for looked_up (chosen (Some (Text 1) ∷ [])) 1 ≡ None
 not_found = refl
 
 -- without a key nothing is looked up, not even in the only row
-no_key : entry_for looked_up (chosen []) 1 ≢ Some (record { mark = Held (Text 2); hard = true; procedure = 0; statement = 0 })
+no_key : entry_for looked_up (chosen []) 1 ≢ Some
+    (record { mark = Held (Text 2); hard = true; procedure = 0; statement = 0 })
 no_key e = cc

@@ -27,7 +27,8 @@ use Rattle.vc_plan.proofs.PlanRows.Models.{from_to}
 use Rattle.vc_plan.proofs.StageRows.Machines.{machine}
 use Rattle.vc_plan.proofs.StageRows.StageModels.{chosen, line}
 
--- MACH, whose drive has POWER, and options as set 0; DRIVEN, POWER and the options may be marked as required. Condition 1 is
+-- MACH, whose drive has POWER, and options as set 0; DRIVEN, POWER and the options may be marked as required. Condition
+-- 1 is
 -- that DRIVEN is Y, condition 2 that it is N, condition 3 that POWER is P1
 abbrev of_list : Bool → List ℕ → Characteristic
 of_list required texts = record { name = []; unit = None; required = required; list = Texts texts }
@@ -123,7 +124,8 @@ abbrev hides : Guard → List Bool
 hides g =
     let plan = guarded false false (g ∷ []) in
     let reading = reading_of plan with_drive (seen_of (Here 0 ∷ Is 0 (Text 0) ∷ Here 1 ∷ [])) in
-    is_hidden plan reading (Var 1) ∷ is_value_hidden plan reading (Var 1) (OneText 2) ∷ is_value_hidden plan reading (Var 1) (OneText 3)
+    is_hidden plan reading (Var 1) ∷ is_value_hidden plan reading (Var 1) (OneText 2)
+    ∷ is_value_hidden plan reading (Var 1) (OneText 3)
     ∷ is_value_hidden plan reading (Var 0) (OneText 2) ∷ is_hidden plan reading (Set 0) ∷ []
 
 by_value : hides (guard (Var 1) (Some (OneText 2)) 0 2) ≡ false ∷ true ∷ false ∷ false ∷ false ∷ []
@@ -141,17 +143,20 @@ hides_grain grain =
     let plan = guarded false false (guard (Var 1) (Some (Stretch (from_to 1 5))) 0 2 ∷ []) in
     is_value_hidden plan (reading_of plan with_drive (seen_of (Here 0 ∷ Is 0 (Text 0) ∷ Here 1 ∷ []))) (Var 1) grain
 
-of_interval : map hides_grain (Stretch (from_to 1 2) ∷ Stretch (from_to 3 5) ∷ Stretch (from_to 6 9) ∷ []) ≡ true ∷ true ∷ false ∷ []
+of_interval : map hides_grain (Stretch (from_to 1 2) ∷ Stretch (from_to 3 5) ∷ Stretch (from_to 6 9) ∷ [])
+    ≡ true ∷ true ∷ false ∷ []
 of_interval = refl
 
 -- violated is what is violated at a slot that is here: the option that the user chose sleeps
 sleeping_option : status (guarded false false (guard (Set 0) None 0 1 ∷ [])) (option without) ≡ Some Complete
 sleeping_option = refl
 
-sleeping_violates : status (guarded false false (guard (Set 0) None 0 1 ∷ [])) (option without) ≢ Some (Contradiction (HiddenSet 0 0))
+sleeping_violates : status (guarded false false (guard (Set 0) None 0 1 ∷ [])) (option without) ≢ Some
+    (Contradiction (HiddenSet 0 0))
 sleeping_violates e = cc
 
-awake_option : status (guarded false false (guard (Set 0) None 0 2 ∷ [])) (option with_drive) ≡ Some (Contradiction (HiddenSet 0 0))
+awake_option : status (guarded false false (guard (Set 0) None 0 2 ∷ [])) (option with_drive)
+    ≡ Some (Contradiction (HiddenSet 0 0))
 awake_option = refl
 
 -- of a set's text: the one that is chosen, and not another
@@ -159,12 +164,14 @@ chosen_text : status (guarded false false (guard (Set 0) (Some (OneText 7)) 0 2 
     ≡ Some (Contradiction (HiddenSet 0 0))
 chosen_text = refl
 
-other_text : status (guarded false false (guard (Set 0) (Some (OneText 8)) 0 2 ∷ [])) (option with_drive) ≡ Some Complete
+other_text : status (guarded false false (guard (Set 0) (Some (OneText 8)) 0 2 ∷ [])) (option with_drive)
+    ≡ Some Complete
 other_text = refl
 
 -- of two the first is named, and it comes before what is asked for
 abbrev twice : Plan
-twice = guarded false true (guard (Var 1) (Some (OneText 3)) 4 2 ∷ guard (Var 1) None 5 2 ∷ guard (Var 1) (Some (OneText 2)) 6 2 ∷ [])
+twice = guarded false true
+    (guard (Var 1) (Some (OneText 3)) 4 2 ∷ guard (Var 1) None 5 2 ∷ guard (Var 1) (Some (OneText 2)) 6 2 ∷ [])
 
 first_violated : status twice (chosen (Some (Text 0) ∷ Some (Text 2) ∷ [])) ≡ Some (Contradiction (Hidden 5 1))
 first_violated = refl
@@ -185,7 +192,8 @@ selected_by condition = record { dependency = 0; condition = condition }
 abbrev operating : Plan
 operating = record (drive false false) {
   operations =
-      operation 0 [] ∷ operation 0 (selected_by 2 ∷ selected_by 1 ∷ []) ∷ operation 1 (selected_by 3 ∷ []) ∷ operation 1 [] ∷ [];
+      operation 0 [] ∷ operation 0 (selected_by 2 ∷ selected_by 1 ∷ []) ∷ operation 1 (selected_by 3 ∷ [])
+      ∷ operation 1 [] ∷ [];
 }
 
 abbrev operations_with : Users → List ℕ

@@ -60,4 +60,5 @@ always slot statements = record { slot = slot; dependency = 0; trigger = Anyway;
 
 -- a line of a slot
 abbrev pub line : ℕ → ℕ → List Selection → Line
-line slot quantity selections = record { slot = slot; item = 10; material = []; unit = []; quantity = quantity; selections = selections }
+line slot quantity selections =
+    record { slot = slot; item = 10; material = []; unit = []; quantity = quantity; selections = selections }

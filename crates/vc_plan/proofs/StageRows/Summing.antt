@@ -33,10 +33,12 @@ counts = Compared Greater (Literal (whole 3)) (PartCount 0)
 abbrev asking : Box (Unit {0}) Global → Plan
 asking p = record gear {
   terms =
-      Literal (whole 1) ∷ PartSum 0 0 ∷ PartCount 0 ∷ Applied' Abs p (PartCount 0) ∷ Joined' Plus p (Literal (whole 1)) p (PartSum 0 0)
+      Literal (whole 1) ∷ PartSum 0 0 ∷ PartCount 0 ∷ Applied' Abs p (PartCount 0)
+      ∷ Joined' Plus p (Literal (whole 1)) p (PartSum 0 0)
       ∷ [];
   conditions =
-      Always ∷ Specified 0 ∷ counts ∷ Not' p counts ∷ And' p Always p counts ∷ And' p counts p Always ∷ Or' p Always p counts
+      Always ∷ Specified 0 ∷ counts ∷ Not' p counts ∷ And' p Always p counts ∷ And' p counts p Always
+      ∷ Or' p Always p counts
       ∷ Or' p counts p Always ∷ [];
 }
 
@@ -44,11 +46,13 @@ abbrev sums : Box (Unit {0}) Global → List Statement → Bool
 sums p statements = is_summing (asking p) (always 0 statements)
 
 abbrev by_key : ℕ → Action
-by_key term = LookUp 0 (record { column = 0; term = 0 } ∷ record { column = 1; term = term } ∷ []) (record { column = 2; var = 0 } ∷ [])
+by_key term = LookUp 0 (record { column = 0; term = 0 } ∷ record { column = 1; term = term } ∷ [])
+    (record { column = 2; var = 0 } ∷ [])
 
 -- a procedure is a summing one by a sum in a term of any statement, under a function or in a join
 assigned : (p : Box (Unit {0}) Global)
-    → map (λ term. sums p (says (Assign 0 term) 0 ∷ [])) (0 ∷ 1 ∷ 2 ∷ 3 ∷ 4 ∷ []) ≡ false ∷ true ∷ true ∷ true ∷ true ∷ []
+    → map (λ term. sums p (says (Assign 0 term) 0 ∷ [])) (0 ∷ 1 ∷ 2 ∷ 3 ∷ 4 ∷ [])
+    ≡ false ∷ true ∷ true ∷ true ∷ true ∷ []
 assigned p = refl
 
 defaulted : (p : Box (Unit {0}) Global)
@@ -60,7 +64,8 @@ deleted : (p : Box (Unit {0}) Global)
 deleted p = refl
 
 -- in a later key of a table, and in an IF
-looked_up : (p : Box (Unit {0}) Global) → map (λ term. sums p (says (by_key term) 0 ∷ [])) (0 ∷ 1 ∷ 2 ∷ []) ≡ false ∷ true ∷ true ∷ []
+looked_up : (p : Box (Unit {0}) Global)
+    → map (λ term. sums p (says (by_key term) 0 ∷ [])) (0 ∷ 1 ∷ 2 ∷ []) ≡ false ∷ true ∷ true ∷ []
 looked_up p = refl
 
 asked : (p : Box (Unit {0}) Global)
@@ -95,7 +100,8 @@ absent_part : ends_at waiting two_weights
     (Here 0 ∷ Here 1 ∷ Here 2 ∷ Is 1 two_and_a_half ∷ Is 2 (whole 3) ∷ Is 0 (number (pos 8_500_000)) ∷ []) ≡ true
 absent_part = refl
 
-absent_misses : ends_at waiting two_weights (Here 0 ∷ Here 1 ∷ Here 2 ∷ Is 1 two_and_a_half ∷ Is 2 (whole 3) ∷ []) ≢ true
+absent_misses : ends_at waiting two_weights (Here 0 ∷ Here 1 ∷ Here 2 ∷ Is 1 two_and_a_half ∷ Is 2 (whole 3) ∷ []) ≢
+    true
 absent_misses e = cc
 
 -- and whose third part has no weight: it counts, and isn't summed
@@ -110,7 +116,8 @@ weightless term = record gear {
 }
 
 no_weight : ends_at (weightless 2) two_weights
-    (Here 0 ∷ Here 1 ∷ Here 2 ∷ Here 3 ∷ Is 1 two_and_a_half ∷ Is 2 (whole 3) ∷ Is 0 (number (pos 8_500_000)) ∷ []) ≡ true
+    (Here 0 ∷ Here 1 ∷ Here 2 ∷ Here 3 ∷ Is 1 two_and_a_half ∷ Is 2 (whole 3) ∷ Is 0 (number (pos 8_500_000)) ∷ [])
+    ≡ true
 no_weight = refl
 
 no_weight_misses : entry_for (weightless 2) two_weights 0 ≢ None
@@ -189,7 +196,8 @@ in_time : entry_for (record late_sum { procedures = always 1 (says (Assign 1 3) 
 in_time e = cc
 
 -- stage 0 is the user's, each level has one, and the last is for sums
-last_stages : (last_stage (record empty { slots = root ∷ [] }) ≡ 2) × (last_stage gear ≡ 3) × (last_stage three_levels ≡ 4)
+last_stages : (last_stage (record empty { slots = root ∷ [] }) ≡ 2) × (last_stage gear ≡ 3)
+    × (last_stage three_levels ≡ 4)
 last_stages = (refl, refl, refl)
 
 by_level : last_stage gear ≢ 2

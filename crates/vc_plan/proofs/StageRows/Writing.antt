@@ -23,12 +23,15 @@ use Rattle.vc_plan.specs.Writes.{depth_writes}
 use Rattle.vc_plan.proofs.PlanRows.Models.{empty, fixed_var, from_to, number, root, table_of, three_grains, whole}
 use Rattle.vc_plan.proofs.StageRows.StageModels.{always, says}
 
--- variable 0 is COLOR and variable 1 is SHADE, each RED 0, BLUE 1 or GREEN 2; variable 2 is LEVEL, with the grains 1, 2 .. 3
--- and 4; variable 3 is RATE, from 0 to 9 with one decimal; set 0 is OPT. Conditions 1 and 2 ask whether SHADE has no value and
+-- variable 0 is COLOR and variable 1 is SHADE, each RED 0, BLUE 1 or GREEN 2; variable 2 is LEVEL, with the grains 1, 2
+-- .. 3
+-- and 4; variable 3 is RATE, from 0 to 9 with one decimal; set 0 is OPT. Conditions 1 and 2 ask whether SHADE has no
+-- value and
 -- COLOR has one. The table has the row 1, 2.5
 abbrev with : Box (Unit {0}) Global → List Procedure → Plan
 with p procedures = record empty {
-  domains = Texts (0 ∷ 1 ∷ 2 ∷ []) ∷ Texts (0 ∷ 1 ∷ 2 ∷ []) ∷ three_grains ∷ Nums 1 (from_to 0 9 ∷ []) ∷ Texts (7 ∷ 8 ∷ []) ∷ [];
+  domains = Texts (0 ∷ 1 ∷ 2 ∷ []) ∷ Texts (0 ∷ 1 ∷ 2 ∷ []) ∷ three_grains ∷ Nums 1 (from_to 0 9 ∷ [])
+      ∷ Texts (7 ∷ 8 ∷ []) ∷ [];
   tables = table_of ((whole 1 ∷ number (pos 2_500_000) ∷ []) ∷ []) ∷ [];
   slots = root ∷ [];
   vars = fixed_var 0 ∷ fixed_var 1 ∷ fixed_var 2 ∷ fixed_var 3 ∷ [];
@@ -36,7 +39,8 @@ with p procedures = record empty {
   conditions = Always ∷ Not' p (Specified 1) ∷ Specified 0 ∷ [];
   terms =
       Literal (Text 0) ∷ Literal (Text 2) ∷ Literal (Text 7) ∷ Read 0 ∷ Literal (number (pos 2_550_000))
-      ∷ Literal (number (pos 4_400_000)) ∷ Literal (whole 1) ∷ Literal (number (pos 1_400_000)) ∷ Literal (whole 3) ∷ [];
+      ∷ Literal (number (pos 4_400_000)) ∷ Literal (whole 1) ∷ Literal (number (pos 1_400_000)) ∷ Literal (whole 3)
+      ∷ [];
   procedures = procedures;
 }
 
@@ -52,7 +56,8 @@ unlisted = 2
 -- what stands for a variable after the procedures, where the user put the text 7 into the set
 abbrev left_by : List Procedure → List Atom → ℕ → Box (Unit {0}) Global → Option Written
 left_by procedures set v p =
-    written_at (depth_writes (with p procedures) (λ s text. (s == 0) && (text == 7)) 0 (Here 0 ∷ set) (no_entries (with p procedures))) v
+    written_at (depth_writes (with p procedures) (λ s text. (s == 0) && (text == 7)) 0 (Here 0 ∷ set)
+    (no_entries (with p procedures))) v
 
 abbrev profile : List Statement → List Procedure
 profile statements = always 0 statements ∷ []
@@ -64,7 +69,8 @@ abbrev hard : Value → ℕ → ℕ → Option Written
 hard a procedure statement = Some (record { mark = Held a; hard = true; procedure = procedure; statement = statement })
 
 abbrev default : Value → ℕ → ℕ → Option Written
-default a procedure statement = Some (record { mark = Held a; hard = false; procedure = procedure; statement = statement })
+default a procedure statement =
+    Some (record { mark = Held a; hard = false; procedure = procedure; statement = statement })
 
 -- the text that stands, if one does; whether it is a value outside the list; and the number of its statement
 abbrev text_in : Option Written → Option ℕ
@@ -91,13 +97,15 @@ abbrev blue : List Atom
 blue = Is 0 (Text 1) ∷ []
 
 -- a default is entered where its grain is left in the stage
-default_left : (p : Box (Unit {0}) Global) → left_by (profile (says (SetDefault 0 red) 0 ∷ [])) [] 0 p ≡ default (Text 0) 0 0
+default_left : (p : Box (Unit {0}) Global)
+    → left_by (profile (says (SetDefault 0 red) 0 ∷ [])) [] 0 p ≡ default (Text 0) 0 0
 default_left p = refl
 
 default_out : (p : Box (Unit {0}) Global) → left_by (profile (says (SetDefault 0 red) 0 ∷ [])) (Out 0 0 ∷ []) 0 p ≡ None
 default_out p = refl
 
-default_listed : (p : Box (Unit {0}) Global) → left_by (profile (says (SetDefault 0 red) 0 ∷ [])) (Out 0 0 ∷ []) 0 p ≢ default (Text 0) 0 0
+default_listed : (p : Box (Unit {0}) Global)
+    → left_by (profile (says (SetDefault 0 red) 0 ∷ [])) (Out 0 0 ∷ []) 0 p ≢ default (Text 0) 0 0
 default_listed p e = cc
 
 -- a later default takes the place of an earlier one
@@ -116,7 +124,8 @@ stage_first p e = cc
 
 -- a value outside the list reads as none: by a term, by SPECIFIED and by a value's procedure
 outside : (p : Box (Unit {0}) Global)
-    → left_by (profile (says (Assign 0 unlisted) 0 ∷ [])) blue 0 p ≡ Some (record { mark = Outside; hard = true; procedure = 0; statement = 0 })
+    → left_by (profile (says (Assign 0 unlisted) 0 ∷ [])) blue 0 p
+    ≡ Some (record { mark = Outside; hard = true; procedure = 0; statement = 0 })
 outside p = refl
 
 outside_is_none : (p : Box (Unit {0}) Global)
@@ -132,7 +141,8 @@ outside_unspecified : (p : Box (Unit {0}) Global)
 outside_unspecified p = refl
 
 outside_triggers : (p : Box (Unit {0}) Global)
-    → left_by (always 0 (says (Assign 0 unlisted) 0 ∷ []) ∷ where_it_is (ValueIn 0 (OneText 1)) (says (Assign 1 red) 0 ∷ []) ∷ []) blue 1 p ≡ None
+    → left_by (always 0 (says (Assign 0 unlisted) 0 ∷ [])
+    ∷ where_it_is (ValueIn 0 (OneText 1)) (says (Assign 1 red) 0 ∷ []) ∷ []) blue 1 p ≡ None
 outside_triggers p = refl
 
 -- SPECIFIED of what has no value is False, so its NOT is True
@@ -147,37 +157,45 @@ with_color p = refl
 
 -- a value's procedure is asked for once, before its statements: the first takes its value away, and the second runs
 asked_once : (p : Box (Unit {0}) Global)
-    → left_by (where_it_is (ValueIn 0 (OneText 1)) (says (Assign 0 green) 0 ∷ says (Assign 1 red) 0 ∷ []) ∷ []) blue 1 p ≡ hard (Text 0) 0 1
+    → left_by (where_it_is (ValueIn 0 (OneText 1)) (says (Assign 0 green) 0 ∷ says (Assign 1 red) 0 ∷ []) ∷ []) blue 1 p
+    ≡ hard (Text 0) 0 1
 asked_once p = refl
 
 asked_again : (p : Box (Unit {0}) Global)
-    → left_by (where_it_is (ValueIn 0 (OneText 1)) (says (Assign 0 green) 0 ∷ says (Assign 1 red) 0 ∷ []) ∷ []) blue 1 p ≢ None
+    → left_by (where_it_is (ValueIn 0 (OneText 1)) (says (Assign 0 green) 0 ∷ says (Assign 1 red) 0 ∷ []) ∷ []) blue 1 p
+    ≢ None
 asked_again p e = cc
 
 -- it doesn't run at another value, and it does at one that stands by now
-other_value : (p : Box (Unit {0}) Global) → left_by (where_it_is (ValueIn 0 (OneText 2)) (says (Assign 1 red) 0 ∷ []) ∷ []) blue 1 p ≡ None
+other_value : (p : Box (Unit {0}) Global)
+    → left_by (where_it_is (ValueIn 0 (OneText 2)) (says (Assign 1 red) 0 ∷ []) ∷ []) blue 1 p ≡ None
 other_value p = refl
 
 by_now : (p : Box (Unit {0}) Global)
-    → left_by (always 0 (says (Assign 0 green) 0 ∷ []) ∷ where_it_is (ValueIn 0 (OneText 2)) (says (Assign 1 red) 0 ∷ []) ∷ []) blue 1 p
+    → left_by (always 0 (says (Assign 0 green) 0 ∷ [])
+    ∷ where_it_is (ValueIn 0 (OneText 2)) (says (Assign 1 red) 0 ∷ []) ∷ []) blue 1 p
     ≡ hard (Text 0) 1 0
 by_now p = refl
 
 -- a set's runs where the set has its text
-by_text : (p : Box (Unit {0}) Global) → left_by (where_it_is (TextIn 0 7) (says (Assign 1 red) 0 ∷ []) ∷ []) [] 1 p ≡ hard (Text 0) 0 0
+by_text : (p : Box (Unit {0}) Global)
+    → left_by (where_it_is (TextIn 0 7) (says (Assign 1 red) 0 ∷ []) ∷ []) [] 1 p ≡ hard (Text 0) 0 0
 by_text p = refl
 
-by_other_text : (p : Box (Unit {0}) Global) → left_by (where_it_is (TextIn 0 8) (says (Assign 1 red) 0 ∷ []) ∷ []) [] 1 p ≡ None
+by_other_text : (p : Box (Unit {0}) Global)
+    → left_by (where_it_is (TextIn 0 8) (says (Assign 1 red) 0 ∷ []) ∷ []) [] 1 p ≡ None
 by_other_text p = refl
 
-by_any_text : (p : Box (Unit {0}) Global) → left_by (where_it_is (TextIn 0 8) (says (Assign 1 red) 0 ∷ []) ∷ []) [] 1 p ≢ hard (Text 0) 0 0
+by_any_text : (p : Box (Unit {0}) Global)
+    → left_by (where_it_is (TextIn 0 8) (says (Assign 1 red) 0 ∷ []) ∷ []) [] 1 p ≢ hard (Text 0) 0 0
 by_any_text p e = cc
 
 -- entries are rounded: 2.55 to 3 and to 2.6
 rounded_level : (p : Box (Unit {0}) Global) → left_by (profile (says (Assign 2 4) 0 ∷ [])) [] 2 p ≡ hard (whole 3) 0 0
 rounded_level p = refl
 
-rounded_rate : (p : Box (Unit {0}) Global) → left_by (profile (says (Assign 3 4) 0 ∷ [])) [] 3 p ≡ hard (number (pos 2_600_000)) 0 0
+rounded_rate : (p : Box (Unit {0}) Global)
+    → left_by (profile (says (Assign 3 4) 0 ∷ [])) [] 3 p ≡ hard (number (pos 2_600_000)) 0 0
 rounded_rate p = refl
 
 unrounded : (p : Box (Unit {0}) Global)
@@ -185,7 +203,8 @@ unrounded : (p : Box (Unit {0}) Global)
 unrounded p e = cc
 
 -- a default before it is looked for: 4.4 is 4
-rounded_default : (p : Box (Unit {0}) Global) → left_by (profile (says (SetDefault 2 5) 0 ∷ [])) [] 2 p ≡ default (whole 4) 0 0
+rounded_default : (p : Box (Unit {0}) Global)
+    → left_by (profile (says (SetDefault 2 5) 0 ∷ [])) [] 2 p ≡ default (whole 4) 0 0
 rounded_default p = refl
 
 unrounded_default : (p : Box (Unit {0}) Global) → left_by (profile (says (SetDefault 2 5) 0 ∷ [])) [] 2 p ≢ None
@@ -202,19 +221,23 @@ unrounded_deletion p e = cc
 
 -- a look-up compares its key as it is, and rounds what it enters
 looked_up : (p : Box (Unit {0}) Global)
-    → left_by (profile (says (LookUp 0 (record { column = 0; term = 6 } ∷ []) (record { column = 1; var = 2 } ∷ [])) 0 ∷ [])) [] 2 p
+    → left_by (profile (says (LookUp 0 (record { column = 0; term = 6 } ∷ []) (record { column = 1; var = 2 } ∷ [])) 0
+    ∷ [])) [] 2 p
     ≡ hard (whole 3) 0 0
 looked_up p = refl
 
 key_unrounded : (p : Box (Unit {0}) Global)
-    → left_by (profile (says (LookUp 0 (record { column = 0; term = 7 } ∷ []) (record { column = 1; var = 2 } ∷ [])) 0 ∷ [])) [] 2 p ≡ None
+    → left_by (profile (says (LookUp 0 (record { column = 0; term = 7 } ∷ []) (record { column = 1; var = 2 } ∷ [])) 0
+    ∷ [])) [] 2 p ≡ None
 key_unrounded p = refl
 
 -- entries name their procedure and statement, both numbered from 0
 second_statement : (p : Box (Unit {0}) Global)
-    → left_by (always 0 [] ∷ always 0 (says (Assign 0 red) 0 ∷ says (Assign 1 red) 0 ∷ []) ∷ []) [] 1 p ≡ hard (Text 0) 1 1
+    → left_by (always 0 [] ∷ always 0 (says (Assign 0 red) 0 ∷ says (Assign 1 red) 0 ∷ []) ∷ []) [] 1 p
+    ≡ hard (Text 0) 1 1
 second_statement p = refl
 
 first_statement : (p : Box (Unit {0}) Global)
-    → statement_in (left_by (always 0 [] ∷ always 0 (says (Assign 0 red) 0 ∷ says (Assign 1 red) 0 ∷ []) ∷ []) [] 1 p) ≢ Some 0
+    → statement_in (left_by (always 0 [] ∷ always 0 (says (Assign 0 red) 0 ∷ says (Assign 1 red) 0 ∷ []) ∷ []) [] 1 p) ≢
+    Some 0
 first_statement p e = cc

@@ -1,6 +1,7 @@
 -- Where settling is broken, an accepted list grows until a clash refutes: it can't end at a closed set. So each broken
 -- evaluation has a status.
-use Rattle.std.proofs.Common.{◌≡◌, ℕ, zero, suc, ◌+◌, ◌<◌, ◌≤◌, true, false, List, [], ◌∷◌, ◌++◌, length, refl, sym, ◌∙◌, ap, subst, inl, inr, arith}
+use Rattle.std.proofs.Common.{◌≡◌, ℕ, zero, suc, ◌+◌, ◌<◌, ◌≤◌, true, false, List, [], ◌∷◌, ◌++◌, length, refl, sym}
+use Rattle.std.proofs.Common.{◌∙◌, ap, subst, inl, inr, arith}
 use Rattle.std.specs.List.{IsDistinct}
 use Rattle.std.proofs.lemmas.Bool.{and_parts, false_from_ne_true}
 use Rattle.vc_base.specs.Rounds.{Settlement, broken, settled, all_given, atoms_of, is_clash, some_clash}
@@ -18,7 +19,8 @@ use Rattle.vc_plan.specs.declared.shown.Status.TheVariants.{Contradiction}
 use Rattle.vc_plan.specs.Clear.{are_all_out, collides, is_clear, is_exhausted, is_named}
 use Rattle.vc_plan.specs.Domains.{atom_count}
 use Rattle.vc_plan.specs.Entries.{Entries, no_entries}
-use Rattle.vc_plan.specs.Evaluate.{Evaluated, broken_at, reached, Users, between, evaluation_of, if_settled, last_set, sources_of, stages_from}
+use Rattle.vc_plan.specs.Evaluate.{Evaluated, broken_at, reached, Users, between, evaluation_of, if_settled, last_set}
+use Rattle.vc_plan.specs.Evaluate.{sources_of, stages_from}
 use Rattle.vc_plan.specs.Gives.{gives, givers_of}
 use Rattle.vc_plan.specs.Laws.{IsClosed}
 use Rattle.vc_plan.specs.Seen.{is_here, same_atom, seen_of}
@@ -54,7 +56,8 @@ root_clear plan valid =
       room = λ v. false_from_ne_true (is_exhausted plan (seen_of base) v) (λ e.
           let there : v < length plan.vars = exhausted_there plan base v e in
           let p = and_parts (is_here plan (seen_of base) v) (are_all_out plan (seen_of base) v) e in
-          let first : has same_atom base (Out v 0) ≡ true = grain_out plan base v 0 p.1 (some_grain plan v valid there) in
+          let first : has same_atom base (Out v 0) ≡ true
+          = grain_out plan base v 0 p.1 (some_grain plan v valid there) in
           no_grain v first);
     })
   where
@@ -71,7 +74,8 @@ record Grown (plan : Plan) (sources : Sources) (log : List Step) (set : List Ato
   within : Within same_atom set (set_with (concluded log))
   distinct : IsDistinct same_atom set
 
-distinct_next : (set : List Atom) (a : Atom) → IsDistinct same_atom set → has same_atom set a ≡ false → IsDistinct same_atom (a ∷ set)
+distinct_next : (set : List Atom) (a : Atom) → IsDistinct same_atom set → has same_atom set a ≡ false
+    → IsDistinct same_atom (a ∷ set)
 unfolding IsDistinct
 distinct_next set a d none = (none_from (same_atom a) set none, d)
 
@@ -105,7 +109,9 @@ module _ (plan : Plan) (sources : Sources) (valid : IsValid plan) (fit : sources
   clashing : (log : List Step) → is_accepted plan sources log ≡ true → is_clear plan (set_with (concluded log)) ≡ true
       → some_clash (system_of plan sources) (set_with (concluded log)) ≡ true → Ending plan sources
   clashing log accepts clear some =
-      let r = any_at (λ giver. is_clash (gives plan sources giver (seen_of (set_with (concluded log))))) (givers_of plan) some in
+      let r
+      = any_at (λ giver. is_clash (gives plan sources giver (seen_of (set_with (concluded log))))) (givers_of plan)
+      some in
       let b = clashes_are_blamed plan sources log r.0 fit accepts clear r.2 in
       blamed b.0 b.2
 
@@ -128,23 +134,29 @@ module _ (plan : Plan) (sources : Sources) (valid : IsValid plan) (fit : sources
       (has_first same_atom atom_exact atom_itself n.step.conclusion []) in
       elim (told (is_clear plan (set_with (concluded whole)))) [
         | inr unclear ↦
-            let settling_log : IsSettling plan sources whole = record { valid = valid; fits = fit; accepts = n.accepts } in
+            let settling_log : IsSettling plan sources whole
+            = record { valid = valid; fits = fit; accepts = n.accepts } in
             let b = unclear_is_blamed plan sources log n.step settling_log g.clear unclear in
             ends (blamed b.0 b.2)
         | inl clear ↦ goes_on n.step (record {
           accepts = n.accepts;
           clear = clear;
-          within = subst (λ xs. Within same_atom (n.step.conclusion ∷ set) (set_with xs)) (sym (concluded_next log n.step))
-              (within_cons same_atom atom_exact atom_itself n.step.conclusion set (set_with (stand ++ n.step.conclusion ∷ [])) last
-              (λ b k. has_front same_atom atom_exact atom_itself (set_with stand) (n.step.conclusion ∷ []) b (g.within b k)));
+          within = subst (λ xs. Within same_atom (n.step.conclusion ∷ set) (set_with xs))
+              (sym (concluded_next log n.step))
+              (within_cons same_atom atom_exact atom_itself n.step.conclusion set
+              (set_with (stand ++ n.step.conclusion ∷ [])) last
+              (λ b k. has_front same_atom atom_exact atom_itself (set_with stand) (n.step.conclusion ∷ []) b
+              (g.within b k)));
           distinct = distinct_next set n.step.conclusion g.distinct
               (false_from_ne_true (has same_atom set n.step.conclusion) (λ k.
-              both (subst (λ z. has same_atom (set_with stand) z ≡ true) n.concludes (g.within n.step.conclusion k)) new));
+              both (subst (λ z. has same_atom (set_with stand) z ≡ true) n.concludes (g.within n.step.conclusion k))
+              new));
         })
       ]
 
   -- a clear set without doubles is bounded, so growing ends
-  grow : (n : ℕ) (log : List Step) (set : List Atom) → Grown plan sources log set → atom_count plan < length set + n → Ending plan sources
+  grow : (n : ℕ) (log : List Step) (set : List Atom) → Grown plan sources log set → atom_count plan < length set + n
+      → Ending plan sources
   grow zero log set g more =
       let small : length set ≤ atom_count plan
       = clear_sets_are_small plan set (part_clear plan set (set_with (concluded log)) g.clear g.within) g.distinct in
@@ -158,10 +170,12 @@ module _ (plan : Plan) (sources : Sources) (valid : IsValid plan) (fit : sources
     where
       by : (given : List Atom) → all_given (system_of plan sources) (set_with (concluded log)) ≡ given
           → some_clash (system_of plan sources) (set_with (concluded log)) ≡ false
-          → ((step : Step) → Grown plan sources (log ++ step ∷ []) (step.conclusion ∷ set) → Ending plan sources) → Ending plan sources
+          → ((step : Step) → Grown plan sources (log ++ step ∷ []) (step.conclusion ∷ set) → Ending plan sources)
+          → Ending plan sources
       by [] e calm next = closing log g.clear calm e
       by (a ∷ given) e calm next =
-          onward (stepping log set a g (ap (λ xs. has same_atom xs a) e ∙ has_first same_atom atom_exact atom_itself a given))
+          onward (stepping log set a g
+          (ap (λ xs. has same_atom xs a) e ∙ has_first same_atom atom_exact atom_itself a given))
         where
           onward : Onward log set → Ending plan sources
           onward (ends end) = end
@@ -170,7 +184,8 @@ module _ (plan : Plan) (sources : Sources) (valid : IsValid plan) (fit : sources
   grown_end : Ending plan sources
   grown_end =
       grow (atom_count plan) [] base
-      (record { accepts = refl; clear = root_clear plan valid; within = λ a h. h; distinct = distinct_root }) (omega arith)
+      (record { accepts = refl; clear = root_clear plan valid; within = λ a h. h; distinct = distinct_root })
+      (omega arith)
 
 pub broken_is_blamed : BrokenIsBlamed
 broken_is_blamed plan sources valid fit e = by (grown_end plan sources valid fit)
@@ -183,12 +198,15 @@ broken_is_blamed plan sources valid fit e = by (grown_end plan sources valid fit
         absurd (cc)
 
 -- a stage that is broken is one whose sources settling breaks with
-broken_stage : (plan : Plan) (users : Users) (n : ℕ) (sets : List (List Atom)) (entries : Entries) (k : ℕ) (written : Entries)
-    → stages_from plan users n sets entries ≡ broken_at k written → settlement_of plan (sources_of users written) ≡ broken
+broken_stage : (plan : Plan) (users : Users) (n : ℕ) (sets : List (List Atom)) (entries : Entries) (k : ℕ)
+    (written : Entries)
+    → stages_from plan users n sets entries ≡ broken_at k written
+    → settlement_of plan (sources_of users written) ≡ broken
 broken_stage plan users zero sets entries k written e = by (settlement_of plan (sources_of users entries)) refl e
   where
     by : (end : Settlement Atom) → settlement_of plan (sources_of users entries) ≡ end
-        → if_settled end (broken_at (length sets) entries) (λ set. reached (sets ++ set ∷ []) entries) ≡ broken_at k written
+        → if_settled end (broken_at (length sets) entries) (λ set. reached (sets ++ set ∷ []) entries)
+        ≡ broken_at k written
         → settlement_of plan (sources_of users written) ≡ broken
     by broken q r =
         let is : entries ≡ written = cc in subst (λ z. settlement_of plan (sources_of users z) ≡ broken) is q
@@ -199,8 +217,10 @@ broken_stage plan users (suc n) sets entries k written e =
   where
     by : (end : Settlement Atom) → settlement_of plan (sources_of users entries) ≡ end
         → if_settled end (broken_at (length sets) entries)
-        (λ set. stages_from plan users n (sets ++ set ∷ []) (between plan users n sets set entries)) ≡ broken_at k written
-        → ((set : List Atom) → stages_from plan users n (sets ++ set ∷ []) (between plan users n sets set entries) ≡ broken_at k written
+        (λ set. stages_from plan users n (sets ++ set ∷ []) (between plan users n sets set entries))
+        ≡ broken_at k written
+        → ((set : List Atom)
+        → stages_from plan users n (sets ++ set ∷ []) (between plan users n sets set entries) ≡ broken_at k written
         → settlement_of plan (sources_of users written) ≡ broken)
         → settlement_of plan (sources_of users written) ≡ broken
     by broken q r next =
@@ -213,10 +233,14 @@ status_is_there plan users valid fit = by (evaluation_of plan users) refl
     by : (end : Evaluated) → evaluation_of plan users ≡ end → (status : Status) × IsStatus plan users status
     by (broken_at k entries) e =
         let fits : sources_fit plan (sources_of users entries) ≡ true
-        = ap (λ z. sources_fit plan (sources_at_end users z)) (sym e) ∙ evaluations_fit plan users valid.own_writes fit in
+        = ap (λ z. sources_fit plan (sources_at_end users z)) (sym e)
+        ∙ evaluations_fit plan users valid.own_writes fit in
         let b = broken_is_blamed plan (sources_of users entries) valid fits
-        (broken_stage plan users (last_stage plan) [] (no_entries plan) k entries e) in
-        (Contradiction b.0.culprit, subst (λ z. IsStatusAfter plan users z (Contradiction b.0.culprit)) (sym e) (b.0, b.1, refl))
+        (broken_stage plan users (last_stage plan) [] (no_entries plan) k entries e) in (
+          Contradiction b.0.culprit,
+          subst (λ z. IsStatusAfter plan users z (Contradiction b.0.culprit)) (sym e)
+              (b.0, b.1, refl),
+        )
     by (reached sets entries) e =
         let seen = seen_of (last_set plan sets) in
         let status = settled_status plan seen (reading_of plan users seen) in

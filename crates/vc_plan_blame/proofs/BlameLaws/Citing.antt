@@ -1,5 +1,6 @@
 -- What numbers cite of the conclusions of steps and of their origins, and the clash that cites them.
-use Rattle.std.proofs.Common.{◌≡◌, ℕ, zero, suc, ◌+◌, Bool, true, false, cond, not, ◌&&◌, ◌||◌, List, [], ◌∷◌, ◌++◌, map, refl, sym, ◌∙◌, ap, subst, inl, inr, arith, append_assoc}
+use Rattle.std.proofs.Common.{◌≡◌, ℕ, zero, suc, ◌+◌, Bool, true, false, cond, not, ◌&&◌, ◌||◌, List, [], ◌∷◌, ◌++◌}
+use Rattle.std.proofs.Common.{map, refl, sym, ◌∙◌, ap, subst, inl, inr, arith, append_assoc}
 use Rattle.std.specs.Prelude.{Option, None, Some, slice_get}
 use Rattle.std.specs.List.{list_all, list_any, position_or_len}
 use Rattle.std.proofs.lemmas.Bool.{and_from, not_from_false, or_right}
@@ -19,18 +20,21 @@ use Rattle.vc_plan.specs.Sources.{Sources}
 use Rattle.vc_plan.proofs.PlanLaws.Atoms.{atom_exact, atom_itself}
 use Rattle.vc_plan_reasons.specs.Checking.{concluded, follows, is_accepted, set_with, step_form}
 use Rattle.vc_plan_reasons.specs.Refuting.{contradicts, is_blamable, is_clash_at, is_collision, is_origin, set_without}
-use Rattle.vc_plan_blame.specs.Blame.{clash_by, clash_citing, clash_of, culprit_among, culprit_from, culprit_of, number_of}
+use Rattle.vc_plan_blame.specs.Blame.{clash_by, clash_citing, clash_of, culprit_among, culprit_from, culprit_of}
+use Rattle.vc_plan_blame.specs.Blame.{number_of}
 use Rattle.vc_plan_blame.specs.Laws.{Blames, CollidingIsBlamed}
 use Rattle.vc_plan_blame.proofs.BlameLaws.Colliding.{Colliding}
 use Rattle.vc_plan_blame.proofs.BlameLaws.Origins.{first_ok, first_there}
 
 -- an atom of a list by its first place
-place_found : (xs : List Atom) (a : Atom) → has same_atom xs a ≡ true → slice_get xs (position_or_len (same_atom a) xs) ≡ Some a
+place_found : (xs : List Atom) (a : Atom) → has same_atom xs a ≡ true
+    → slice_get xs (position_or_len (same_atom a) xs) ≡ Some a
 place_found [] a h = absurd (cc)
 place_found (x ∷ xs) a h =
     choice (same_atom a x) (1 + position_or_len (same_atom a) xs) (omega arith) refl h (place_found xs a)
   where
-    choice : (b : Bool) (n : ℕ) → n ≡ suc (position_or_len (same_atom a) xs) → same_atom a x ≡ b → (b || has same_atom xs a) ≡ true
+    choice : (b : Bool) (n : ℕ) → n ≡ suc (position_or_len (same_atom a) xs) → same_atom a x ≡ b
+        → (b || has same_atom xs a) ≡ true
         → (has same_atom xs a ≡ true → slice_get xs (position_or_len (same_atom a) xs) ≡ Some a)
         → slice_get (x ∷ xs) (cond (not b) n 0) ≡ Some a
     choice true n is e k next = ap Some (sym (atom_exact a x e))
@@ -55,7 +59,9 @@ pub record Concludes (log : List Step) (a : Atom) : Type 0 where
 
 pub concludes : (log : List Step) (a : Atom) → has same_atom (concluded log) a ≡ true → Concludes log a
 concludes log a h =
-    let r = get_mapped (λ step. step.conclusion) log (position_or_len (same_atom a) (concluded log)) a (place_found (concluded log) a h) in
+    let r
+    = get_mapped (λ step. step.conclusion) log (position_or_len (same_atom a) (concluded log)) a
+    (place_found (concluded log) a h) in
     record { place = position_or_len (same_atom a) (concluded log); step = r.0; is = r.1; conclusion = r.2 }
 
 -- numbers that cite premises cite an origin for each of them
@@ -64,7 +70,8 @@ pub record Citing (log : List Step) (numbers : List ℕ) (premises : List Atom) 
   pub is : cited (map (λ step. step.origin) log) numbers ≡ Some from
   pub gives : (a : Atom) → has same_atom premises a ≡ true → (c : Concludes log a) × IsIn c.step.origin from
 
-get_map : {X Y : Type 0} (f : X → Y) (xs : List X) (i : ℕ) (x : X) → slice_get xs i ≡ Some x → slice_get (map f xs) i ≡ Some (f x)
+get_map : {X Y : Type 0} (f : X → Y) (xs : List X) (i : ℕ) (x : X) → slice_get xs i ≡ Some x
+    → slice_get (map f xs) i ≡ Some (f x)
 get_map f [] i x e = absurd (cc)
 get_map f (y ∷ ys) zero x e = let is : y ≡ x = cc in ap (λ z. Some (f z)) is
 get_map f (y ∷ ys) (suc i) x e = get_map f ys i x e
@@ -87,12 +94,14 @@ citing log (suc n ∷ numbers) premises e =
     let later : Citing log numbers r.1 = citing log numbers r.1 r.3 in
     record {
       from = m.0.origin ∷ later.from;
-      is = ap (λ o. before_all o (cited (map (λ step. step.origin) log) numbers)) (get_map (λ step. step.origin) log n m.0 m.1)
+      is = ap (λ o. before_all o (cited (map (λ step. step.origin) log) numbers))
+          (get_map (λ step. step.origin) log n m.0 m.1)
           ∙ ap (before_all (Some m.0.origin)) later.is;
-      gives = λ a h. elim (has_cases same_atom atom_exact atom_itself r.0 r.1 a (ap (λ xs. has same_atom xs a) (sym r.4) ∙ h)) [
-        | inl q ↦ (record { place = n; step = m.0; is = m.1; conclusion = m.2 ∙ sym q }, inl refl)
-        | inr k ↦ let g = later.gives a k in (g.0, inr g.1)
-      ];
+      gives = λ a h. elim (has_cases same_atom atom_exact atom_itself r.0 r.1 a
+          (ap (λ xs. has same_atom xs a) (sym r.4) ∙ h)) [
+            | inl q ↦ (record { place = n; step = m.0; is = m.1; conclusion = m.2 ∙ sym q }, inl refl)
+            | inr k ↦ let g = later.gives a k in (g.0, inr g.1)
+          ];
     }
 
 -- premises that can't stand together refute, with a culprit of theirs

@@ -1,5 +1,6 @@
 -- Whoever clashes at what is cited is a constraint's rule, or an entry by a statement, and is to blame.
-use Rattle.std.proofs.Common.{◌≡◌, ℕ, ◌<◌, Bool, true, false, cond, ◌&&◌, List, [], ◌∷◌, length, map, refl, sym, ◌∙◌, ap, inl, inr, arith}
+use Rattle.std.proofs.Common.{◌≡◌, ℕ, ◌<◌, Bool, true, false, cond, ◌&&◌, List, [], ◌∷◌, length, map, refl, sym, ◌∙◌}
+use Rattle.std.proofs.Common.{ap, inl, inr, arith}
 use Rattle.std.specs.Prelude.{Option, None, Some, nat_eq, slice_get, ◌==◌}
 use Rattle.std.specs.List.{list_any}
 use Rattle.std.specs.Option.{option_to_list}
@@ -20,13 +21,16 @@ use Rattle.vc_plan.specs.declared.rules.Rule.{Rule}
 use Rattle.vc_plan.specs.Answers.{fresh, nothing}
 use Rattle.vc_plan.specs.Clear.{is_clear}
 use Rattle.vc_plan.specs.Domains.{numbers_below}
-use Rattle.vc_plan.specs.Gives.{Giver, by_rule, by_user, by_entry, acts, entry_says, giver_says, gives, kind_gives, rule_says, value_says}
+use Rattle.vc_plan.specs.Gives.{Giver, by_rule, by_user, by_entry, acts, entry_says, giver_says, gives, kind_gives}
+use Rattle.vc_plan.specs.Gives.{rule_says, value_says}
 use Rattle.vc_plan.specs.RuleShapes.{is_among, is_at}
 use Rattle.vc_plan.specs.Seen.{Seen, is_here, seen_of, slot_in}
 use Rattle.vc_plan.specs.Sources.{Entry, Sources, entry_of, user_of}
 use Rattle.vc_plan_reasons.specs.Checking.{are_of, concluded, is_accepted, is_by, set_with}
 use Rattle.vc_plan_reasons.specs.Fitting.{entry_fits, mark_fits, procedure_writes, sources_fit, statement_writes}
-use Rattle.vc_plan_reasons.specs.Refuting.{contradicts, culprit_clashes, culprit_reads, entry_clashes, is_blamable, is_clash_at, is_collision, is_of_constraint, is_restriction, slots_of_procedure}
+use Rattle.vc_plan_reasons.specs.Refuting.{contradicts, culprit_clashes, culprit_reads, entry_clashes, is_blamable}
+use Rattle.vc_plan_reasons.specs.Refuting.{is_clash_at, is_collision, is_of_constraint, is_restriction}
+use Rattle.vc_plan_reasons.specs.Refuting.{slots_of_procedure}
 use Rattle.vc_plan_reasons.specs.Things.{giver_reads, slot_at, slots_of_var}
 use Rattle.vc_plan_reasons.proofs.ReasonLaws.Givers.{entry_var_there}
 use Rattle.vc_plan_blame.specs.Blame.{clash_by, clash_of, culprit_giving, culprit_wrote}
@@ -52,7 +56,8 @@ kind_clashes plan s rule Never e = refl
 kind_clashes plan s rule (Last v) e = absurd (cc)
 kind_clashes plan s rule (Line i) e = absurd (cc)
 
-rule_clashes : (plan : Plan) (s : Seen) (o : Option Rule) → is_clash (rule_says plan s o) ≡ true → is_of_constraint o ≡ true
+rule_clashes : (plan : Plan) (s : Seen) (o : Option Rule) → is_clash (rule_says plan s o) ≡ true
+    → is_of_constraint o ≡ true
 rule_clashes plan s None e = absurd (cc)
 rule_clashes plan s (Some rule) e =
     kind_clashes plan s rule rule.kind (if_clash (acts plan s rule) (kind_gives plan s rule rule.kind) e)

@@ -1,13 +1,16 @@
 -- What can't stand together: two atoms at odds, and what exhausts a variable; without any one of them the rest can.
-use Rattle.std.proofs.Common.{◌≡◌, ℕ, ◌<◌, Bool, true, false, cond, not, ◌&&◌, ◌⊎◌, List, [], ◌∷◌, length, map, refl, sym, ◌∙◌, ap, subst, inl, inr, arith}
+use Rattle.std.proofs.Common.{◌≡◌, ℕ, ◌<◌, Bool, true, false, cond, not, ◌&&◌, ◌⊎◌, List, [], ◌∷◌, length, map, refl}
+use Rattle.std.proofs.Common.{sym, ◌∙◌, ap, subst, inl, inr, arith}
 use Rattle.std.specs.Prelude.{Option, None, Some, nat_eq, nat_lt, slice_get, ◌==◌}
 use Rattle.std.specs.List.{filter, list_all}
 use Rattle.std.specs.Option.{option_to_list}
-use Rattle.std.proofs.lemmas.Bool.{and_parts, and_from, eq-eqb, eqb-true, false_from_ne_true, ltb-true, not-true, or_cases}
+use Rattle.std.proofs.lemmas.Bool.{and_parts, and_from, eq-eqb, eqb-true, false_from_ne_true, ltb-true, not-true}
+use Rattle.std.proofs.lemmas.Bool.{or_cases}
 use Rattle.vc_base.specs.Sets.{has, Within}
 use Rattle.vc_base.proofs.ChainLaws.{get_below}
 use Rattle.vc_base.proofs.ListLaws.{has_range, number_exact, number_itself, range_has}
-use Rattle.vc_base.proofs.SetLaws.{all_at, all_from, both, has_back, has_cases, has_either, has_filter, has_first, has_front, has_more}
+use Rattle.vc_base.proofs.SetLaws.{all_at, all_from, both, has_back, has_cases, has_either, has_filter, has_first}
+use Rattle.vc_base.proofs.SetLaws.{has_front, has_more}
 use Rattle.vc_plan.specs.declared.atoms.Atom.{Atom}
 use Rattle.vc_plan.specs.declared.atoms.Atom.TheVariants.{Here, Out, Is}
 use Rattle.vc_plan.specs.declared.plans.Plan.{Plan}
@@ -82,7 +85,8 @@ one_clear plan set c named room within =
     })
 
 -- a set with two atoms at odds isn't clear
-pub odds_unclear : (plan : Plan) (set : List Atom) (a b : Atom) → has same_atom set a ≡ true → has same_atom set b ≡ true
+pub odds_unclear : (plan : Plan) (set : List Atom) (a b : Atom) → has same_atom set a ≡ true
+    → has same_atom set b ≡ true
     → are_at_odds plan a b ≡ true → is_clear plan set ≡ false
 odds_unclear plan set a b h k e =
     false_from_ne_true (is_clear plan set) (λ q.
@@ -98,16 +102,20 @@ pub record Colliding (plan : Plan) (premises : List Atom) : Type 0 where
   pub needed : list_all (λ atom. is_clear plan (set_without atom (set_with premises))) premises ≡ true
 
 -- of two, either stands alone
-pair_without : (b c : Atom) (set : List Atom) → ((a : Atom) → has same_atom set a ≡ true → (a ≡ Here 0) ⊎ ((a ≡ b) ⊎ (a ≡ c)))
+pair_without : (b c : Atom) (set : List Atom)
+    → ((a : Atom) → has same_atom set a ≡ true → (a ≡ Here 0) ⊎ ((a ≡ b) ⊎ (a ≡ c)))
     → Within same_atom (set_without b set) (set_with (c ∷ []))
 pair_without b c set only a h =
     let p = has_filter same_atom atom_exact atom_itself (λ other. not (same_atom b other)) set a h in
     elim (only a p.0) [
-      | inl e ↦ subst (λ z. has same_atom (set_with (c ∷ [])) z ≡ true) (sym e) (has_first same_atom atom_exact atom_itself (Here 0) (c ∷ []))
+      | inl e ↦ subst (λ z. has same_atom (set_with (c ∷ [])) z ≡ true) (sym e)
+          (has_first same_atom atom_exact atom_itself (Here 0) (c ∷ []))
       | inr r ↦ elim r [
-        | inl e ↦ absurd (both (subst (λ z. same_atom b z ≡ true) (sym e) (atom_itself b)) (not-true (same_atom b a) p.1))
+        | inl e ↦ absurd (both (subst (λ z. same_atom b z ≡ true) (sym e) (atom_itself b))
+            (not-true (same_atom b a) p.1))
         | inr e ↦ subst (λ z. has same_atom (set_with (c ∷ [])) z ≡ true) (sym e)
-            (has_more same_atom atom_exact atom_itself (Here 0) (c ∷ []) c (has_first same_atom atom_exact atom_itself c []))
+            (has_more same_atom atom_exact atom_itself (Here 0) (c ∷ []) c
+            (has_first same_atom atom_exact atom_itself c []))
       ]
     ]
 
@@ -117,7 +125,8 @@ three_cases b c a h =
       | inl e ↦ inl e
       | inr k ↦ elim (has_cases same_atom atom_exact atom_itself b (c ∷ []) a k) [
         | inl e ↦ inr (inl e)
-        | inr q ↦ elim (has_cases same_atom atom_exact atom_itself c [] a q) [ inl e ↦ inr (inr e) | inr z ↦ absurd (cc) ]
+        | inr q ↦ elim (has_cases same_atom atom_exact atom_itself c [] a q)
+            [ inl e ↦ inr (inr e) | inr z ↦ absurd (cc) ]
       ]
     ]
 
@@ -135,7 +144,8 @@ pub pair_collides : (plan : Plan) (set : List Atom) (b c : Atom) → AreNamed pl
 pair_collides plan set b c named room root h k e =
     let both_of = set_with (b ∷ c ∷ []) in
     let b_in : has same_atom both_of b ≡ true
-    = has_more same_atom atom_exact atom_itself (Here 0) (b ∷ c ∷ []) b (has_first same_atom atom_exact atom_itself b (c ∷ [])) in
+    = has_more same_atom atom_exact atom_itself (Here 0) (b ∷ c ∷ []) b
+    (has_first same_atom atom_exact atom_itself b (c ∷ [])) in
     let c_in : has same_atom both_of c ≡ true
     = has_more same_atom atom_exact atom_itself (Here 0) (b ∷ c ∷ []) c
     (has_more same_atom atom_exact atom_itself b (c ∷ []) c (has_first same_atom atom_exact atom_itself c [])) in
@@ -151,7 +161,8 @@ pair_collides plan set b c named room root h k e =
     ])) in
     record {
       unclear = odds_unclear plan both_of b c b_in c_in e;
-      needed = and_from (is_clear plan (set_without b both_of)) (is_clear plan (set_without c both_of) && true) without_b
+      needed = and_from (is_clear plan (set_without b both_of)) (is_clear plan (set_without c both_of) && true)
+          without_b
           (and_from (is_clear plan (set_without c both_of)) true without_c refl);
     }
 
@@ -201,7 +212,8 @@ pub grain_member : (plan : Plan) (v g : ℕ) → g < count_of plan v → has sam
 grain_member plan v g below =
     has_back same_atom atom_exact atom_itself (map Here (filter (λ i. not (i == 0)) (slots_of_var plan v)))
     (map (Out v) (numbers_below (count_of plan v))) (Out v g)
-    (has_image (Out v) (numbers_below (count_of plan v)) g (range_has 0 (count_of plan v) g (omega arith) (omega (arith, below))))
+    (has_image (Out v) (numbers_below (count_of plan v)) g
+    (range_has 0 (count_of plan v) g (omega arith) (omega (arith, below))))
 
 slot_stands : (plan : Plan) (v i : ℕ) (o : Option ℕ) → o ≡ Some i
     → has same_atom (Here 0 ∷ (map Here (filter (λ j. not (j == 0)) (option_to_list o)))) (Here i) ≡ true
@@ -215,17 +227,20 @@ slot_stands plan v i (Some j) e = choice (j == 0) refl
     choice true q = ap (λ z. has same_atom (Here 0 ∷ []) (Here z)) (sym same ∙ eqb-true j 0 q)
     choice false q =
         subst (λ z. has same_atom (Here 0 ∷ Here j ∷ []) (Here z) ≡ true) same
-        (has_more same_atom atom_exact atom_itself (Here 0) (Here j ∷ []) (Here j) (has_first same_atom atom_exact atom_itself (Here j) []))
+        (has_more same_atom atom_exact atom_itself (Here 0) (Here j ∷ []) (Here j)
+        (has_first same_atom atom_exact atom_itself (Here j) []))
 
 pub slot_here : (plan : Plan) (set : List Atom) (v : ℕ) → is_here plan (seen_of set) v ≡ true
     → (i : ℕ) × (slot_in (slice_get plan.vars v) ≡ Some i) × (has same_atom set (Here i) ≡ true)
 slot_here plan set v e = slot_of_here (seen_of set) (slot_in (slice_get plan.vars v)) e
 
-var_there : (plan : Plan) (v i : ℕ) (o : Option Var) → slice_get plan.vars v ≡ o → slot_in o ≡ Some i → v < length plan.vars
+var_there : (plan : Plan) (v i : ℕ) (o : Option Var) → slice_get plan.vars v ≡ o → slot_in o ≡ Some i
+    → v < length plan.vars
 var_there plan v i None q e = absurd (cc)
 var_there plan v i (Some x) q e = get_below plan.vars v x q
 
-pub grain_out : (plan : Plan) (set : List Atom) (v g : ℕ) → are_all_out plan (seen_of set) v ≡ true → g < count_of plan v
+pub grain_out : (plan : Plan) (set : List Atom) (v g : ℕ) → are_all_out plan (seen_of set) v ≡ true
+    → g < count_of plan v
     → has same_atom set (Out v g) ≡ true
 grain_out plan set v g all below =
     all_at nat_eq number_exact number_itself (λ k. has same_atom set (Out v k)) (numbers_below (count_of plan v)) g all
@@ -245,11 +260,14 @@ exhausting_unclear plan set v e =
     (slot_stands plan v slot.0 (slot_in (slice_get plan.vars v)) slot.1) in
     let here : is_here plan (seen_of all) v ≡ true = ap (is_slot_here (seen_of all)) slot.1 ∙ stands in
     let out : are_all_out plan (seen_of all) v ≡ true
-    = all_from nat_eq number_exact number_itself (λ g. has same_atom all (Out v g)) (numbers_below (count_of plan v)) (λ g h.
+    = all_from nat_eq number_exact number_itself (λ g. has same_atom all (Out v g)) (numbers_below (count_of plan v))
+    (λ g h.
     let r = (has_range 0 (count_of plan v) g h).1 in
-    has_more same_atom atom_exact atom_itself (Here 0) (exhausting plan v) (Out v g) (grain_member plan v g (omega (arith, r)))) in
+    has_more same_atom atom_exact atom_itself (Here 0) (exhausting plan v) (Out v g)
+    (grain_member plan v g (omega (arith, r)))) in
     false_from_ne_true (is_clear plan all) (λ q.
-    both (and_from (is_here plan (seen_of all) v) (are_all_out plan (seen_of all) v) here out) ((facts plan all q).room v))
+    both (and_from (is_here plan (seen_of all) v) (are_all_out plan (seen_of all) v) here out)
+    ((facts plan all q).room v))
 
 pub exhausting_within : (plan : Plan) (set : List Atom) (v : ℕ) → is_exhausted plan (seen_of set) v ≡ true
     → Within same_atom (exhausting plan v) set
@@ -276,13 +294,16 @@ exhausting_room plan v a some h w = false_from_ne_true (is_exhausted plan (seen_
 
     gone : has same_atom rest a ≡ true → ⊥
     gone k =
-        let p = has_filter same_atom atom_exact atom_itself (λ other. not (same_atom a other)) (set_with (exhausting plan v)) a k in
+        let p
+        = has_filter same_atom atom_exact atom_itself (λ other. not (same_atom a other))
+        (set_with (exhausting plan v)) a k in
         both (atom_itself a) (not-true (same_atom a a) p.1)
 
     stands : (b : Atom) → has same_atom rest b ≡ true → (b ≡ Here 0) ⊎ (has same_atom (exhausting plan v) b ≡ true)
     stands b k =
         has_cases same_atom atom_exact atom_itself (Here 0) (exhausting plan v) b
-        (has_filter same_atom atom_exact atom_itself (λ other. not (same_atom a other)) (set_with (exhausting plan v)) b k).0
+        (has_filter same_atom atom_exact atom_itself (λ other. not (same_atom a other)) (set_with (exhausting plan v)) b
+        k).0
 
     same_var : has same_atom rest (Out w 0) ≡ true → w ≡ v
     same_var k =
@@ -310,7 +331,8 @@ exhausting_room plan v a some h w = false_from_ne_true (is_exhausted plan (seen_
         let there : w < length plan.vars = var_there plan w slot.0 (slice_get plan.vars w) refl slot.1 in
         let grains : 0 < count_of plan w
         = ltb-true 0 (count_of plan w)
-        (all_at nat_eq number_exact number_itself (λ u. nat_lt 0 (count_of plan u)) (numbers_below (length plan.vars)) w some
+        (all_at nat_eq number_exact number_itself (λ u. nat_lt 0 (count_of plan u)) (numbers_below (length plan.vars)) w
+        some
         (range_has 0 (length plan.vars) w (omega arith) (omega (arith, there)))) in
         let is : w ≡ v = same_var (grain_out plan rest w 0 p.1 grains) in
         without (member plan v a h) (subst (λ z. is_here plan (seen_of rest) z ≡ true) is p.0)
@@ -321,7 +343,8 @@ pub exhausted_collides : (plan : Plan) (set : List Atom) (v : ℕ)
     → has same_atom set (Here 0) ≡ true → is_exhausted plan (seen_of set) v ≡ true → Colliding plan (exhausting plan v)
 exhausted_collides plan set v some named root e = record {
   unclear = exhausting_unclear plan set v e;
-  needed = all_from same_atom atom_exact atom_itself (λ a. is_clear plan (set_without a all)) (exhausting plan v) without;
+  needed = all_from same_atom atom_exact atom_itself (λ a. is_clear plan (set_without a all)) (exhausting plan v)
+      without;
 }
   where
     all : List Atom

@@ -1,5 +1,6 @@
 -- One step more: what a giver gives at what is concluded is a step that an accepted list can go on with.
-use Rattle.std.proofs.Common.{◌≡◌, ℕ, Bool, true, false, cond, not, ◌&&◌, List, [], ◌∷◌, ◌++◌, map, refl, sym, ◌∙◌, ap, subst, inl, inr, append-nil, append_assoc}
+use Rattle.std.proofs.Common.{◌≡◌, ℕ, Bool, true, false, cond, not, ◌&&◌, List, [], ◌∷◌, ◌++◌, map, refl, sym, ◌∙◌, ap}
+use Rattle.std.proofs.Common.{subst, inl, inr, append-nil, append_assoc}
 use Rattle.std.specs.Prelude.{Option, None, Some, ◌==◌}
 use Rattle.std.specs.List.{filter, list_all}
 use Rattle.std.proofs.lemmas.Bool.{and_from, and_parts, eq-eqb, false_from_ne_true, not-true, not_from_false}
@@ -18,13 +19,15 @@ use Rattle.vc_plan.specs.declared.atoms.Step.{Step}
 use Rattle.vc_plan.specs.declared.plans.Plan.{Plan}
 use Rattle.vc_plan.specs.Answers.{fresh}
 use Rattle.vc_plan.specs.Clear.{is_clear}
-use Rattle.vc_plan.specs.Gives.{Giver, by_rule, by_user, by_entry, entry_says, giver_says, gives, if_here, mark_says, value_says}
+use Rattle.vc_plan.specs.Gives.{Giver, by_rule, by_user, by_entry, entry_says, giver_says, gives, if_here, mark_says}
+use Rattle.vc_plan.specs.Gives.{value_says}
 use Rattle.vc_plan.specs.Seen.{Seen, is_here, is_value, same_atom, says, seen_of, value_in}
 use Rattle.vc_plan.specs.Sources.{Entry, Sources, entry_of, user_of}
 use Rattle.vc_plan.proofs.PlanLaws.Atoms.{atom_exact, atom_itself, value_itself}
 use Rattle.vc_plan.proofs.PlanLaws.Extending.{Extends, extends, one_value, value_has, value_read}
 use Rattle.vc_plan.proofs.PlanLaws.Facts.{facts, part_clear}
-use Rattle.vc_plan_reasons.specs.Checking.{are_of, concluded, follows, given_by, giver_from, giver_of, is_accepted, is_by, set_with, step_form, things_read, var_of}
+use Rattle.vc_plan_reasons.specs.Checking.{are_of, concluded, follows, given_by, giver_from, giver_of, is_accepted}
+use Rattle.vc_plan_reasons.specs.Checking.{is_by, set_with, step_form, things_read, var_of}
 use Rattle.vc_plan_reasons.specs.Things.{Thing, giver_reads, has_thing, thing_of}
 use Rattle.vc_plan_reasons.proofs.ReasonLaws.Local.{says_locally}
 use Rattle.vc_plan_blame.specs.Blame.{number_of}
@@ -36,7 +39,8 @@ pub record OriginOf (sources : Sources) (giver : Giver) (a : Atom) : Type 0 wher
   pub origin : Origin
   pub is : giver_from sources origin (var_of a) ≡ Some giver
 
-value_var : (v : ℕ) (o : Option Value) (a : Atom) → has same_atom (atoms_of (value_says v o)) a ≡ true → var_of a ≡ Some v
+value_var : (v : ℕ) (o : Option Value) (a : Atom) → has same_atom (atoms_of (value_says v o)) a ≡ true
+    → var_of a ≡ Some v
 value_var v None a h = absurd (cc)
 value_var v (Some x) a h =
     elim (has_cases same_atom atom_exact atom_itself (Is v x) [] a h) [ inl e ↦ ap var_of e | inr k ↦ absurd (cc) ]
@@ -73,7 +77,8 @@ origin_of plan sources (by_user v) s a h =
     }
 origin_of plan sources (by_entry v) s a h =
     let said = entry_says v (entry_of sources v) in
-    entry_origin sources v (entry_of sources v) a refl (if_said (is_here plan s v) said a (unfresh s (if_here plan s v said) a h))
+    entry_origin sources v (entry_of sources v) a refl
+    (if_said (is_here plan s v) said a (unfresh s (if_here plan s v said) a h))
 
 -- what is said at a part is said at the whole, and what stands in a clear set is said
 says_grows : (plan : Plan) (part set : List Atom) → Extends plan (seen_of part) (seen_of set) → (a : Atom)
@@ -96,10 +101,12 @@ has_says plan set clear (Is v b) h =
     ap (is_value b) (r.1 ∙ ap Some (sym same)) ∙ value_itself b
 
 -- what is given doesn't stand
-pub given_new : (plan : Plan) (sources : Sources) (giver : Giver) (set : List Atom) → is_clear plan set ≡ true → (a : Atom)
+pub given_new : (plan : Plan) (sources : Sources) (giver : Giver) (set : List Atom) → is_clear plan set ≡ true
+    → (a : Atom)
     → has same_atom (atoms_of (gives plan sources giver (seen_of set))) a ≡ true → has same_atom set a ≡ false
 given_new plan sources giver set clear a h =
-    false_from_ne_true (has same_atom set a) (λ k. by (giver_says plan sources giver (seen_of set)) h (has_says plan set clear a k))
+    false_from_ne_true (has same_atom set a)
+    (λ k. by (giver_says plan sources giver (seen_of set)) h (has_says plan set clear a k))
   where
     by : (x : Given Atom) → has same_atom (atoms_of (fresh (seen_of set) x)) a ≡ true → says (seen_of set) a ≡ true → ⊥
     by clash q k = cc
@@ -116,7 +123,8 @@ part_within : (things : List Thing) (stand : List Atom)
     → Within same_atom (set_with (filter (is_of things) stand)) (set_with stand)
 part_within things stand a h =
     elim (has_cases same_atom atom_exact atom_itself (Here 0) (filter (is_of things) stand) a h) [
-      | inl e ↦ subst (λ z. has same_atom (set_with stand) z ≡ true) (sym e) (has_first same_atom atom_exact atom_itself (Here 0) stand)
+      | inl e ↦ subst (λ z. has same_atom (set_with stand) z ≡ true) (sym e)
+          (has_first same_atom atom_exact atom_itself (Here 0) stand)
       | inr k ↦ has_more same_atom atom_exact atom_itself (Here 0) stand a
           (has_filter same_atom atom_exact atom_itself (is_of things) stand a k).0
     ]
@@ -124,7 +132,8 @@ part_within things stand a h =
 part_alike : (things : List Thing) (stand : List Atom) (a : Atom) → has_thing things (thing_of a) ≡ true
     → has same_atom (set_with (filter (is_of things) stand)) a ≡ has same_atom (set_with stand) a
 part_alike things stand a h =
-    same_test (has same_atom (set_with (filter (is_of things) stand)) a) (has same_atom (set_with stand) a) (part_within things stand a)
+    same_test (has same_atom (set_with (filter (is_of things) stand)) a) (has same_atom (set_with stand) a)
+    (part_within things stand a)
     (λ k. elim (has_cases same_atom atom_exact atom_itself (Here 0) stand a k) [
       | inl e ↦ subst (λ z. has same_atom (set_with (filter (is_of things) stand)) z ≡ true) (sym e)
           (has_first same_atom atom_exact atom_itself (Here 0) (filter (is_of things) stand))
@@ -136,14 +145,16 @@ all_filtered : (p : Atom → Bool) (xs : List Atom) → list_all p (filter p xs)
 all_filtered p [] = refl
 all_filtered p (x ∷ xs) = choice (p x) refl (all_filtered p xs)
   where
-    choice : (b : Bool) → p x ≡ b → list_all p (filter p xs) ≡ true → list_all p (cond b (x ∷ filter p xs) (filter p xs)) ≡ true
+    choice : (b : Bool) → p x ≡ b → list_all p (filter p xs) ≡ true
+        → list_all p (cond b (x ∷ filter p xs) (filter p xs)) ≡ true
     choice true e later = and_from (p x) (list_all p (filter p xs)) e later
     choice false e later = later
 
 given_at_part : (plan : Plan) (sources : Sources) (giver : Giver) (stand : List Atom) (a : Atom)
     → is_clear plan (set_with stand) ≡ true
     → has same_atom (atoms_of (gives plan sources giver (seen_of (set_with stand)))) a ≡ true
-    → has same_atom (atoms_of (gives plan sources giver (seen_of (set_with (filter (is_of (giver_reads plan giver)) stand))))) a ≡ true
+    → has same_atom (atoms_of
+    (gives plan sources giver (seen_of (set_with (filter (is_of (giver_reads plan giver)) stand))))) a ≡ true
 given_at_part plan sources giver stand a clear h =
     ap (λ x. has same_atom (atoms_of (fresh (seen_of part) x)) a)
     (says_locally plan sources giver part (set_with stand) clear (part_alike things stand))
@@ -162,7 +173,8 @@ given_at_part plan sources giver stand a clear h =
         let p = has_filter same_atom atom_exact atom_itself (λ b. not (says (seen_of (set_with stand)) b)) xs a q in
         let silent : says (seen_of part) a ≡ false
         = false_from_ne_true (says (seen_of part) a) (λ k.
-        both (says_grows plan part (set_with stand) (extends plan part (set_with stand) clear (part_within things stand)) a k)
+        both (says_grows plan part (set_with stand)
+        (extends plan part (set_with stand) clear (part_within things stand)) a k)
         (not-true (says (seen_of (set_with stand)) a) p.1)) in
         filter_has same_atom atom_exact atom_itself (λ b. not (says (seen_of part) b)) xs a p.0
         (not_from_false (says (seen_of part) a) silent)
@@ -211,7 +223,8 @@ next_step plan sources log giver a e clear h =
     let follow : follows plan sources step premises ≡ true
     = and_from (is_clear plan (set_with premises) && are_of (things_read plan (giver_of sources step)) premises)
     (has same_atom (atoms_of (given_by plan sources (giver_of sources step) (set_with premises))) a)
-    (and_from (is_clear plan (set_with premises)) (are_of (things_read plan (giver_of sources step)) premises) clear_part read) given in
+    (and_from (is_clear plan (set_with premises)) (are_of (things_read plan (giver_of sources step)) premises)
+    clear_part read) given in
     record {
       step = step;
       concludes = refl;

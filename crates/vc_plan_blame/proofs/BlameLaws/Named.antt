@@ -1,5 +1,6 @@
 -- What rules and sources give is named by the plan: slots and grains that it has, and values that lie in a grain.
-use Rattle.std.proofs.Common.{◌≡◌, ℕ, ℤ, zero, suc, ◌<◌, Bool, true, false, cond, not, ◌&&◌, List, [], ◌∷◌, map, refl, sym, ◌∙◌, ap, subst, inl, inr, arith}
+use Rattle.std.proofs.Common.{◌≡◌, ℕ, ℤ, zero, suc, ◌<◌, Bool, true, false, cond, not, ◌&&◌, List, [], ◌∷◌, map, refl}
+use Rattle.std.proofs.Common.{sym, ◌∙◌, ap, subst, inl, inr, arith}
 use Rattle.std.specs.Prelude.{Option, None, Some, is_none, min, nat_eq, slice_get}
 use Rattle.std.specs.Int.Signed.{le_z}
 use Rattle.std.specs.List.{filter, list_all, list_any}
@@ -26,18 +27,23 @@ use Rattle.vc_plan.specs.declared.rules.Kind.{Kind}
 use Rattle.vc_plan.specs.declared.rules.Kind.TheVariants.{Among, Compare, Equate, ByTable, Never, Last, Line}
 use Rattle.vc_plan.specs.declared.rules.Restriction.{Restriction}
 use Rattle.vc_plan.specs.declared.rules.Rule.{Rule}
-use Rattle.vc_plan.specs.Answers.{nothing, clash_if, beside, gathered, fresh, value_atoms, value_of_piece, only_value, last_atoms, is_nothing}
+use Rattle.vc_plan.specs.Answers.{nothing, clash_if, beside, gathered, fresh, value_atoms, value_of_piece, only_value}
+use Rattle.vc_plan.specs.Answers.{last_atoms, is_nothing}
 use Rattle.vc_plan.specs.Clear.{is_named}
 use Rattle.vc_plan.specs.Domains.{count_of, decimals_of, grains_of, is_grain_with, is_restrictable, numbers_below}
-use Rattle.vc_plan.specs.Gives.{Giver, by_rule, by_user, by_entry, acts, entry_says, giver_says, gives, kind_gives, mark_says, not_out, rule_says, value_says}
+use Rattle.vc_plan.specs.Gives.{Giver, by_rule, by_user, by_entry, acts, entry_says, giver_says, gives, kind_gives}
+use Rattle.vc_plan.specs.Gives.{mark_says, not_out, rule_says, value_says}
 use Rattle.vc_plan.specs.Kleene.{is_false}
 use Rattle.vc_plan.specs.Pieces.{is_outside, lies_in, lies_in_some, one_value, turned}
 use Rattle.vc_plan.specs.Readings.{net_reading}
-use Rattle.vc_plan.specs.Restrictions.{allows, assigned, confined, decimals_in_side, differ, equal_to, failing, is_inferred, left_with, lone, lone_inferred, of_remaining, related, rounded_value}
+use Rattle.vc_plan.specs.Restrictions.{allows, assigned, confined, decimals_in_side, differ, equal_to, failing}
+use Rattle.vc_plan.specs.Restrictions.{is_inferred, left_with, lone, lone_inferred, of_remaining, related}
+use Rattle.vc_plan.specs.Restrictions.{rounded_value}
 use Rattle.vc_plan.specs.RuleRanges.{kind_there, rule_there}
 use Rattle.vc_plan.specs.Seen.{Seen, is_here, is_parent_here, same_atom, says, seen_of}
 use Rattle.vc_plan.specs.Sources.{Entry, Sources, entry_of, user_of}
-use Rattle.vc_plan.specs.TableRows.{agreed, columns_of, first_cell, for_variable, has_cell, has_grain, is_possible_in, missing_grains, narrowed, rows_for, rows_of, value_if}
+use Rattle.vc_plan.specs.TableRows.{agreed, columns_of, first_cell, for_variable, has_cell, has_grain, is_possible_in}
+use Rattle.vc_plan.specs.TableRows.{missing_grains, narrowed, rows_for, rows_of, value_if}
 use Rattle.vc_plan.specs.Truth.{compared, value_at}
 use Rattle.vc_plan.proofs.PlanLaws.Atoms.{atom_exact, atom_itself}
 use Rattle.vc_plan_reasons.specs.Fitting.{entry_fits, mark_fits, procedure_writes, sources_fit, value_fits}
@@ -45,13 +51,15 @@ use Rattle.vc_plan_blame.proofs.BlameLaws.Sources.{entry_fit_at, user_fit_at}
 
 -- a value of a piece that has one alone: it lies in it, and nothing else does
 value_in_piece : (x : Value) (piece : Piece) → one_value piece ≡ Some x → lies_in x piece ≡ true
-value_in_piece x (OneText t) e = let is : Text t ≡ x = cc in subst (λ z. lies_in z (OneText t) ≡ true) is (eq-eqb t t refl)
+value_in_piece x (OneText t) e = let is : Text t
+    ≡ x = cc in subst (λ z. lies_in z (OneText t) ≡ true) is (eq-eqb t t refl)
 value_in_piece x (Stretch grain) e = choice (int_eq grain.low.millionths grain.high.millionths) refl e
   where
     held : (low high : ℤ) → low ≡ high → (le_z low low && le_z low high) ≡ true
     held low high q = grind (arith, ints)
 
-    choice : (b : Bool) → int_eq grain.low.millionths grain.high.millionths ≡ b → cond b (Some (Num grain.low)) None ≡ Some x
+    choice : (b : Bool) → int_eq grain.low.millionths grain.high.millionths ≡ b
+        → cond b (Some (Num grain.low)) None ≡ Some x
         → lies_in x (Stretch grain) ≡ true
     choice true q k =
         let is : Num grain.low ≡ x = cc in
@@ -68,7 +76,8 @@ one_in_piece (Num a) y (Stretch grain) h e = choice (int_eq grain.low.millionths
     squeezed : (low z high : ℤ) → low ≡ high → le_z low z ≡ true → le_z z high ≡ true → z ≡ low
     squeezed low z high q p r = grind (arith, ints)
 
-    choice : (b : Bool) → int_eq grain.low.millionths grain.high.millionths ≡ b → cond b (Some (Num grain.low)) None ≡ Some y
+    choice : (b : Bool) → int_eq grain.low.millionths grain.high.millionths ≡ b
+        → cond b (Some (Num grain.low)) None ≡ Some y
         → Num a ≡ y
     choice true q k =
         let is : Num grain.low ≡ y = cc in
@@ -85,7 +94,8 @@ any_get p [] i x e h = absurd (cc)
 any_get p (y ∷ ys) zero x e h = let is : x ≡ y = cc in or_left (p y) (list_any p ys) (ap p (sym is) ∙ h)
 any_get p (y ∷ ys) (suc i) x e h = or_right (p y) (list_any p ys) (any_get p ys i x e h)
 
-only_named : (plan : Plan) (v g : ℕ) (x : Value) → only_value plan v g ≡ Some x → lies_in_some (grains_of plan v) x ≡ true
+only_named : (plan : Plan) (v g : ℕ) (x : Value) → only_value plan v g ≡ Some x
+    → lies_in_some (grains_of plan v) x ≡ true
 only_named plan v g x e = by (slice_get (grains_of plan v) g) refl e
   where
     by : (o : Option Piece) → slice_get (grains_of plan v) g ≡ o → value_of_piece o ≡ Some x
@@ -119,7 +129,8 @@ n_beside plan (atoms xs) clash f g a h = absurd (cc)
 n_beside plan (atoms xs) (atoms ys) f g a h =
     elim (has_either same_atom atom_exact atom_itself xs ys a h) [ inl e ↦ f a e | inr e ↦ g a e ]
 
-n_gathered : (plan : Plan) (f : ℕ → Given Atom) (xs : List ℕ) → ((x : ℕ) → Names plan (f x)) → Names plan (gathered f xs)
+n_gathered : (plan : Plan) (f : ℕ → Given Atom) (xs : List ℕ) → ((x : ℕ) → Names plan (f x))
+    → Names plan (gathered f xs)
 n_gathered plan f [] g = n_nothing plan
 n_gathered plan f (x ∷ xs) g = n_beside plan (f x) (gathered f xs) (g x) (n_gathered plan f xs g)
 
@@ -141,13 +152,15 @@ n_outs plan v (g ∷ gs) f =
       | inr q ↦ n_outs plan v gs (λ k i. f k (has_more nat_eq number_exact number_itself g gs k i)) b q
     ]
 
-n_filtered : (plan : Plan) (v : ℕ) (p : ℕ → Bool) → Names plan (atoms (map (Out v) (filter p (numbers_below (count_of plan v)))))
+n_filtered : (plan : Plan) (v : ℕ) (p : ℕ → Bool)
+    → Names plan (atoms (map (Out v) (filter p (numbers_below (count_of plan v)))))
 n_filtered plan v p =
     n_outs plan v (filter p (numbers_below (count_of plan v))) (λ g h.
     let i = (has_filter nat_eq number_exact number_itself p (numbers_below (count_of plan v)) g h).0 in
     let r = (has_range 0 (count_of plan v) g i).1 in omega (arith, r))
 
-n_value : (plan : Plan) (v : ℕ) (o : Option Value) → ((x : Value) → o ≡ Some x → lies_in_some (grains_of plan v) x ≡ true)
+n_value : (plan : Plan) (v : ℕ) (o : Option Value)
+    → ((x : Value) → o ≡ Some x → lies_in_some (grains_of plan v) x ≡ true)
     → Names plan (atoms (value_atoms v o))
 n_value plan v None f = n_nothing plan
 n_value plan v (Some x) f = n_one plan (Is v x) (f x refl)
@@ -160,7 +173,8 @@ n_last plan v (g ∷ (h ∷ more)) = n_nothing plan
 -- what rules give
 n_confined : (plan : Plan) (s : Seen) (v : ℕ) (test : Piece → Bool) → Names plan (confined plan s v test)
 n_confined plan s v test =
-    n_if plan (is_restrictable plan v) (atoms (map (Out v) (failing plan v test))) (of_remaining plan v (left_with plan s v test))
+    n_if plan (is_restrictable plan v) (atoms (map (Out v) (failing plan v test)))
+    (of_remaining plan v (left_with plan s v test))
     (λ r. n_filtered plan v (λ g. not (is_grain_with plan v test g)))
     (λ r. n_if plan (is_nothing (left_with plan s v test)) clash (atoms (last_atoms plan v (left_with plan s v test)))
     (λ e. n_clash plan) (λ e. n_last plan v (left_with plan s v test)))
@@ -173,7 +187,8 @@ n_among plan s rule v restriction =
     (λ e. n_confined plan s v test)
     (λ e. n_if plan (is_nothing (left_with plan s v test)) clash nothing (λ q. n_clash plan) (λ q. n_nothing plan))
 
-n_related : (plan : Plan) (s : Seen) (r : Relation) (o : Option ℕ) (x : Option Value) → Names plan (related plan s r o x)
+n_related : (plan : Plan) (s : Seen) (r : Relation) (o : Option ℕ) (x : Option Value)
+    → Names plan (related plan s r o x)
 n_related plan s r None x = n_nothing plan
 n_related plan s r (Some v) None = n_nothing plan
 n_related plan s r (Some v) (Some a) = n_confined plan s v (λ piece. not (is_outside r a piece))
@@ -185,14 +200,16 @@ n_compare plan s rule r a b =
     let second = value_at plan (net_reading s) b in
     let v = lone_inferred plan rule a in
     let w = lone_inferred plan rule b in
-    n_if plan (is_false (compared r first second)) clash (beside (related plan s r v second) (related plan s (turned r) w first))
+    n_if plan (is_false (compared r first second)) clash
+    (beside (related plan s r v second) (related plan s (turned r) w first))
     (λ e. n_clash plan)
     (λ e. n_beside plan (related plan s r v second) (related plan s (turned r) w first) (n_related plan s r v second)
     (n_related plan s (turned r) w first))
 
 n_assigned : (plan : Plan) (v : ℕ) (a : Value) → Names plan (assigned plan v a)
 n_assigned plan v a =
-    n_if plan (lies_in_some (grains_of plan v) a) (atoms (Is v a ∷ [])) clash (λ e. n_one plan (Is v a) e) (λ e. n_clash plan)
+    n_if plan (lies_in_some (grains_of plan v) a) (atoms (Is v a ∷ [])) clash (λ e. n_one plan (Is v a) e)
+    (λ e. n_clash plan)
 
 n_equal : (plan : Plan) (o : Option ℕ) (x : Option Value) → Names plan (equal_to plan o x)
 n_equal plan None x = n_nothing plan
@@ -206,7 +223,8 @@ n_equate plan s rule a b =
     let v = lone_inferred plan rule a in
     let w = lone_inferred plan rule b in
     let decimals = min (decimals_in_side plan (lone plan a)) (decimals_in_side plan (lone plan b)) in
-    n_if plan ((is_none v && is_none w) && differ decimals first second) clash (beside (equal_to plan v second) (equal_to plan w first))
+    n_if plan ((is_none v && is_none w) && differ decimals first second) clash
+    (beside (equal_to plan v second) (equal_to plan w first))
     (λ e. n_clash plan)
     (λ e. n_beside plan (equal_to plan v second) (equal_to plan w first) (n_equal plan v second) (n_equal plan w first))
 
@@ -219,10 +237,12 @@ n_value_if plan test v (Some a) f = choice (test a) refl
     choice true e = n_one plan (Is v a) (f a e)
     choice false e = n_nothing plan
 
-n_agreed : (plan : Plan) (v : ℕ) (own : List Binding) (rows : List (List Value)) → Names plan (atoms (agreed plan v own rows))
+n_agreed : (plan : Plan) (v : ℕ) (own : List Binding) (rows : List (List Value))
+    → Names plan (atoms (agreed plan v own rows))
 n_agreed plan v own [] = n_nothing plan
 n_agreed plan v own (row ∷ rows) =
-    n_value_if plan (λ a. list_all (has_cell own a) (row ∷ rows) && lies_in_some (grains_of plan v) a) v (first_cell own row)
+    n_value_if plan (λ a. list_all (has_cell own a) (row ∷ rows) && lies_in_some (grains_of plan v) a) v
+    (first_cell own row)
     (λ x e. (and_parts (list_all (has_cell own x) (row ∷ rows)) (lies_in_some (grains_of plan v) x) e).1)
 
 n_variable : (plan : Plan) (s : Seen) (table : ℕ) (columns : List Binding) (v : ℕ)
@@ -240,24 +260,28 @@ n_table plan s rule table columns =
     (gathered (for_variable plan s table columns) (narrowed rule columns)) (λ e. n_clash plan)
     (λ e. n_gathered plan (for_variable plan s table columns) (narrowed rule columns) (n_variable plan s table columns))
 
-n_kind : (plan : Plan) (s : Seen) (rule : Rule) (kind : Kind) → kind_there plan kind ≡ true → Names plan (kind_gives plan s rule kind)
+n_kind : (plan : Plan) (s : Seen) (rule : Rule) (kind : Kind) → kind_there plan kind ≡ true
+    → Names plan (kind_gives plan s rule kind)
 n_kind plan s rule (Among v restriction) there = n_among plan s rule v restriction
 n_kind plan s rule (Compare r a b) there = n_compare plan s rule r a b
 n_kind plan s rule (Equate a b) there = n_equate plan s rule a b
 n_kind plan s rule (ByTable table columns) there = n_table plan s rule table columns
 n_kind plan s rule Never there = n_clash plan
 n_kind plan s rule (Last v) there =
-    n_atoms_if plan (is_here plan s v) (last_atoms plan v (not_out plan s v)) [] (n_last plan v (not_out plan s v)) (n_nothing plan)
+    n_atoms_if plan (is_here plan s v) (last_atoms plan v (not_out plan s v)) [] (n_last plan v (not_out plan s v))
+    (n_nothing plan)
 n_kind plan s rule (Line i) there =
     n_atoms_if plan (is_parent_here plan s i) (Here i ∷ []) [] (n_one plan (Here i) there) (n_nothing plan)
 
 -- a rule of the list is there
-all_get : {X : Type 0} (p : X → Bool) (xs : List X) (i : ℕ) (x : X) → list_all p xs ≡ true → slice_get xs i ≡ Some x → p x ≡ true
+all_get : {X : Type 0} (p : X → Bool) (xs : List X) (i : ℕ) (x : X) → list_all p xs ≡ true → slice_get xs i ≡ Some x
+    → p x ≡ true
 all_get p [] i x all e = absurd (cc)
 all_get p (y ∷ ys) zero x all e = let is : y ≡ x = cc in ap p (sym is) ∙ (and_parts (p y) (list_all p ys) all).0
 all_get p (y ∷ ys) (suc i) x all e = all_get p ys i x (and_parts (p y) (list_all p ys) all).1 e
 
-n_rule : (plan : Plan) (s : Seen) (r : ℕ) (o : Option Rule) → slice_get plan.rules r ≡ o → list_all (rule_there plan) plan.rules ≡ true
+n_rule : (plan : Plan) (s : Seen) (r : ℕ) (o : Option Rule) → slice_get plan.rules r ≡ o
+    → list_all (rule_there plan) plan.rules ≡ true
     → Names plan (rule_says plan s o)
 n_rule plan s r None e there = n_nothing plan
 n_rule plan s r (Some rule) e there =
@@ -278,7 +302,8 @@ n_entry : (plan : Plan) (v : ℕ) (o : Option Entry) → entry_fits plan v o ≡
 n_entry plan v None fit = n_nothing plan
 n_entry plan v (Some entry) fit =
     n_mark plan v entry.mark
-    (and_parts (mark_fits plan v entry.mark) (procedure_writes plan v entry.statement (slice_get plan.procedures entry.procedure)) fit).0
+    (and_parts (mark_fits plan v entry.mark)
+    (procedure_writes plan v entry.statement (slice_get plan.procedures entry.procedure)) fit).0
 
 n_says : (plan : Plan) (sources : Sources) (giver : Giver) (s : Seen) → list_all (rule_there plan) plan.rules ≡ true
     → sources_fit plan sources ≡ true → Names plan (giver_says plan sources giver s)
@@ -299,4 +324,5 @@ pub given_named : (plan : Plan) (sources : Sources) (giver : Giver) (set : List 
     → list_all (rule_there plan) plan.rules ≡ true → sources_fit plan sources ≡ true
     → has same_atom (atoms_of (gives plan sources giver (seen_of set))) a ≡ true → is_named plan a ≡ true
 given_named plan sources giver set a there fit =
-    n_fresh plan (seen_of set) (giver_says plan sources giver (seen_of set)) (n_says plan sources giver (seen_of set) there fit) a
+    n_fresh plan (seen_of set) (giver_says plan sources giver (seen_of set))
+    (n_says plan sources giver (seen_of set) there fit) a

@@ -1,6 +1,8 @@
--- Who gave what an accepted step concludes: only a constraint's rule puts a grain out; a value is by one, by a statement, by
+-- Who gave what an accepted step concludes: only a constraint's rule puts a grain out; a value is by one, by a
+-- statement, by
 -- the user, or what is left when all other grains are out.
-use Rattle.std.proofs.Common.{◌≡◌, ℕ, ◌<◌, Bool, true, false, cond, not, ◌&&◌, List, [], ◌∷◌, refl, sym, ◌∙◌, ap, subst, inl, inr, arith}
+use Rattle.std.proofs.Common.{◌≡◌, ℕ, ◌<◌, Bool, true, false, cond, not, ◌&&◌, List, [], ◌∷◌, refl, sym, ◌∙◌, ap, subst}
+use Rattle.std.proofs.Common.{inl, inr, arith}
 use Rattle.std.specs.Prelude.{Option, None, Some, nat_eq, slice_get, ◌==◌}
 use Rattle.std.specs.List.{filter, list_any}
 use Rattle.std.proofs.lemmas.Bool.{and_parts, and_from, eq-eqb, not_from_false, or_left, or_right}
@@ -28,7 +30,8 @@ use Rattle.vc_plan.specs.Gives.{acts, if_here, kind_gives, not_out, rule_says, v
 use Rattle.vc_plan.specs.Seen.{Seen, is_here, is_parent_here, same_atom, says, seen_of}
 use Rattle.vc_plan.specs.Sources.{Sources, user_of}
 use Rattle.vc_plan.proofs.PlanLaws.Atoms.{atom_exact, atom_itself}
-use Rattle.vc_plan_reasons.specs.Checking.{are_of, follows, given_by, giver_from, giver_of, set_with, things_read, var_of}
+use Rattle.vc_plan_reasons.specs.Checking.{are_of, follows, given_by, giver_from, giver_of, set_with, things_read}
+use Rattle.vc_plan_reasons.specs.Checking.{var_of}
 use Rattle.vc_plan_reasons.specs.Refuting.{is_blamable, is_of_constraint, is_origin, is_restriction}
 use Rattle.vc_plan_blame.specs.Blame.{culprit_from, first_culprit, or_else}
 
@@ -70,7 +73,8 @@ one_left p n g h one below differs =
       | inr e ↦
           let in_range = range_has 0 n h (omega arith) (omega (arith, below)) in
           let kept : has nat_eq (filter (λ i. not (p i)) (numbers_below n)) h ≡ true
-          = filter_has nat_eq number_exact number_itself (λ i. not (p i)) (numbers_below n) h in_range (not_from_false (p h) e) in
+          = filter_has nat_eq number_exact number_itself (λ i. not (p i)) (numbers_below n) h in_range
+          (not_from_false (p h) e) in
           let alone : has nat_eq (g ∷ []) h ≡ true = ap (λ xs. has nat_eq xs h) (sym one) ∙ kept in
           elim (has_cases nat_eq number_exact number_itself g [] h alone) [
             | inl q ↦ absurd (differs q)
@@ -127,14 +131,16 @@ kind_said plan set rule (Line i) a h =
 -- what the giver of an accepted step gives, where its origin and its conclusion are known
 given_from : (plan : Plan) (sources : Sources) (step : Step) (premises : List Atom) (origin : Origin) (atom : Atom)
     → follows plan sources step premises ≡ true → step.origin ≡ origin → step.conclusion ≡ atom
-    → has same_atom (atoms_of (given_by plan sources (giver_from sources origin (var_of atom)) (set_with premises))) atom ≡ true
+    → has same_atom (atoms_of (given_by plan sources (giver_from sources origin (var_of atom)) (set_with premises)))
+    atom ≡ true
 given_from plan sources step premises origin atom e o c =
     let set = set_with premises in
     let read = is_clear plan set && are_of (things_read plan (giver_of sources step)) premises in
     let given = has same_atom (atoms_of (given_by plan sources (giver_of sources step) set)) step.conclusion in
     let p : (read ≡ true) × (given ≡ true) = and_parts read given e in
     subst (λ z. has same_atom (atoms_of (given_by plan sources (giver_from sources z (var_of atom)) set)) atom ≡ true) o
-    (subst (λ a. has same_atom (atoms_of (given_by plan sources (giver_from sources step.origin (var_of a)) set)) a ≡ true) c p.1)
+    (subst (λ a. has same_atom (atoms_of (given_by plan sources (giver_from sources step.origin (var_of a)) set)) a
+    ≡ true) c p.1)
 
 rule_said : (plan : Plan) (set : List Atom) (o : Option Rule) (a : Atom)
     → has same_atom (atoms_of (rule_says plan (seen_of set) o)) a ≡ true
@@ -195,7 +201,8 @@ value_by plan sources step premises v x e c = by step.origin refl
         → Sayer plan sources (origins.Rule r) v x set
     of_rule r rule is (restricts k) =
         guilty (culprits.Rule r)
-        (ap (λ o. cond (is_of_constraint o) (Some (culprits.Rule r)) None) is ∙ ap (λ b. cond b (Some (culprits.Rule r)) None) k)
+        (ap (λ o. cond (is_of_constraint o) (Some (culprits.Rule r)) None) is
+        ∙ ap (λ b. cond b (Some (culprits.Rule r)) None) k)
     of_rule r rule is (last_value w y q f) =
         let w_is : w ≡ v = cc in
         let y_is : y ≡ x = cc in
@@ -228,7 +235,8 @@ pub culprit_ok : (plan : Plan) (origin : Origin) (culprit : Culprit) → culprit
     → (is_blamable plan culprit ≡ true) × (is_origin culprit origin ≡ true)
 culprit_ok plan (origins.Rule r) culprit e = choice (is_of_constraint (slice_get plan.rules r)) refl e
   where
-    choice : (b : Bool) → is_of_constraint (slice_get plan.rules r) ≡ b → cond b (Some (culprits.Rule r)) None ≡ Some culprit
+    choice : (b : Bool) → is_of_constraint (slice_get plan.rules r) ≡ b
+        → cond b (Some (culprits.Rule r)) None ≡ Some culprit
         → (is_blamable plan culprit ≡ true) × (is_origin culprit (origins.Rule r) ≡ true)
     choice true q k =
         let is : culprits.Rule r ≡ culprit = cc in (

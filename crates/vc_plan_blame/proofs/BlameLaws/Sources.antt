@@ -19,7 +19,8 @@ past_none (x ∷ xs) (suc v) h = past_none xs v (omega (arith, h))
 each_number : (p : ℕ → Bool) (n v : ℕ) → list_all p (numbers_below n) ≡ true → (n ≤ v → p v ≡ true) → p v ≡ true
 each_number p n v all past =
     elim (cases_lt v n) [
-      | inl below ↦ all_at nat_eq number_exact number_itself p (numbers_below n) v all (range_has 0 n v (omega arith) (omega (arith, below)))
+      | inl below ↦ all_at nat_eq number_exact number_itself p (numbers_below n) v all
+          (range_has 0 n v (omega arith) (omega (arith, below)))
       | inr h ↦ past h
     ]
 
@@ -36,5 +37,6 @@ pub entry_fit_at : (plan : Plan) (sources : Sources) (v : ℕ) → sources_fit p
 entry_fit_at plan sources v fit =
     let values = list_all (λ w. value_fits plan w (user_of sources w)) (numbers_below (length sources.user)) in
     let entries = list_all (λ w. entry_fits plan w (entry_of sources w)) (numbers_below (length sources.written)) in
-    each_number (λ w. entry_fits plan w (entry_of sources w)) (length sources.written) v (and_parts values entries fit).1
+    each_number (λ w. entry_fits plan w (entry_of sources w)) (length sources.written) v
+    (and_parts values entries fit).1
     (λ past. ap (entry_fits plan v) (past_none sources.written v past))

@@ -1,9 +1,11 @@
 -- Where one accepted step more makes what is concluded unclear, a clash refutes.
-use Rattle.std.proofs.Common.{◌≡◌, ℕ, zero, suc, ◌<◌, Bool, true, false, cond, not, ◌&&◌, ◌||◌, ◌⊎◌, List, [], ◌∷◌, ◌++◌, length, refl, sym, ◌∙◌, ap, subst, inl, inr, arith}
+use Rattle.std.proofs.Common.{◌≡◌, ℕ, zero, suc, ◌<◌, Bool, true, false, cond, not, ◌&&◌, ◌||◌, ◌⊎◌, List, [], ◌∷◌}
+use Rattle.std.proofs.Common.{◌++◌, length, refl, sym, ◌∙◌, ap, subst, inl, inr, arith}
 use Rattle.std.specs.Prelude.{Option, None, Some, nat_eq, nat_lt, slice_get, ◌==◌}
 use Rattle.std.specs.List.{find, list_any}
 use Rattle.std.specs.Option.{option_to_list}
-use Rattle.std.proofs.lemmas.Bool.{and_parts, and_from, cases_lt, eq-eqb, eqb-false, eqb-true, lt-ltb, ltb-true, not-true, or_cases, or_left, or_parts}
+use Rattle.std.proofs.lemmas.Bool.{and_parts, and_from, cases_lt, eq-eqb, eqb-false, eqb-true, lt-ltb, ltb-true}
+use Rattle.std.proofs.lemmas.Bool.{not-true, or_cases, or_left, or_parts}
 use Rattle.vc_base.specs.Chains.{cited}
 use Rattle.vc_base.specs.Sets.{has, Within}
 use Rattle.vc_base.proofs.ChainLaws.{get_below}
@@ -30,10 +32,13 @@ use Rattle.vc_plan.proofs.PlanLaws.Facts.{facts, not_exhausted_past}
 use Rattle.vc_plan.proofs.PlanLaws.Lists.{all_grows}
 use Rattle.vc_plan_reasons.specs.Checking.{concluded, is_accepted, set_with}
 use Rattle.vc_plan_reasons.proofs.ReasonLaws.Givers.{Following, following}
-use Rattle.vc_plan_blame.specs.Blame.{are_at_odds, clash_citing, culprit_from, exhausted_by, exhausting, is_out, uses_up}
-use Rattle.vc_plan_blame.specs.Laws.{Blames, ExhaustedIsBlamed, ExhaustedIsTouched, IsSettling, OutIsBlamed, ValuesAreBlamed}
+use Rattle.vc_plan_blame.specs.Blame.{are_at_odds, clash_citing, culprit_from, exhausted_by, exhausting, is_out}
+use Rattle.vc_plan_blame.specs.Blame.{uses_up}
+use Rattle.vc_plan_blame.specs.Laws.{Blames, ExhaustedIsBlamed, ExhaustedIsTouched, IsSettling, OutIsBlamed}
+use Rattle.vc_plan_blame.specs.Laws.{ValuesAreBlamed}
 use Rattle.vc_plan_blame.proofs.BlameLaws.Citing.{Citing, Concludes, Follows, blames, citing, concludes, step_follows}
-use Rattle.vc_plan_blame.proofs.BlameLaws.Colliding.{AreNamed, HasRoom, exhausted_collides, grain_member, pair_collides, slot_here}
+use Rattle.vc_plan_blame.proofs.BlameLaws.Colliding.{AreNamed, HasRoom, exhausted_collides, grain_member, pair_collides}
+use Rattle.vc_plan_blame.proofs.BlameLaws.Colliding.{slot_here}
 use Rattle.vc_plan_blame.proofs.BlameLaws.Named.{given_named, one_in_piece}
 use Rattle.vc_plan_blame.proofs.BlameLaws.Origins.{LastGrain, Sayer, chosen, guilty, left_over, out_by, value_by}
 
@@ -73,7 +78,8 @@ out_culprit plan sources log (Out v g) e o c =
 out_culprit plan sources log (Is v x) e o c = absurd (cc)
 
 -- a variable that is exhausted is one of the plan, and has a grain
-pub exhausted_there : (plan : Plan) (set : List Atom) (v : ℕ) → is_exhausted plan (seen_of set) v ≡ true → v < length plan.vars
+pub exhausted_there : (plan : Plan) (set : List Atom) (v : ℕ) → is_exhausted plan (seen_of set) v ≡ true
+    → v < length plan.vars
 exhausted_there plan set v e =
     elim (cases_lt v (length plan.vars)) [
       | inl below ↦ below
@@ -103,7 +109,8 @@ pub nothing_found : {X : Type 0} (p : X → Bool) (xs : List X) → find p xs �
 nothing_found p [] e = refl
 nothing_found p (x ∷ xs) e = choice (p x) e (nothing_found p xs)
   where
-    choice : (b : Bool) → cond b (Some x) (find p xs) ≡ None → (find p xs ≡ None → list_any p xs ≡ false) → (b || list_any p xs) ≡ false
+    choice : (b : Bool) → cond b (Some x) (find p xs) ≡ None → (find p xs ≡ None → list_any p xs ≡ false)
+        → (b || list_any p xs) ≡ false
     choice true k next = absurd (cc)
     choice false k next = next k
 
@@ -111,14 +118,16 @@ pub found : {X : Type 0} (p : X → Bool) (xs : List X) (x : X) → find p xs �
 found p [] x e = absurd (cc)
 found p (y ∷ ys) x e = choice (p y) refl e (found p ys x)
   where
-    choice : (b : Bool) → p y ≡ b → cond b (Some y) (find p ys) ≡ Some x → (find p ys ≡ Some x → (p x ≡ true) × IsIn x ys)
+    choice : (b : Bool) → p y ≡ b → cond b (Some y) (find p ys) ≡ Some x
+        → (find p ys ≡ Some x → (p x ≡ true) × IsIn x ys)
         → (p x ≡ true) × IsIn x (y ∷ ys)
     choice true q k next = let is : y ≡ x = cc in (subst (λ z. p z ≡ true) is q, inl (sym is))
     choice false q k next = let r = next k in (r.0, inr r.1)
 
 pub in_has : (xs : List Atom) (a : Atom) → IsIn a xs → has same_atom xs a ≡ true
 in_has [] a i = absurd i
-in_has (x ∷ xs) a (inl e) = subst (λ z. has same_atom (x ∷ xs) z ≡ true) (sym e) (has_first same_atom atom_exact atom_itself x xs)
+in_has (x ∷ xs) a (inl e) =
+    subst (λ z. has same_atom (x ∷ xs) z ≡ true) (sym e) (has_first same_atom atom_exact atom_itself x xs)
 in_has (x ∷ xs) a (inr i) = has_more same_atom atom_exact atom_itself x xs a (in_has xs a i)
 
 pub has_room : (plan : Plan) (stand : List Atom) → exhausted_by plan stand ≡ None → HasRoom plan (set_with stand)
@@ -126,7 +135,8 @@ has_room plan stand e v =
     let p = is_exhausted plan (seen_of (set_with stand)) in
     elim (cases_lt v (length plan.vars)) [
       | inl below ↦ none_at nat_eq number_exact number_itself p (numbers_below (length plan.vars)) v
-          (nothing_found p (numbers_below (length plan.vars)) e) (range_has 0 (length plan.vars) v (omega arith) (omega (arith, below)))
+          (nothing_found p (numbers_below (length plan.vars)) e)
+          (range_has 0 (length plan.vars) v (omega arith) (omega (arith, below)))
       | inr past ↦ not_exhausted_past plan (seen_of (set_with stand)) v past
     ]
 
@@ -145,7 +155,8 @@ stands log a c = standing log c.place c.step c.is c.conclusion
         has_more same_atom atom_exact atom_itself first.conclusion (concluded steps) a (standing steps i step q k)
 
 -- a pair of which one has a culprit
-pair_blames : (plan : Plan) (sources : Sources) (log : List Step) (a b : Atom) (numbers : List ℕ) → IsSettling plan sources log
+pair_blames : (plan : Plan) (sources : Sources) (log : List Step) (a b : Atom) (numbers : List ℕ)
+    → IsSettling plan sources log
     → exhausted_by plan (concluded log) ≡ None → cited (concluded log) numbers ≡ Some (a ∷ b ∷ [])
     → are_at_odds plan a b ≡ true
     → ((c : Concludes log a) (d : Concludes log b)
@@ -156,7 +167,8 @@ pair_blames plan sources log a b numbers s room cites odds culprit =
     let set = set_with (concluded log) in
     let c : Citing log numbers (a ∷ b ∷ []) = citing log numbers (a ∷ b ∷ []) cites in
     let a_in = has_first same_atom atom_exact atom_itself a (b ∷ []) in
-    let b_in = has_more same_atom atom_exact atom_itself a (b ∷ []) b (has_first same_atom atom_exact atom_itself b []) in
+    let b_in
+    = has_more same_atom atom_exact atom_itself a (b ∷ []) b (has_first same_atom atom_exact atom_itself b []) in
     let g = c.gives a a_in in
     let k = c.gives b b_in in
     let in_set : (z : Atom) → Concludes log z → has same_atom set z ≡ true
@@ -225,7 +237,8 @@ values_culprit : (plan : Plan) (sources : Sources) (log : List Step) (v : ℕ) (
     → ((culprit : Culprit) × (culprit_from plan c.step.origin ≡ Some culprit))
     ⊎ ((culprit : Culprit) × (culprit_from plan d.step.origin ≡ Some culprit))
 values_culprit plan sources log v x y s differs c d x_in y_in none =
-    by (value_by plan sources c.step f.premises v x f.from c.conclusion) (value_by plan sources d.step g.premises v y g.from d.conclusion)
+    by (value_by plan sources c.step f.premises v x f.from c.conclusion)
+    (value_by plan sources d.step g.premises v y g.from d.conclusion)
   where
     f : Follows plan sources (concluded log) c.step
     f = step_at plan sources log (Is v x) s.accepts c
@@ -235,7 +248,8 @@ values_culprit plan sources log v x y s differs c d x_in y_in none =
 
     named : (z : Value) → has same_atom (concluded log) (Is v z) ≡ true → lies_in_some (grains_of plan v) z ≡ true
     named z h =
-        concluded_named plan sources log s (Is v z) (has_more same_atom atom_exact atom_itself (Here 0) (concluded log) (Is v z) h)
+        concluded_named plan sources log s (Is v z)
+        (has_more same_atom atom_exact atom_itself (Here 0) (concluded log) (Is v z) h)
 
     out_stands : (premises : List Atom) (h : ℕ) → Within same_atom premises (concluded log)
         → has same_atom (set_with premises) (Out v h) ≡ true → has same_atom (concluded log) (Out v h) ≡ true
@@ -250,14 +264,16 @@ values_culprit plan sources log v x y s differs c d x_in y_in none =
     odds h k =
         or_parts (are_at_odds plan (Is v x) (Out v h)) (are_at_odds plan (Is v y) (Out v h))
         (none_at same_atom atom_exact atom_itself
-        (λ o. is_out o && (are_at_odds plan (Is v x) o || are_at_odds plan (Is v y) o)) (concluded log) (Out v h) none k)
+        (λ o. is_out o && (are_at_odds plan (Is v x) o || are_at_odds plan (Is v y) o)) (concluded log) (Out v h) none
+        k)
 
     held : (z : Value) (h : ℕ) → is_grain_with plan v (lies_in z) h ≡ true → are_at_odds plan (Is v z) (Out v h) ≡ true
     held z h e =
         or_left (collides plan (Is v z) (Out v h)) (collides plan (Out v h) (Is v z))
         (and_from (v == v) (is_grain_with plan v (lies_in z) h) (eq-eqb v v refl) e)
 
-    by : Sayer plan sources c.step.origin v x (set_with f.premises) → Sayer plan sources d.step.origin v y (set_with g.premises)
+    by : Sayer plan sources c.step.origin v x (set_with f.premises)
+        → Sayer plan sources d.step.origin v y (set_with g.premises)
         → ((culprit : Culprit) × (culprit_from plan c.step.origin ≡ Some culprit))
         ⊎ ((culprit : Culprit) × (culprit_from plan d.step.origin ≡ Some culprit))
     by (guilty culprit e) later = inl (culprit, e)
@@ -282,9 +298,11 @@ odds_culprit plan sources log (Here i) b s odds none c d = absurd (slot_calm b o
     slot_calm (Here j) e = cc
     slot_calm (Out w g) e = cc
     slot_calm (Is w y) e = cc
-odds_culprit plan sources log (Out v g) b s odds none c d = inl (out_culprit plan sources log (Out v g) s.accepts refl c)
+odds_culprit plan sources log (Out v g) b s odds none c d =
+    inl (out_culprit plan sources log (Out v g) s.accepts refl c)
 odds_culprit plan sources log (Is v x) (Here j) s odds none c d = absurd (cc)
-odds_culprit plan sources log (Is v x) (Out w g) s odds none c d = inr (out_culprit plan sources log (Out w g) s.accepts refl d)
+odds_culprit plan sources log (Is v x) (Out w g) s odds none c d =
+    inr (out_culprit plan sources log (Out w g) s.accepts refl d)
 odds_culprit plan sources log (Is v x) (Is w y) s odds none c d =
     let p = odds_values plan v w x y odds in
     subst (λ z. (d : Concludes log (Is z y))
@@ -313,7 +331,8 @@ exhausted_is_touched plan stand atom v clear e =
     before a h other =
         elim (has_either same_atom atom_exact atom_itself (set_with stand) (atom ∷ []) a h) [
           | inl k ↦ k
-          | inr k ↦ elim (has_cases same_atom atom_exact atom_itself atom [] a k) [ inl q ↦ absurd (other q) | inr z ↦ absurd (cc) ]
+          | inr k ↦ elim (has_cases same_atom atom_exact atom_itself atom [] a k)
+              [ inl q ↦ absurd (other q) | inr z ↦ absurd (cc) ]
         ]
 
     untouched : uses_up plan v atom ≡ false → ⊥
@@ -326,6 +345,8 @@ exhausted_is_touched plan stand atom v clear e =
         both (slot_number plan v slot.0 (slot_in (slice_get plan.vars v)) slot.1) (ap (uses_up plan v) k ∙ q)) in
         let out : are_all_out plan (seen_of (set_with stand)) v ≡ true
         = all_grows (λ g. has same_atom more (Out v g)) (λ g. has same_atom (set_with stand) (Out v g))
-        (λ g h. before (Out v g) h (λ k. both (eq-eqb v v refl) (ap (uses_up plan v) k ∙ q))) (numbers_below (count_of plan v)) p.1 in
-        both (and_from (is_here plan (seen_of (set_with stand)) v) (are_all_out plan (seen_of (set_with stand)) v) here out)
+        (λ g h. before (Out v g) h (λ k. both (eq-eqb v v refl) (ap (uses_up plan v) k ∙ q)))
+        (numbers_below (count_of plan v)) p.1 in
+        both (and_from (is_here plan (seen_of (set_with stand)) v) (are_all_out plan (seen_of (set_with stand)) v) here
+        out)
         ((facts plan (set_with stand) clear).room v)

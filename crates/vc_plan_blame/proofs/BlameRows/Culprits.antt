@@ -19,7 +19,8 @@ use Rattle.vc_plan.specs.Gives.{by_rule, by_entry}
 use Rattle.vc_plan.specs.Gives as givers
 use Rattle.vc_plan.specs.Settle.{settlement_of}
 use Rattle.vc_plan.specs.Sources.{Sources}
-use Rattle.vc_plan.proofs.PlanRows.Models.{empty, fixed_var, last, open_var, pump, root, rule, three_grains, users, whole}
+use Rattle.vc_plan.proofs.PlanRows.Models.{empty, fixed_var, last, open_var, pump, root, rule, three_grains, users}
+use Rattle.vc_plan.proofs.PlanRows.Models.{whole}
 use Rattle.vc_plan_reasons.specs.Fitting.{sources_fit}
 use Rattle.vc_plan_reasons.specs.Refuting.{refutes}
 use Rattle.vc_plan_reasons.proofs.ReasonRows.Steps.{step, by_user, clash_of, large_size, no_e1, no_e2}
@@ -39,10 +40,12 @@ abbrev told : Option Clash → Told
 told None = nobody
 told (Some clash) = named clash.culprit clash.premises
 
--- PUMP is large, so its motor is E3 by the last grain; the user wants E1. The user isn't to blame, and the last grain's rule
+-- PUMP is large, so its motor is E3 by the last grain; the user wants E1. The user isn't to blame, and the last grain's
+-- rule
 -- isn't either: behind it stands the table, by which E1 is out
 abbrev two_motors : List Step
-two_motors = large_size ∷ no_e1 (1 ∷ []) ∷ no_e2 (1 ∷ []) ∷ step (Is 1 (Text 5)) (Rule 2) (2 ∷ 3 ∷ []) ∷ by_user 1 (Text 3) ∷ []
+two_motors = large_size ∷ no_e1 (1 ∷ []) ∷ no_e2 (1 ∷ []) ∷ step (Is 1 (Text 5)) (Rule 2) (2 ∷ 3 ∷ [])
+    ∷ by_user 1 (Text 3) ∷ []
 
 abbrev large_e1 : Sources
 large_e1 = users (Some (Text 2) ∷ Some (Text 3) ∷ [])
@@ -98,7 +101,8 @@ nothing_left = record empty {
   slots = root ∷ [];
   vars = open_var 0 ∷ [];
   rules =
-      last 0 ∷ rule 0 (0 ∷ []) (Among 0 (Against Unequal (Text 1))) ∷ rule 0 (0 ∷ []) (Among 0 (Against Unequal (Text 0))) ∷ [];
+      last 0 ∷ rule 0 (0 ∷ []) (Among 0 (Against Unequal (Text 1)))
+      ∷ rule 0 (0 ∷ []) (Among 0 (Against Unequal (Text 0))) ∷ [];
 }
 
 abbrev both_out : List Step
@@ -130,7 +134,8 @@ two_say = record empty {
   slots = root ∷ [];
   vars = fixed_var 0 ∷ [];
   rules =
-      last 0 ∷ rule 0 (0 ∷ []) (Among 0 (Against Equal (whole 4))) ∷ rule 0 (0 ∷ []) (Among 0 (Against Equal (whole 1))) ∷ [];
+      last 0 ∷ rule 0 (0 ∷ []) (Among 0 (Against Equal (whole 4))) ∷ rule 0 (0 ∷ []) (Among 0 (Against Equal (whole 1)))
+      ∷ [];
 }
 
 abbrev said : List Step
@@ -146,7 +151,8 @@ rules_refute = refl
 abbrev user_and_rule : List Step
 user_and_rule = by_user 0 (whole 4) ∷ step (Is 0 (whole 1)) (Rule 2) [] ∷ []
 
-rule_blamed : blame two_say user_and_rule (Is 0 (whole 1)) ≡ Some (clash_of user_and_rule (culprits.Rule 2) (1 ∷ 2 ∷ []))
+rule_blamed : blame two_say user_and_rule (Is 0 (whole 1))
+    ≡ Some (clash_of user_and_rule (culprits.Rule 2) (1 ∷ 2 ∷ []))
 rule_blamed = refl
 
 rule_refutes : refuted_by two_say (users (Some (whole 4) ∷ [])) (blame two_say user_and_rule (Is 0 (whole 1))) ≡ true

@@ -78,14 +78,17 @@ pair_first : colliding below stand (Out 0 0) ≢ Is 0 (Text 0) ∷ Out 0 0 ∷ [
 pair_first e = cc
 
 -- of what is at odds with a value, that its grain is out is found before another value
-grain_first : colliding pump (Is 1 (Text 5) ∷ Out 1 0 ∷ Is 1 (Text 3) ∷ []) (Is 1 (Text 3)) ≡ Out 1 0 ∷ Is 1 (Text 3) ∷ []
+grain_first : colliding pump (Is 1 (Text 5) ∷ Out 1 0 ∷ Is 1 (Text 3) ∷ []) (Is 1 (Text 3))
+    ≡ Out 1 0 ∷ Is 1 (Text 3) ∷ []
 grain_first = refl
 
-value_first : colliding pump (Is 1 (Text 5) ∷ Out 1 0 ∷ Is 1 (Text 3) ∷ []) (Is 1 (Text 3)) ≢ Is 1 (Text 5) ∷ Is 1 (Text 3) ∷ []
+value_first : colliding pump (Is 1 (Text 5) ∷ Out 1 0 ∷ Is 1 (Text 3) ∷ []) (Is 1 (Text 3)) ≢ Is 1 (Text 5)
+    ∷ Is 1 (Text 3) ∷ []
 value_first e = cc
 
 -- another value only where no such grain is out; and where a grain comes last, the value that it holds
-value_alone : colliding pump (Is 1 (Text 5) ∷ Out 1 1 ∷ Is 1 (Text 3) ∷ []) (Is 1 (Text 3)) ≡ Is 1 (Text 5) ∷ Is 1 (Text 3) ∷ []
+value_alone : colliding pump (Is 1 (Text 5) ∷ Out 1 1 ∷ Is 1 (Text 3) ∷ []) (Is 1 (Text 3))
+    ≡ Is 1 (Text 5) ∷ Is 1 (Text 3) ∷ []
 value_alone = refl
 
 grain_last : colliding pump (Is 0 (Text 0) ∷ Is 1 (Text 3) ∷ Out 1 0 ∷ []) (Out 1 0) ≡ Is 1 (Text 3) ∷ Out 1 0 ∷ []
@@ -105,7 +108,8 @@ from_zero e = cc
 later_one : number_of (Is 0 (Text 0) ∷ Out 1 1 ∷ Out 1 1 ∷ []) (Out 1 1) ≢ 3
 later_one e = cc
 
--- a grain out and the slot can use up a variable's grains, a value can't, nor can another slot or another variable's grain
+-- a grain out and the slot can use up a variable's grains, a value can't, nor can another slot or another variable's
+-- grain
 own_grain : uses_up below 1 (Out 1 0) ≡ true
 own_grain = refl
 

@@ -8,7 +8,8 @@ use Rattle.vc_value.specs.declared.value.Value.{Value}
 use Rattle.vc_plan.specs.declared.atoms.Atom.{Atom}
 use Rattle.vc_plan.specs.declared.atoms.Atom.TheVariants.{Here, Out, Is}
 use Rattle.vc_plan.specs.declared.conditions.Condition.{Condition}
-use Rattle.vc_plan.specs.declared.conditions.Condition.TheVariants.{Always, Compared, IsIn, Specified, Holds, Filled, Not', And', Or'}
+use Rattle.vc_plan.specs.declared.conditions.Condition.TheVariants.{Always, Compared, IsIn, Specified, Holds, Filled}
+use Rattle.vc_plan.specs.declared.conditions.Condition.TheVariants.{Not', And', Or'}
 use Rattle.vc_plan.specs.declared.conditions.Kleene.TheVariants.{Unknown}
 use Rattle.vc_plan.specs.declared.plans.Plan.{Plan}
 use Rattle.vc_plan.specs.declared.terms.Term.{Term}
@@ -19,7 +20,8 @@ use Rattle.vc_plan.specs.Numbers.{applied, joined}
 use Rattle.vc_plan.specs.Reads.{vars_in, vars_read, vars_of_term, vars_of_condition}
 use Rattle.vc_plan.specs.Readings.{net_reading}
 use Rattle.vc_plan.specs.Seen.{Seen, same_atom, seen_of, value_in, is_slot_here, is_left_by, is_left}
-use Rattle.vc_plan.specs.Truth.{number_of_value, value_of_number, number, term_value, compared, is_in, specified, truth, truth_at, value_at, truth_in, value_in_term}
+use Rattle.vc_plan.specs.Truth.{number_of_value, value_of_number, number, term_value, compared, is_in, specified, truth}
+use Rattle.vc_plan.specs.Truth.{truth_at, value_at, truth_in, value_in_term}
 use Rattle.std.specs.Option.{option_to_list}
 use Rattle.vc_plan.proofs.PlanLaws.Extending.{one_value, value_has, value_read}
 use Rattle.vc_plan.proofs.PlanLaws.Facts.{Facts, facts}
@@ -82,7 +84,8 @@ pub record Agree (things : List Thing) (s t : Seen) : Type 0 where
   pub here : (i : ℕ) → has_thing things (slot_at i) ≡ true → s.here i ≡ t.here i
   pub var : (v : ℕ) → has_thing things (var_at v) ≡ true → SameVar s t v
 
-pub agree_vars : (things : List Thing) (s t : Seen) → Agree things s t → (vs : List ℕ) → Within same_thing (map var_at vs) things
+pub agree_vars : (things : List Thing) (s t : Seen) → Agree things s t → (vs : List ℕ)
+    → Within same_thing (map var_at vs) things
     → SameVars s t vs
 agree_vars things s t a [] w = tt
 agree_vars things s t a (v ∷ vs) w = (
@@ -95,11 +98,13 @@ pub agree_slots : (things : List Thing) (s t : Seen) → Agree things s t → (i
 agree_slots things s t a [] w = tt
 agree_slots things s t a (i ∷ is) w = (
   a.here i (w (slot_at i) (has_first same_thing thing_exact thing_itself (slot_at i) (map slot_at is))),
-  agree_slots things s t a is (λ x h. w x (has_more same_thing thing_exact thing_itself (slot_at i) (map slot_at is) x h)),
+  agree_slots things s t a is
+      (λ x h. w x (has_more same_thing thing_exact thing_itself (slot_at i) (map slot_at is) x h)),
 )
 
 same_value_read : (plan : Plan) (set other : List Atom) → Facts plan other → (v : ℕ)
-    → ((a : Value) → has same_atom set (Is v a) ≡ has same_atom other (Is v a)) → (o p : Option Value) → value_in set v ≡ o
+    → ((a : Value) → has same_atom set (Is v a) ≡ has same_atom other (Is v a)) → (o p : Option Value)
+    → value_in set v ≡ o
     → value_in other v ≡ p → o ≡ p
 same_value_read plan set other f v h None None d e = refl
 same_value_read plan set other f v h None (Some b) d e =
@@ -152,14 +157,16 @@ pub out_same : (s t : Seen) (v : ℕ) → SameVar s t v → s.out v ≡ t.out v
 out_same s t v h = λ i g. h.out g i
 
 -- terms
-pub number_same : (s t : Seen) (term : Term) → SameValues s t (vars_in term) → number (net_reading s) term ≡ number (net_reading t) term
+pub number_same : (s t : Seen) (term : Term) → SameValues s t (vars_in term)
+    → number (net_reading s) term ≡ number (net_reading t) term
 number_same s t (Literal a) h = refl
 number_same s t (Read v) h = ap number_of_value h.0
 number_same s t (PartSum slot characteristic) h = refl
 number_same s t (PartCount slot) h = refl
 number_same s t (Applied' function p a) h = ap (option_map (applied function)) (number_same s t a h)
 number_same s t (Joined' operator p a q b) h =
-    ap (λ x. joined operator x (number (net_reading s) b)) (number_same s t a (values_front s t (vars_in a) (vars_in b) h))
+    ap (λ x. joined operator x (number (net_reading s) b))
+    (number_same s t a (values_front s t (vars_in a) (vars_in b) h))
     ∙ ap (joined operator (number (net_reading t) a)) (number_same s t b (values_back s t (vars_in a) (vars_in b) h))
 
 term_same : (s t : Seen) (term : Term) → SameValues s t (vars_in term)
@@ -181,7 +188,8 @@ pub value_same : (plan : Plan) (s t : Seen) (term : ℕ) → SameValues s t (var
 value_same plan s t term h = value_in_same s t (slice_get plan.terms term) h
 
 -- conditions
-condition_same : (s t : Seen) (c : Condition) → SameValues s t (vars_read c) → truth (net_reading s) c ≡ truth (net_reading t) c
+condition_same : (s t : Seen) (c : Condition) → SameValues s t (vars_read c)
+    → truth (net_reading s) c ≡ truth (net_reading t) c
 condition_same s t Always h = refl
 condition_same s t (Compared r a b) h =
     ap (λ x. compared r x (term_value (net_reading s) b)) (term_same s t a (values_front s t (vars_in a) (vars_in b) h))
@@ -192,10 +200,12 @@ condition_same s t (Holds set text) h = refl
 condition_same s t (Filled set) h = refl
 condition_same s t (Not' p c) h = ap kleene_not (condition_same s t c h)
 condition_same s t (And' p c q d) h =
-    ap (λ k. kleene_and k (truth (net_reading s) d)) (condition_same s t c (values_front s t (vars_read c) (vars_read d) h))
+    ap (λ k. kleene_and k (truth (net_reading s) d))
+    (condition_same s t c (values_front s t (vars_read c) (vars_read d) h))
     ∙ ap (kleene_and (truth (net_reading t) c)) (condition_same s t d (values_back s t (vars_read c) (vars_read d) h))
 condition_same s t (Or' p c q d) h =
-    ap (λ k. kleene_or k (truth (net_reading s) d)) (condition_same s t c (values_front s t (vars_read c) (vars_read d) h))
+    ap (λ k. kleene_or k (truth (net_reading s) d))
+    (condition_same s t c (values_front s t (vars_read c) (vars_read d) h))
     ∙ ap (kleene_or (truth (net_reading t) c)) (condition_same s t d (values_back s t (vars_read c) (vars_read d) h))
 
 truth_in_same : (s t : Seen) (o : Option Condition) → SameValues s t (vars_of_condition o)

@@ -21,7 +21,8 @@ use Rattle.vc_plan.specs.Sources.{Sources}
 use Rattle.vc_plan.proofs.PlanLaws.Atoms.{atom_exact, atom_itself}
 use Rattle.vc_plan.proofs.PlanLaws.Givers.{system_laws}
 use Rattle.vc_plan.proofs.PlanLaws.Rounds.{rounds_suffice, settles_below_closed, settles_least}
-use Rattle.vc_plan_reasons.specs.Checking.{ends_with, is_trimmed_chain, concluded, follows, is_accepted, is_silent, set_with, step_form}
+use Rattle.vc_plan_reasons.specs.Checking.{ends_with, is_trimmed_chain, concluded, follows, is_accepted, is_silent}
+use Rattle.vc_plan_reasons.specs.Checking.{set_with, step_form}
 use Rattle.vc_plan_reasons.specs.Laws.{AcceptedUnrefused, ChainsStand, ConclusionsStand, WholeSettles}
 use Rattle.vc_plan_reasons.proofs.ReasonLaws.Givers.{following, is_given, rooted}
 
@@ -70,7 +71,8 @@ silent_none (atoms (b ∷ more)) a e h = cc
 
 -- a clear set at which every giver is silent is closed
 silent_closed : (plan : Plan) (sources : Sources) (set : List Atom) → is_clear plan set ≡ true
-    → list_all (λ giver. is_silent (gives plan sources giver (seen_of set))) (givers_of plan) ≡ true → IsClosed plan sources set
+    → list_all (λ giver. is_silent (gives plan sources giver (seen_of set))) (givers_of plan) ≡ true
+    → IsClosed plan sources set
 silent_closed plan sources set clear silent =
     let system = system_of plan sources in
     let quiet : (o : Giver) → settling.IsIn o (givers_of plan) → is_silent (gives plan sources o (seen_of set)) ≡ true
@@ -98,26 +100,34 @@ whole_settles plan sources steps e =
     let p : (accepted ≡ true) × ((clear && silent) ≡ true) = and_parts accepted (clear && silent) e in
     let q : (clear ≡ true) × (silent ≡ true) = and_parts clear silent p.1 in
     let closed : IsClosed plan sources set = silent_closed plan sources set q.0 q.1 in
-    let root : Within same_atom base set = λ a h. has_front same_atom atom_exact atom_itself base (concluded steps) a h in
+    let root : Within same_atom base set
+    = λ a h. has_front same_atom atom_exact atom_itself base (concluded steps) a h in
     let end = settles_below_closed plan sources set closed root in
-    let s : Settled plan sources end.0 = settled_closed plan sources end.0 (rooted plan (concluded steps) q.0) end.1 in (
+    let s : Settled plan sources end.0
+    = settled_closed plan sources end.0 (rooted plan (concluded steps) q.0) end.1 in (
       end.0,
       end.1,
-      λ a. same_test (has same_atom end.0 a) (has same_atom set a) (settles_least plan sources end.0 set end.1 closed root a)
-          (all_stand plan end.0 (concluded steps) s.root (conclusions_stand plan sources steps end.0 p.0 s.closed s.root) a),
+      λ a. same_test (has same_atom end.0 a) (has same_atom set a)
+          (settles_least plan sources end.0 set end.1 closed root a)
+          (all_stand plan end.0 (concluded steps) s.root
+          (conclusions_stand plan sources steps end.0 p.0 s.closed s.root) a),
     )
 
 -- the last conclusion is one
-ends_concluded : (atom : Atom) (steps : List Step) → ends_with atom steps ≡ true → has same_atom (concluded steps) atom ≡ true
+ends_concluded : (atom : Atom) (steps : List Step) → ends_with atom steps ≡ true
+    → has same_atom (concluded steps) atom ≡ true
 ends_concluded atom [] e = absurd (cc)
 ends_concluded atom (step ∷ []) e =
     let is : step.conclusion ≡ atom = atom_exact step.conclusion atom e in
-    subst (λ a. has same_atom (step.conclusion ∷ []) a ≡ true) is (has_first same_atom atom_exact atom_itself step.conclusion [])
+    subst (λ a. has same_atom (step.conclusion ∷ []) a ≡ true) is
+    (has_first same_atom atom_exact atom_itself step.conclusion [])
 ends_concluded atom (step ∷ (next ∷ more)) e =
-    has_more same_atom atom_exact atom_itself step.conclusion (concluded (next ∷ more)) atom (ends_concluded atom (next ∷ more) e)
+    has_more same_atom atom_exact atom_itself step.conclusion (concluded (next ∷ more)) atom
+    (ends_concluded atom (next ∷ more) e)
 
 -- a list that ends with something has a first step, at whose premises the root is
-ended_rooted : (plan : Plan) (sources : Sources) (atom : Atom) (steps : List Step) → is_accepted plan sources steps ≡ true
+ended_rooted : (plan : Plan) (sources : Sources) (atom : Atom) (steps : List Step)
+    → is_accepted plan sources steps ≡ true
     → ends_with atom steps ≡ true → 0 < length plan.slots
 ended_rooted plan sources atom [] e h = absurd (cc)
 ended_rooted plan sources atom (step ∷ steps) e h =
@@ -132,5 +142,6 @@ chains_stand plan sources atom steps set e ends =
     let p : ((accepted && trimmed) ≡ true) × (ends_with atom steps ≡ true)
     = and_parts (accepted && trimmed) (ends_with atom steps) e in
     let q : (accepted ≡ true) × (trimmed ≡ true) = and_parts accepted trimmed p.0 in
-    let s : Settled plan sources set = settled_closed plan sources set (ended_rooted plan sources atom steps q.0 p.1) ends in
+    let s : Settled plan sources set
+    = settled_closed plan sources set (ended_rooted plan sources atom steps q.0 p.1) ends in
     conclusions_stand plan sources steps set q.0 s.closed s.root atom (ends_concluded atom steps p.1)

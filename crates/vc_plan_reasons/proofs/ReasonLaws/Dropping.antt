@@ -1,5 +1,6 @@
 -- What is dropped of an accepted log is of things that the changed variables reach.
-use Rattle.std.proofs.Common.{◌≡◌, ℕ, zero, suc, ◌<◌, Bool, true, false, cond, ◌&&◌, ◌||◌, ◌⊎◌, List, [], ◌∷◌, ◌++◌, length, map, refl, sym, ap, ◌∙◌, subst, inl, inr, arith, append_assoc, length-append}
+use Rattle.std.proofs.Common.{◌≡◌, ℕ, zero, suc, ◌<◌, Bool, true, false, cond, ◌&&◌, ◌||◌, ◌⊎◌, List, [], ◌∷◌, ◌++◌}
+use Rattle.std.proofs.Common.{length, map, refl, sym, ap, ◌∙◌, subst, inl, inr, arith, append_assoc, length-append}
 use Rattle.std.specs.Prelude.{Option, None, Some, slice_get, flat_map, nat_eq, ◌==◌}
 use Rattle.std.specs.List.{filter, list_any}
 use Rattle.std.proofs.lemmas.Bool.{or_left, or_right, and_parts, eqb-true, or_cases}
@@ -29,10 +30,13 @@ use Rattle.vc_plan.specs.Seen.{same_atom, seen_of}
 use Rattle.vc_plan.specs.Sources.{Sources, entry_of}
 use Rattle.vc_plan.specs.Valid.{IsValid}
 use Rattle.vc_plan.proofs.PlanLaws.Atoms.{atom_exact, atom_itself}
-use Rattle.vc_plan_reasons.specs.Checking.{are_of, concluded, follows, given_by, giver_from, giver_of, is_by, set_with, step_form, things_read, var_of}
+use Rattle.vc_plan_reasons.specs.Checking.{are_of, concluded, follows, given_by, giver_from, giver_of, is_by, set_with}
+use Rattle.vc_plan_reasons.specs.Checking.{step_form, things_read, var_of}
 use Rattle.vc_plan_reasons.specs.Keeping.{changed, entry_differs, is_gone, origin_differs, user_differs}
 use Rattle.vc_plan_reasons.specs.Laws.{DroppedIsReached}
-use Rattle.vc_plan_reasons.specs.Things.{Thing, slot_at, var_at, same_thing, has_thing, thing_of, slots_of_var, slots_of_kind, vars_of_kind, rule_reads, rule_writes, kind_writes, reads_in, writes_in, giver_reads, giver_writes}
+use Rattle.vc_plan_reasons.specs.Things.{Thing, slot_at, var_at, same_thing, has_thing, thing_of, slots_of_var}
+use Rattle.vc_plan_reasons.specs.Things.{slots_of_kind, vars_of_kind, rule_reads, rule_writes, kind_writes, reads_in}
+use Rattle.vc_plan_reasons.specs.Things.{writes_in, giver_reads, giver_writes}
 use Rattle.vc_plan_reasons.specs.Work.{links_of, reach_of}
 use Rattle.vc_plan_reasons.proofs.ReasonLaws.Givers.{giver_var_there}
 use Rattle.vc_plan_reasons.proofs.ReasonLaws.Reaching.{reach_is_least, thing_exact, thing_itself}
@@ -45,7 +49,8 @@ record Followed (plan : Plan) (sources : Sources) (step : Step) (premises : List
   given : has same_atom (atoms_of (gives plan sources giver (seen_of (set_with premises)))) step.conclusion ≡ true
   read : are_of (giver_reads plan giver) premises ≡ true
 
-followed : (plan : Plan) (sources : Sources) (step : Step) (premises : List Atom) → follows plan sources step premises ≡ true
+followed : (plan : Plan) (sources : Sources) (step : Step) (premises : List Atom)
+    → follows plan sources step premises ≡ true
     → Followed plan sources step premises
 followed plan sources step premises e =
     let set = set_with premises in
@@ -62,7 +67,8 @@ followed plan sources step premises e =
     by (Some giver) is read given = record { giver = giver; meant = is; given = given; read = read }
 
 -- a rule that reads a thing of a spread list writes things of it
-any_has : (p : Thing → Bool) (things : List Thing) (t : Thing) → has_thing things t ≡ true → p t ≡ true → list_any p things ≡ true
+any_has : (p : Thing → Bool) (things : List Thing) (t : Thing) → has_thing things t ≡ true → p t ≡ true
+    → list_any p things ≡ true
 any_has p [] t h e = absurd (cc h)
 any_has p (x ∷ things) t h e =
     elim (has_cases same_thing thing_exact thing_itself x things t h) [
@@ -81,17 +87,20 @@ flat_has f (x ∷ rules) rule t (inl e) h =
 flat_has f (x ∷ rules) rule t (inr i) h =
     has_back same_thing thing_exact thing_itself (f x) (flat_map f rules) t (flat_has f rules rule t i h)
 
-rule_spreads : (plan : Plan) (things all : List Thing) → IsSpread (links_of plan) things all → (rule : PlanRule) (read written : Thing)
+rule_spreads : (plan : Plan) (things all : List Thing) → IsSpread (links_of plan) things all
+    → (rule : PlanRule) (read written : Thing)
     → IsIn rule plan.rules → has_thing (rule_reads plan rule) read ≡ true → has_thing all read ≡ true
     → has_thing (rule_writes plan rule) written ≡ true → has_thing all written ≡ true
 rule_spreads plan things all spread rule read written i reads reached writes =
-    let some : reads_some (links_of plan) all rule ≡ true = any_has (has same_thing all) (rule_reads plan rule) read reads reached in
+    let some : reads_some (links_of plan) all rule ≡ true
+    = any_has (has same_thing all) (rule_reads plan rule) read reads reached in
     spread.written written
     (flat_has (written_by plan all) plan.rules rule written i
     (ap (λ b. has_thing (cond b (rule_writes plan rule) []) written) some ∙ writes))
 
 -- the rule of a variable's last grain, which a valid plan has, reads the variable's slot and writes it
-some_from : (p : PlanRule → Bool) (rules : List PlanRule) → (length (filter p rules) == 1) ≡ true → list_any p rules ≡ true
+some_from : (p : PlanRule → Bool) (rules : List PlanRule) → (length (filter p rules) == 1) ≡ true
+    → list_any p rules ≡ true
 some_from p [] e = absurd (cc e)
 some_from p (x ∷ rules) e = choice (p x) e (some_from p rules)
   where
@@ -113,7 +122,8 @@ last_is v (Line i) e = absurd (cc e)
 kind_slots_read : (plan : Plan) (rule : PlanRule) (slots : List ℕ) (t : Thing) → slots_of_kind plan rule.kind ≡ slots
     → has_thing (map slot_at slots) t ≡ true → has_thing (rule_reads plan rule) t ≡ true
 kind_slots_read plan rule slots t is h =
-    let vars = map var_at (vars_of_condition (slice_get plan.conditions rule.condition) ++ vars_of_kind plan rule.kind) in
+    let vars
+    = map var_at (vars_of_condition (slice_get plan.conditions rule.condition) ++ vars_of_kind plan rule.kind) in
     has_front same_thing thing_exact thing_itself (map slot_at (rule.slots ++ slots_of_kind plan rule.kind)) vars t
     (behind rule.slots (ap (λ s. has_thing (map slot_at s) t) is ∙ h))
   where
@@ -121,7 +131,8 @@ kind_slots_read plan rule slots t is h =
         → has_thing (map slot_at (front ++ slots_of_kind plan rule.kind)) t ≡ true
     behind [] k = k
     behind (i ∷ front) k =
-        has_more same_thing thing_exact thing_itself (slot_at i) (map slot_at (front ++ slots_of_kind plan rule.kind)) t (behind front k)
+        has_more same_thing thing_exact thing_itself (slot_at i) (map slot_at (front ++ slots_of_kind plan rule.kind)) t
+        (behind front k)
 
 source_spreads : (plan : Plan) → IsValid plan → (things all : List Thing) → IsSpread (links_of plan) things all
     → (v : ℕ) (read : Thing) → v < length plan.vars → has_thing (map slot_at (slots_of_var plan v)) read ≡ true
@@ -130,18 +141,22 @@ source_spreads plan valid things all spread v read below reads reached =
     let one : has_one_last plan v ≡ true
     = all_at nat_eq number_exact number_itself (has_one_last plan) (numbers_below (length plan.vars)) v valid.lasts
     (range_has 0 (length plan.vars) v (omega arith) (omega (arith, below))) in
-    let r = any_at (λ rule. is_last_of v rule.kind) plan.rules (some_from (λ rule. is_last_of v rule.kind) plan.rules one) in
+    let r
+    = any_at (λ rule. is_last_of v rule.kind) plan.rules
+    (some_from (λ rule. is_last_of v rule.kind) plan.rules one) in
     let is : r.0.kind ≡ Last v = last_is v r.0.kind r.2 in
     rule_spreads plan things all spread r.0 read (var_at v) r.1
     (kind_slots_read plan r.0 (slots_of_var plan v) read (ap (slots_of_kind plan) is) reads) reached
-    (ap (λ k. has_thing (kind_writes plan r.0 k) (var_at v)) is ∙ has_first same_thing thing_exact thing_itself (var_at v) [])
+    (ap (λ k. has_thing (kind_writes plan r.0 k) (var_at v)) is
+    ∙ has_first same_thing thing_exact thing_itself (var_at v) [])
 
 -- so a giver whose premise is reached gives what is reached
 only_thing : (t u : Thing) → has_thing (t ∷ []) u ≡ true → u ≡ t
 only_thing t u h =
     elim (has_cases same_thing thing_exact thing_itself t [] u h) [ inl e ↦ e | inr k ↦ absurd (cc k) ]
 
-rule_reaches : (plan : Plan) (things all : List Thing) → IsSpread (links_of plan) things all → (read written : Thing) (r : ℕ)
+rule_reaches : (plan : Plan) (things all : List Thing) → IsSpread (links_of plan) things all
+    → (read written : Thing) (r : ℕ)
     (o : Option PlanRule)
     → slice_get plan.rules r ≡ o → has_thing (reads_in plan o) read ≡ true → has_thing all read ≡ true
     → has_thing (writes_in plan o) written ≡ true → has_thing all written ≡ true
@@ -154,21 +169,27 @@ rule_reaches plan things all spread read written r (Some rule) is reads reached 
     at_in (y ∷ rules) zero x e = let same : y ≡ x = cc e in inl (sym same)
     at_in (y ∷ rules) (suc n) x e = inr (at_in rules n x e)
 
-giver_reaches : (plan : Plan) → IsValid plan → (things all : List Thing) → IsSpread (links_of plan) things all → (sources : Sources)
+giver_reaches : (plan : Plan) → IsValid plan → (things all : List Thing) → IsSpread (links_of plan) things all
+    → (sources : Sources)
     (giver : Giver) (set : List Atom) (atom : Atom) (read : Thing)
-    → has same_atom (atoms_of (gives plan sources giver (seen_of set))) atom ≡ true → has_thing (giver_reads plan giver) read ≡ true
+    → has same_atom (atoms_of (gives plan sources giver (seen_of set))) atom ≡ true
+    → has_thing (giver_reads plan giver) read ≡ true
     → has_thing all read ≡ true → has_thing all (thing_of atom) ≡ true
 giver_reaches plan valid things all spread sources (by_rule r) set atom read given reads reached =
     rule_reaches plan things all spread read (thing_of atom) r (slice_get plan.rules r) refl reads reached
     (gives_what_it_writes plan sources (by_rule r) set atom given)
 giver_reaches plan valid things all spread sources (by_user v) set atom read given reads reached =
-    let is : thing_of atom ≡ var_at v = only_thing (var_at v) (thing_of atom) (gives_what_it_writes plan sources (by_user v) set atom given) in
+    let is : thing_of atom ≡ var_at v
+    = only_thing (var_at v) (thing_of atom) (gives_what_it_writes plan sources (by_user v) set atom given) in
     ap (has_thing all) is
-    ∙ source_spreads plan valid things all spread v read (giver_var_there plan sources (by_user v) v (inl refl) set atom given) reads reached
+    ∙ source_spreads plan valid things all spread v read
+    (giver_var_there plan sources (by_user v) v (inl refl) set atom given) reads reached
 giver_reaches plan valid things all spread sources (by_entry v) set atom read given reads reached =
-    let is : thing_of atom ≡ var_at v = only_thing (var_at v) (thing_of atom) (gives_what_it_writes plan sources (by_entry v) set atom given) in
+    let is : thing_of atom ≡ var_at v
+    = only_thing (var_at v) (thing_of atom) (gives_what_it_writes plan sources (by_entry v) set atom given) in
     ap (has_thing all) is
-    ∙ source_spreads plan valid things all spread v read (giver_var_there plan sources (by_entry v) v (inr refl) set atom given) reads reached
+    ∙ source_spreads plan valid things all spread v read
+    (giver_var_there plan sources (by_entry v) v (inr refl) set atom given) reads reached
 
 -- a source that differs is that of a changed variable
 abbrev differs : Sources → Sources → ℕ → Bool
@@ -187,7 +208,8 @@ source_of old new User (Some v) giver is e =
     let same : by_user v ≡ giver = cc is in
     record { var = v; is = inl (sym same); differs = or_left (user_differs old new v) (entry_differs old new v) e }
 source_of old new (Written procedure statement) None giver is e = absurd (cc e)
-source_of old new (Written procedure statement) (Some v) giver is e = choice (is_by procedure statement (entry_of old v)) is
+source_of old new (Written procedure statement) (Some v) giver is e =
+    choice (is_by procedure statement (entry_of old v)) is
   where
     choice : (b : Bool) → cond b (Some (by_entry v)) None ≡ Some giver → Source old new giver
     choice true k =
@@ -195,15 +217,18 @@ source_of old new (Written procedure statement) (Some v) giver is e = choice (is
         record { var = v; is = inr (sym same); differs = or_right (user_differs old new v) (entry_differs old new v) e }
     choice false k = absurd (cc k)
 
-gone_reached : (plan : Plan) (old new : Sources) (all : List Thing) → Within same_thing (map var_at (changed plan old new)) all
+gone_reached : (plan : Plan) (old new : Sources) (all : List Thing)
+    → Within same_thing (map var_at (changed plan old new)) all
     → (step : Step) (premises : List Atom) → Followed plan old step premises → is_gone old new step ≡ true
     → has_thing all (thing_of step.conclusion) ≡ true
 gone_reached plan old new all within step premises f gone =
     let s : Source old new f.giver = source_of old new step.origin (var_of step.conclusion) f.giver f.meant gone in
-    let below : s.var < length plan.vars = giver_var_there plan old f.giver s.var s.is (set_with premises) step.conclusion f.given in
+    let below : s.var < length plan.vars
+    = giver_var_there plan old f.giver s.var s.is (set_with premises) step.conclusion f.given in
     let is : thing_of step.conclusion ≡ var_at s.var
     = only_thing (var_at s.var) (thing_of step.conclusion)
-    (writes_own f.giver s.var s.is (gives_what_it_writes plan old f.giver (set_with premises) step.conclusion f.given)) in
+    (writes_own f.giver s.var s.is
+    (gives_what_it_writes plan old f.giver (set_with premises) step.conclusion f.given)) in
     ap (has_thing all) is
     ∙ within (var_at s.var)
     (has_var (changed plan old new) s.var
@@ -248,10 +273,15 @@ number_cites earlier (suc m ∷ numbers) atoms n e (inl same) =
     (r.0, ap (slice_get earlier) number ∙ r.2, there)
 number_cites earlier (suc m ∷ numbers) atoms n e (inr i) =
     let r = all_there (slice_get earlier m) (cited earlier numbers) atoms e in
-    let s = number_cites earlier numbers r.1 n r.3 i in
-    (s.0, s.1, subst (λ xs. has same_atom xs s.0 ≡ true) (sym r.4) (has_more same_atom atom_exact atom_itself r.0 r.1 s.0 s.2))
+    let s = number_cites earlier numbers r.1 n r.3 i in (
+      s.0,
+      s.1,
+      subst (λ xs. has same_atom xs s.0 ≡ true) (sym r.4)
+          (has_more same_atom atom_exact atom_itself r.0 r.1 s.0 s.2),
+    )
 
-premise_reached : (plan : Plan) → IsValid plan → (old : Sources) (things all : List Thing) → IsSpread (links_of plan) things all
+premise_reached : (plan : Plan) → IsValid plan → (old : Sources) (things all : List Thing)
+    → IsSpread (links_of plan) things all
     → (earlier later : List Atom) (step : Step) (atoms : List Atom) → Followed plan old step atoms
     → cited earlier step.premises ≡ Some atoms → (n : ℕ) → IsIn n step.premises
     → has_step (reached_number all (earlier ++ later)) n ≡ true → has_thing all (thing_of step.conclusion) ≡ true
@@ -261,7 +291,8 @@ premise_reached plan valid old things all spread earlier later step atoms f cite
     let reached : has_thing all (thing_of s.0) ≡ true
     = ap (is_reached all) (sym (get_front earlier later n s.0 s.1)) ∙ e in
     giver_reaches plan valid things all spread old f.giver (set_with atoms) step.conclusion (thing_of s.0) f.given
-    (all_at same_atom atom_exact atom_itself (λ atom. has_thing (giver_reads plan f.giver) (thing_of atom)) atoms s.0 f.read s.2) reached
+    (all_at same_atom atom_exact atom_itself (λ atom. has_thing (giver_reads plan f.giver) (thing_of atom)) atoms s.0
+    f.read s.2) reached
 
 dropping : (plan : Plan) → IsValid plan → (old new : Sources) (all : List Thing)
     → IsSpread (links_of plan) (map var_at (changed plan old new)) all → (earlier whole : List Atom) (steps : List Step)
@@ -280,7 +311,8 @@ dropping plan valid old new all spread earlier whole (step ∷ steps) is e =
             | inl gone ↦ gone_reached plan old new all spread.holds step p.atoms f gone
             | inr dropped ↦
                 let r = any_at (has_step (reached_number all whole)) step.premises dropped in
-                premise_reached plan valid old (map var_at (changed plan old new)) all spread earlier (concluded (step ∷ steps)) step p.atoms f
+                premise_reached plan valid old (map var_at (changed plan old new)) all spread earlier
+                (concluded (step ∷ steps)) step p.atoms f
                 p.cites r.0 r.1 (ap (λ xs. has_step (reached_number all xs) r.0) is ∙ r.2)
           ],
       subst (λ n. IsDropping step_form (is_gone old new) (reached_number all whole) (suc n) steps) longer
@@ -288,7 +320,8 @@ dropping plan valid old new all spread earlier whole (step ∷ steps) is e =
           (append_assoc earlier (step.conclusion ∷ []) (concluded steps) ∙ is) p.later),
     )
 
-get_concluded : (log : List Step) (n : ℕ) (step : Step) → slice_get log n ≡ Some step → slice_get (concluded log) n ≡ Some step.conclusion
+get_concluded : (log : List Step) (n : ℕ) (step : Step) → slice_get log n ≡ Some step
+    → slice_get (concluded log) n ≡ Some step.conclusion
 get_concluded [] n step e = absurd (cc e)
 get_concluded (first ∷ log) zero step e = let same : first ≡ step = cc e in ap (λ s. Some s.conclusion) same
 get_concluded (first ∷ log) (suc n) step e = get_concluded log n step e
@@ -299,5 +332,6 @@ dropped_is_reached plan valid old new log e left n step at dropped =
     let all = reach_of plan things in
     let spread : IsSpread (links_of plan) things all = (reach_is_least plan things).0 in
     let reached : reached_number all (concluded log) (suc n) ≡ true
-    = left.least (reached_number all (concluded log)) (dropping plan valid old new all spread [] (concluded log) log refl e) (suc n) dropped in
+    = left.least (reached_number all (concluded log))
+    (dropping plan valid old new all spread [] (concluded log) log refl e) (suc n) dropped in
     ap (is_reached all) (sym (get_concluded log n step at)) ∙ reached

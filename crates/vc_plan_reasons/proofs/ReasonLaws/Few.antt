@@ -1,5 +1,6 @@
 -- Of each thing a clear set has few atoms.
-use Rattle.std.proofs.Common.{◌≡◌, ℕ, ◌≤◌, ◌<◌, Bool, true, false, cond, List, [], ◌∷◌, ◌++◌, length, map, ap, ◌∙◌, subst, arith, length-append}
+use Rattle.std.proofs.Common.{◌≡◌, ℕ, ◌≤◌, ◌<◌, Bool, true, false, cond, List, [], ◌∷◌, ◌++◌, length, map, ap, ◌∙◌}
+use Rattle.std.proofs.Common.{subst, arith, length-append}
 use Rattle.std.specs.Prelude.{Option, None, Some}
 use Rattle.std.specs.List.{filter, AllByRecursion, IsDistinct}
 use Rattle.std.proofs.lemmas.Bool.{eqb-true, ltb-true}
@@ -38,7 +39,8 @@ distinct_kept p [] d = tt
 distinct_kept p (x ∷ xs) d =
     choice (p x) (filter p xs) (all_kept (λ b. same_atom x b ≡ false) p xs d.0) (distinct_kept p xs d.1)
   where
-    choice : (b : Bool) (rest : List Atom) → AllByRecursion (λ c. same_atom x c ≡ false) rest → IsDistinct same_atom rest
+    choice : (b : Bool) (rest : List Atom) → AllByRecursion (λ c. same_atom x c ≡ false) rest
+        → IsDistinct same_atom rest
         → IsDistinct same_atom (cond b (x ∷ rest) rest)
     choice true rest one all = (one, all)
     choice false rest one all = all
@@ -58,11 +60,17 @@ few_at plan set (var_at v) =
     let outs : length (map (Out v) (numbers_below (count_of plan v))) ≡ count_of plan v
     = length-map (numbers_below (count_of plan v)) (Out v) ∙ length-range_with_len 0 (count_of plan v) in
     let values = few_values v (value_in set v) in
-    omega (arith, length-append (value_atoms v (value_in set v)) (map (Out v) (numbers_below (count_of plan v))), outs, values)
+    omega (
+      arith,
+      length-append (value_atoms v (value_in set v)) (map (Out v) (numbers_below (count_of plan v))),
+      outs,
+      values,
+    )
 
 -- each atom of the thing is one of them
 value_here : (v : ℕ) (a : Value) (o : Option Value) → o ≡ Some a → has same_atom (value_atoms v o) (Is v a) ≡ true
-value_here v a o e = ap (λ p. has same_atom (value_atoms v p) (Is v a)) e ∙ has_first same_atom atom_exact atom_itself (Is v a) []
+value_here v a o e = ap (λ p. has same_atom (value_atoms v p) (Is v a)) e
+    ∙ has_first same_atom atom_exact atom_itself (Is v a) []
 
 at_thing : (plan : Plan) (set : List Atom) → Facts plan set → (thing : Thing) (a : Atom) → has same_atom set a ≡ true
     → same_thing (thing_of a) thing ≡ true → has same_atom (atoms_at plan set thing) a ≡ true
@@ -76,14 +84,17 @@ at_thing plan set f (var_at v) (Out w g) h e =
     let is : w ≡ v = eqb-true w v e in
     let below : g < count_of plan w = ltb-true g (count_of plan w) (f.named (Out w g) h) in
     subst (λ u. has same_atom (atoms_at plan set (var_at u)) (Out w g) ≡ true) is
-    (has_back same_atom atom_exact atom_itself (value_atoms w (value_in set w)) (map (Out w) (numbers_below (count_of plan w))) (Out w g)
-    (has_image (Out w) (numbers_below (count_of plan w)) g (range_has 0 (count_of plan w) g (omega arith) (omega (arith, below)))))
+    (has_back same_atom atom_exact atom_itself (value_atoms w (value_in set w))
+    (map (Out w) (numbers_below (count_of plan w))) (Out w g)
+    (has_image (Out w) (numbers_below (count_of plan w)) g
+    (range_has 0 (count_of plan w) g (omega arith) (omega (arith, below)))))
 at_thing plan set f (var_at v) (Is w b) h e =
     let is : w ≡ v = eqb-true w v e in
     let r = value_read set w b h in
     let same : r.0 ≡ b = one_value plan set f w r.0 b (value_has set w r.0 r.1) h in
     subst (λ u. has same_atom (atoms_at plan set (var_at u)) (Is w b) ≡ true) is
-    (has_front same_atom atom_exact atom_itself (value_atoms w (value_in set w)) (map (Out w) (numbers_below (count_of plan w))) (Is w b)
+    (has_front same_atom atom_exact atom_itself (value_atoms w (value_in set w))
+    (map (Out w) (numbers_below (count_of plan w))) (Is w b)
     (value_here w b (value_in set w) (r.1 ∙ ap Some same)))
 
 pub few_of_a_thing : FewOfAThing
@@ -91,7 +102,8 @@ few_of_a_thing plan set thing clear distinct =
     let f : Facts plan set = facts plan set clear in
     let own : Atom → Bool = λ atom. same_thing (thing_of atom) thing in
     let most : length (filter own set) ≤ length (atoms_at plan set thing)
-    = length-le_from_is_member atom_equivalence (filter own set) (atoms_at plan set thing) (distinct_kept own set distinct)
+    = length-le_from_is_member atom_equivalence (filter own set) (atoms_at plan set thing)
+    (distinct_kept own set distinct)
     (λ a h. let p = has_filter same_atom atom_exact atom_itself own set a h in at_thing plan set f thing a p.0 p.1) in
     let few = few_at plan set thing in
     omega (arith, most, few)

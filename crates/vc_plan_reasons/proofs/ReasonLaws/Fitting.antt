@@ -1,6 +1,8 @@
 -- What statements write fits the plan, and so do the sources at the end of an evaluation.
-use Rattle.std.proofs.Common.{◌≡◌, ℕ, zero, suc, ◌+◌, Bool, true, false, ◌&&◌, ◌||◌, List, [], ◌∷◌, ◌++◌, length, map, refl, sym, ap, ◌∙◌, subst, arith}
-use Rattle.std.specs.Prelude.{Option, reverse, flat_map, None, Some, option_map, slice_get, slice_set, slice_index_or, if◌then◌else◌, is_none, ◌==◌}
+use Rattle.std.proofs.Common.{◌≡◌, ℕ, zero, suc, ◌+◌, Bool, true, false, ◌&&◌, ◌||◌, List, [], ◌∷◌, ◌++◌, length, map}
+use Rattle.std.proofs.Common.{refl, sym, ap, ◌∙◌, subst, arith}
+use Rattle.std.specs.Prelude.{Option, reverse, flat_map, None, Some, option_map, slice_get, slice_set, slice_index_or}
+use Rattle.std.specs.Prelude.{if◌then◌else◌, is_none, ◌==◌}
 use Rattle.std.specs.List.{find, list_all, list_any}
 use Rattle.std.proofs.lemmas.Bool.{and_from, and_parts, eq-eqb}
 use Rattle.vc_base.specs.Rounds.{Settlement, broken, settled}
@@ -18,7 +20,8 @@ use Rattle.vc_plan.specs.declared.procedures.Procedure.{Procedure}
 use Rattle.vc_plan.specs.declared.procedures.Statement.{Statement}
 use Rattle.vc_plan.specs.Domains.{numbers_below, grains_of, decimals_of, count_of, is_grain_with, passes}
 use Rattle.vc_plan.specs.Entries.{Entries, Written, entry_in, is_soft, no_entries, sources_in, with_entry, written_at}
-use Rattle.vc_plan.specs.Evaluate.{Evaluated, Users, between, broken_at, evaluation_of, holds, if_settled, reached, sources_of, stages_from}
+use Rattle.vc_plan.specs.Evaluate.{Evaluated, Users, between, broken_at, evaluation_of, holds, if_settled, reached}
+use Rattle.vc_plan.specs.Evaluate.{sources_of, stages_from}
 use Rattle.vc_plan.specs.Fitting.{has_at_most, may_have_if, may_hold, users_fit}
 use Rattle.vc_plan.specs.Kleene.{is_true}
 use Rattle.vc_plan.specs.LookUps.{action_writes, named_by, writes_own}
@@ -28,13 +31,17 @@ use Rattle.vc_plan.specs.Readings.{Reading}
 use Rattle.vc_plan.specs.RuleShapes.{is_at}
 use Rattle.vc_plan.specs.Seen.{Seen, is_left, seen_of}
 use Rattle.vc_plan.specs.Settle.{settlement_of}
-use Rattle.vc_plan.specs.Statements.{Place, acted, all_stated, entered, fitted, has_keys, is_default_of, mark_of, stated, takes_default, with_cell, with_cells, with_default, with_hard, with_row, with_value, without_default}
+use Rattle.vc_plan.specs.Statements.{Place, acted, all_stated, entered, fitted, has_keys, is_default_of, mark_of}
+use Rattle.vc_plan.specs.Statements.{stated, takes_default, with_cell, with_cells, with_default, with_hard, with_row}
+use Rattle.vc_plan.specs.Statements.{with_value, without_default}
 use Rattle.vc_plan.specs.TableRows.{has_left, rows_of}
 use Rattle.vc_plan.specs.Truth.{truth_at, value_at}
-use Rattle.vc_plan.specs.Writes.{all_run, instances_at, is_triggered, last_stage, procedures_at, run_procedure, summing_instances}
+use Rattle.vc_plan.specs.Writes.{all_run, instances_at, is_triggered, last_stage, procedures_at, run_procedure}
+use Rattle.vc_plan.specs.Writes.{summing_instances}
 use Rattle.vc_plan.proofs.PlanLaws.Lists.{all_grows}
 use Rattle.vc_plan.proofs.StageProofs.Parents.{all_at}
-use Rattle.vc_plan_reasons.specs.Fitting.{EvaluationsFit, StagesFit, entry_fits, mark_fits, procedure_writes, sources_at_end, sources_fit, statement_writes, value_fits}
+use Rattle.vc_plan_reasons.specs.Fitting.{EvaluationsFit, StagesFit, entry_fits, mark_fits, procedure_writes}
+use Rattle.vc_plan_reasons.specs.Fitting.{sources_at_end, sources_fit, statement_writes, value_fits}
 use Rattle.vc_plan_reasons.proofs.ReasonLaws.Blaming.{entry_fit_at}
 
 -- an entry that fits, and entries that all do
@@ -53,12 +60,14 @@ put_in P (y ∷ xs) zero x all one (suc u) = all (suc u)
 put_in P (y ∷ xs) (suc v) x all one zero = all zero
 put_in P (y ∷ xs) (suc v) x all one (suc u) = put_in (λ k. P (suc k)) xs v x (λ k. all (suc k)) one u
 
-entry_put : (plan : Plan) (v : ℕ) (written : Option Written) (entries : Entries) → AllFit plan entries → Fits plan v written
+entry_put : (plan : Plan) (v : ℕ) (written : Option Written) (entries : Entries) → AllFit plan entries
+    → Fits plan v written
     → AllFit plan (with_entry v written entries)
 entry_put plan v written entries all one u = put_in (Fits plan) entries v written all one u
 
 -- whichever of two the test takes
-either : (plan : Plan) (b : Bool) (x y : Entries) → (b ≡ true → AllFit plan x) → AllFit plan y → AllFit plan (if b then x else y)
+either : (plan : Plan) (b : Bool) (x y : Entries) → (b ≡ true → AllFit plan x) → AllFit plan y
+    → AllFit plan (if b then x else y)
 either plan true x y p q = p refl
 either plan false x y p q = q
 
@@ -72,16 +81,19 @@ mark_held plan v a false e = refl
 abbrev Writes : Plan → Place → ℕ → Type 0
 Writes plan place v = procedure_writes plan v place.statement (slice_get plan.procedures place.procedure) ≡ true
 
-hard_fits : (plan : Plan) (place : Place) (v : ℕ) (a : Value) (entries : Entries) → Writes plan place v → AllFit plan entries
+hard_fits : (plan : Plan) (place : Place) (v : ℕ) (a : Value) (entries : Entries) → Writes plan place v
+    → AllFit plan entries
     → AllFit plan (with_hard plan place v a entries)
 hard_fits plan place v a entries writes all =
     let b = fitted plan v a in
     entry_put plan v (entered place (mark_of plan v b) true) entries all
-    (and_from (mark_fits plan v (mark_of plan v b)) (procedure_writes plan v place.statement (slice_get plan.procedures place.procedure))
+    (and_from (mark_fits plan v (mark_of plan v b))
+    (procedure_writes plan v place.statement (slice_get plan.procedures place.procedure))
     (mark_held plan v b (lies_in_some (grains_of plan v) b) refl) writes)
 
 -- a value that is left lies in a grain
-piece_passes : (test : Piece → Bool) (pieces : List Piece) (g : ℕ) → passes test (slice_get pieces g) ≡ true → list_any test pieces ≡ true
+piece_passes : (test : Piece → Bool) (pieces : List Piece) (g : ℕ) → passes test (slice_get pieces g) ≡ true
+    → list_any test pieces ≡ true
 piece_passes test [] g e = absurd (cc e)
 piece_passes test (piece ∷ pieces) zero e = ap (λ b. b || list_any test pieces) e
 piece_passes test (piece ∷ pieces) (suc g) e = later (test piece) (piece_passes test pieces g e)
@@ -90,7 +102,8 @@ piece_passes test (piece ∷ pieces) (suc g) e = later (test piece) (piece_passe
     later true h = refl
     later false h = h
 
-left_lies : (plan : Plan) (seen : Seen) (v : ℕ) (a : Value) → has_left plan seen v a ≡ true → lies_in_some (grains_of plan v) a ≡ true
+left_lies : (plan : Plan) (seen : Seen) (v : ℕ) (a : Value) → has_left plan seen v a ≡ true
+    → lies_in_some (grains_of plan v) a ≡ true
 left_lies plan seen v a e =
     let test : ℕ → Bool = λ g. is_left plan seen v g && is_grain_with plan v (lies_in a) g in
     let one = any_at test (numbers_below (count_of plan v)) e in
@@ -105,7 +118,8 @@ default_fits plan seen place v a entries writes all =
     (λ taken. entry_put plan v (entered place (Held b) false) entries all
     (and_from (lies_in_some (grains_of plan v) b)
     (procedure_writes plan v place.statement (slice_get plan.procedures place.procedure))
-    (left_lies plan seen v b (and_parts (is_none (seen.value v) && is_soft (written_at entries v)) (has_left plan seen v b) taken).1)
+    (left_lies plan seen v b
+    (and_parts (is_none (seen.value v) && is_soft (written_at entries v)) (has_left plan seen v b) taken).1)
     writes)) all
 
 -- all variables of a list are written
@@ -113,20 +127,23 @@ abbrev AllWritten : Plan → Place → List ℕ → Type 0
 AllWritten plan place [] = Unit {0}
 AllWritten plan place (v ∷ vs) = Writes plan place v × AllWritten plan place vs
 
-cell_fits : (plan : Plan) (place : Place) (v : ℕ) (cell : Option Value) (entries : Entries) → Writes plan place v → AllFit plan entries
+cell_fits : (plan : Plan) (place : Place) (v : ℕ) (cell : Option Value) (entries : Entries) → Writes plan place v
+    → AllFit plan entries
     → AllFit plan (with_cell plan place v cell entries)
 cell_fits plan place v None entries writes all = all
 cell_fits plan place v (Some a) entries writes all = hard_fits plan place v a entries writes all
 
 cells_fit : (plan : Plan) (place : Place) (row : List Value) (columns : List FilledColumn) (entries : Entries)
-    → AllWritten plan place (map (λ column. column.var) columns) → AllFit plan entries → AllFit plan (with_cells plan place row columns entries)
+    → AllWritten plan place (map (λ column. column.var) columns) → AllFit plan entries
+    → AllFit plan (with_cells plan place row columns entries)
 cells_fit plan place row [] entries writes all = all
 cells_fit plan place row (column ∷ columns) entries writes all =
     cells_fit plan place row columns (with_cell plan place column.var (slice_get row column.column) entries) writes.1
     (cell_fits plan place column.var (slice_get row column.column) entries writes.0 all)
 
 row_fits : (plan : Plan) (place : Place) (columns : List FilledColumn) (row : Option (List Value)) (entries : Entries)
-    → AllWritten plan place (map (λ column. column.var) columns) → AllFit plan entries → AllFit plan (with_row plan place columns row entries)
+    → AllWritten plan place (map (λ column. column.var) columns) → AllFit plan entries
+    → AllFit plan (with_row plan place columns row entries)
 row_fits plan place columns None entries writes all = all
 row_fits plan place columns (Some row) entries writes all = cells_fit plan place row columns entries writes all
 
@@ -136,9 +153,11 @@ value_put plan put None entries puts all = all
 value_put plan put (Some a) entries puts all = puts a
 
 acted_fits : (plan : Plan) (seen : Seen) (reading : Reading) (place : Place) (action : Action) (entries : Entries)
-    → AllWritten plan place (action_writes action) → AllFit plan entries → AllFit plan (acted plan seen reading place action entries)
+    → AllWritten plan place (action_writes action) → AllFit plan entries
+    → AllFit plan (acted plan seen reading place action entries)
 acted_fits plan seen reading place (Assign v term) entries writes all =
-    value_put plan (with_hard plan place v) (value_at plan reading term) entries (λ a. hard_fits plan place v a entries writes.0 all) all
+    value_put plan (with_hard plan place v) (value_at plan reading term) entries
+    (λ a. hard_fits plan place v a entries writes.0 all) all
 acted_fits plan seen reading place (SetDefault v term) entries writes all =
     value_put plan (with_default plan seen place v) (value_at plan reading term) entries
     (λ a. default_fits plan seen place v a entries writes.0 all) all
@@ -149,24 +168,28 @@ acted_fits plan seen reading place (DeleteDefault v term) entries writes all =
 acted_fits plan seen reading place (LookUp table keys filled) entries writes all =
     row_fits plan place filled (find (has_keys plan reading keys) (rows_of plan table)) entries writes all
 
-stated_fits : (plan : Plan) (seen : Seen) (user_holds : ℕ → ℕ → Bool) (place : Place) (statement : Statement) (entries : Entries)
+stated_fits : (plan : Plan) (seen : Seen) (user_holds : ℕ → ℕ → Bool) (place : Place) (statement : Statement)
+    (entries : Entries)
     → AllWritten plan place (action_writes statement.action) → AllFit plan entries
     → AllFit plan (stated plan seen user_holds place statement entries)
 stated_fits plan seen user_holds place statement entries writes all =
     let reading = procedure_reading plan seen entries user_holds in
-    either plan (is_true (truth_at plan reading statement.condition)) (acted plan seen reading place statement.action entries) entries
+    either plan (is_true (truth_at plan reading statement.condition))
+    (acted plan seen reading place statement.action entries) entries
     (λ e. acted_fits plan seen reading place statement.action entries writes all) all
 
 -- what an action writes is what it names, at the procedure's slot
 named_written : (plan : Plan) (place : Place) (procedure : Procedure) (statement : Statement) (vs : List ℕ)
-    → slice_get plan.procedures place.procedure ≡ Some procedure → slice_get procedure.statements place.statement ≡ Some statement
+    → slice_get plan.procedures place.procedure ≡ Some procedure
+    → slice_get procedure.statements place.statement ≡ Some statement
     → ((v : ℕ) → list_any (λ w. w == v) vs ≡ true → list_any (λ w. w == v) (action_writes statement.action) ≡ true)
     → list_all (is_at plan (procedure.slot ∷ [])) vs ≡ true → AllWritten plan place vs
 named_written plan place procedure statement [] is here within at = tt
 named_written plan place procedure statement (v ∷ vs) is here within at =
     let p = and_parts (is_at plan (procedure.slot ∷ []) v) (list_all (is_at plan (procedure.slot ∷ [])) vs) at in (
       ap (procedure_writes plan v place.statement) is
-          ∙ and_from (is_at plan (procedure.slot ∷ []) v) (statement_writes v (slice_get procedure.statements place.statement)) p.0
+          ∙ and_from (is_at plan (procedure.slot ∷ []) v)
+          (statement_writes v (slice_get procedure.statements place.statement)) p.0
           (ap (statement_writes v) here ∙ within v (first v vs)),
       named_written plan place procedure statement vs is here (λ u h. within u (more v u vs h)) p.1,
     )
@@ -185,11 +208,13 @@ named_written plan place procedure statement (v ∷ vs) is here within at =
         or_true false c e = e
 
 written_at_slot : (plan : Plan) (place : Place) (procedure : Procedure) (statement : Statement)
-    → slice_get plan.procedures place.procedure ≡ Some procedure → slice_get procedure.statements place.statement ≡ Some statement
+    → slice_get plan.procedures place.procedure ≡ Some procedure
+    → slice_get procedure.statements place.statement ≡ Some statement
     → list_all (is_at plan (procedure.slot ∷ [])) (named_by statement.action) ≡ true
     → AllWritten plan place (action_writes statement.action)
 written_at_slot plan place procedure statement is here at =
-    named_written plan place procedure statement (action_writes statement.action) is here (λ v h. h) (fewer statement.action at)
+    named_written plan place procedure statement (action_writes statement.action) is here (λ v h. h)
+    (fewer statement.action at)
   where
     fewer : (action : Action) → list_all (is_at plan (procedure.slot ∷ [])) (named_by action) ≡ true
         → list_all (is_at plan (procedure.slot ∷ [])) (action_writes action) ≡ true
@@ -213,8 +238,11 @@ shifted first all n (statement ∷ statements) h =
 standing : (statements : List Statement) → Stand statements 0 statements
 standing [] = tt
 standing (statement ∷ statements) =
-    let next : 1 ≡ 0 + 1 = omega arith in
-    (refl, subst (λ k. Stand (statement ∷ statements) k statements) next (shifted statement statements 0 statements (standing statements)))
+    let next : 1 ≡ 0 + 1 = omega arith in (
+      refl,
+      subst (λ k. Stand (statement ∷ statements) k statements) next
+          (shifted statement statements 0 statements (standing statements)),
+    )
 
 all_stated_fit : (plan : Plan) (seen : Seen) (user_holds : ℕ → ℕ → Bool) (p : ℕ) (procedure : Procedure) (n : ℕ)
     (statements : List Statement) (entries : Entries)
@@ -226,29 +254,34 @@ all_stated_fit plan seen user_holds p procedure n (statement ∷ statements) ent
     let at : Statement → Bool = λ s. list_all (is_at plan (procedure.slot ∷ [])) (named_by s.action) in
     let q = and_parts (at statement) (list_all at statements) own in
     let place : Place = record { procedure = p; statement = n } in
-    all_stated_fit plan seen user_holds p procedure (n + 1) statements (stated plan seen user_holds place statement entries) is stand.1 q.1
+    all_stated_fit plan seen user_holds p procedure (n + 1) statements
+    (stated plan seen user_holds place statement entries) is stand.1 q.1
     (stated_fits plan seen user_holds place statement entries
     (written_at_slot plan place procedure statement is stand.0 q.0) all)
 
-run_fits : (plan : Plan) (seen : Seen) (user_holds : ℕ → ℕ → Bool) (p : ℕ) (found : Option Procedure) (entries : Entries)
+run_fits : (plan : Plan) (seen : Seen) (user_holds : ℕ → ℕ → Bool) (p : ℕ) (found : Option Procedure)
+    (entries : Entries)
     → slice_get plan.procedures p ≡ found → list_all (writes_own plan) plan.procedures ≡ true → AllFit plan entries
     → AllFit plan (run_procedure plan seen user_holds p found entries)
 run_fits plan seen user_holds p None entries is own all = all
 run_fits plan seen user_holds p (Some procedure) entries is own all =
     either plan (is_triggered seen user_holds entries procedure.trigger)
     (all_stated plan seen user_holds p 0 procedure.statements entries) entries
-    (λ e. all_stated_fit plan seen user_holds p procedure 0 procedure.statements entries is (standing procedure.statements)
+    (λ e. all_stated_fit plan seen user_holds p procedure 0 procedure.statements entries is
+    (standing procedure.statements)
     (all_at (writes_own plan) plan.procedures p procedure own is) all) all
 
 all_run_fit : (plan : Plan) (seen : Seen) (user_holds : ℕ → ℕ → Bool) (ps : List ℕ) (entries : Entries)
-    → list_all (writes_own plan) plan.procedures ≡ true → AllFit plan entries → AllFit plan (all_run plan seen user_holds ps entries)
+    → list_all (writes_own plan) plan.procedures ≡ true → AllFit plan entries
+    → AllFit plan (all_run plan seen user_holds ps entries)
 all_run_fit plan seen user_holds [] entries own all = all
 all_run_fit plan seen user_holds (p ∷ ps) entries own all =
     all_run_fit plan seen user_holds ps (run_procedure plan seen user_holds p (slice_get plan.procedures p) entries) own
     (run_fits plan seen user_holds p (slice_get plan.procedures p) entries refl own all)
 
 between_fits : (plan : Plan) (users : Users) (later : ℕ) (sets : List (List Atom)) (set : List Atom) (entries : Entries)
-    → list_all (writes_own plan) plan.procedures ≡ true → AllFit plan entries → AllFit plan (between plan users later sets set entries)
+    → list_all (writes_own plan) plan.procedures ≡ true → AllFit plan entries
+    → AllFit plan (between plan users later sets set entries)
 between_fits plan users zero sets set entries own all =
     all_run_fit plan (seen_of set) (holds users)
     (flat_map (procedures_at plan true) (reverse (summing_instances plan sets (seen_of set)))) entries own all
@@ -263,7 +296,8 @@ record AtEnd (plan : Plan) (users : Users) (e : Evaluated) : Type 0 where
   are : sources_at_end users e ≡ sources_of users entries
 
 stages_fit_from : (plan : Plan) (users : Users) (later : ℕ) (sets : List (List Atom)) (entries : Entries)
-    → list_all (writes_own plan) plan.procedures ≡ true → AllFit plan entries → AtEnd plan users (stages_from plan users later sets entries)
+    → list_all (writes_own plan) plan.procedures ≡ true → AllFit plan entries
+    → AtEnd plan users (stages_from plan users later sets entries)
 stages_fit_from plan users zero sets entries own all = step (settlement_of plan (sources_of users entries))
   where
     step : (s : Settlement Atom)
@@ -275,7 +309,8 @@ stages_fit_from plan users (suc later) sets entries own all =
     (between_fits plan users later sets set entries own all)) (settlement_of plan (sources_of users entries))
   where
     step : ((set : List Atom)
-        → AtEnd plan users (stages_from plan users later (sets ++ set ∷ []) (between plan users later sets set entries)))
+        → AtEnd plan users (stages_from plan users later (sets ++ set ∷ [])
+        (between plan users later sets set entries)))
         → (s : Settlement Atom)
         → AtEnd plan users (if_settled s (broken_at (length sets) entries)
         (λ set. stages_from plan users later (sets ++ set ∷ []) (between plan users later sets set entries)))
@@ -289,7 +324,8 @@ none_fit plan (x ∷ vars) u zero = refl
 none_fit plan (x ∷ vars) u (suc v) = none_fit plan vars u v
 
 -- entries as sources
-as_source : (entries : Entries) (v : ℕ) → slice_index_or (sources_in entries) v None ≡ option_map entry_in (written_at entries v)
+as_source : (entries : Entries) (v : ℕ)
+    → slice_index_or (sources_in entries) v None ≡ option_map entry_in (written_at entries v)
 as_source [] v = refl
 as_source (written ∷ entries) zero = refl
 as_source (written ∷ entries) (suc v) = as_source entries v
@@ -309,16 +345,22 @@ sources_of_fit : (plan : Plan) (users : Users) (entries : Entries) → users_fit
 sources_of_fit plan users entries fit all =
     let chosen : ℕ → Bool = λ v. may_have_if plan v (slice_index_or users.values v None) in
     let held : ℕ → Bool = λ set. may_hold plan set (slice_index_or users.texts set []) in
-    let p = and_parts (list_all chosen (numbers_below (length users.values))) (list_all held (numbers_below (length users.texts))) fit in
-    let values : list_all (λ v. value_fits plan v (slice_index_or users.values v None)) (numbers_below (length users.values)) ≡ true
+    let p
+    = and_parts (list_all chosen (numbers_below (length users.values)))
+    (list_all held (numbers_below (length users.texts))) fit in
+    let values : list_all (λ v. value_fits plan v (slice_index_or users.values v None))
+    (numbers_below (length users.values)) ≡ true
     = all_grows chosen (λ v. value_fits plan v (slice_index_or users.values v None))
     (λ v. user_fits plan v (slice_index_or users.values v None)) (numbers_below (length users.values)) p.0 in
     let written : list_all (λ v. entry_fits plan v (slice_index_or (sources_in entries) v None))
     (numbers_below (length (sources_in entries))) ≡ true
-    = all_pass (λ v. entry_fits plan v (slice_index_or (sources_in entries) v None)) (numbers_below (length (sources_in entries)))
+    = all_pass (λ v. entry_fits plan v (slice_index_or (sources_in entries) v None))
+    (numbers_below (length (sources_in entries)))
     (λ v. ap (entry_fits plan v) (as_source entries v) ∙ all v) in
-    and_from (list_all (λ v. value_fits plan v (slice_index_or users.values v None)) (numbers_below (length users.values)))
-    (list_all (λ v. entry_fits plan v (slice_index_or (sources_in entries) v None)) (numbers_below (length (sources_in entries))))
+    and_from (list_all (λ v. value_fits plan v (slice_index_or users.values v None))
+    (numbers_below (length users.values)))
+    (list_all (λ v. entry_fits plan v (slice_index_or (sources_in entries) v None))
+    (numbers_below (length (sources_in entries))))
     values written
 
 pub evaluations_fit : EvaluationsFit

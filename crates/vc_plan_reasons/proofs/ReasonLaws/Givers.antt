@@ -1,5 +1,6 @@
 -- What gives something is a giver of the plan, and an accepted step's conclusion is given by one.
-use Rattle.std.proofs.Common.{◌≡◌, ℕ, zero, suc, ◌+◌, ◌<◌, ◌≤◌, true, cond, ◌&&◌, ◌⊎◌, List, ◌++◌, length, map, refl, sym, ap, ◌∙◌, inl, inr, arith}
+use Rattle.std.proofs.Common.{◌≡◌, ℕ, zero, suc, ◌+◌, ◌<◌, ◌≤◌, true, cond, ◌&&◌, ◌⊎◌, List, ◌++◌, length, map, refl}
+use Rattle.std.proofs.Common.{sym, ap, ◌∙◌, inl, inr, arith}
 use Rattle.std.specs.Prelude.{Option, None, Some, slice_get}
 use Rattle.std.specs.List.{range_with_len}
 use Rattle.std.proofs.lemmas.Bool.{and_parts, ltb-true, cases_lt}
@@ -51,7 +52,8 @@ var_there plan seen v said None e f = absurd (f refl)
 var_there plan seen v said (Some x) e f = get_below plan.vars v x e
 
 -- what gives something is a giver of the plan
-giver_in : (plan : Plan) (sources : Sources) (giver : Giver) (seen : Seen) → (gives plan sources giver seen ≡ nothing → ⊥)
+giver_in : (plan : Plan) (sources : Sources) (giver : Giver) (seen : Seen)
+    → (gives plan sources giver seen ≡ nothing → ⊥)
     → IsIn giver (givers_of plan)
 giver_in plan sources (by_rule r) seen f =
     in_front (by_rule r) (map by_rule (numbers_below (length plan.rules)))
@@ -92,7 +94,8 @@ giving_in plan sources giver set a h =
     giver_in plan sources giver (seen_of set) (not_nothing_atom (gives plan sources giver (seen_of set)) a h)
 
 -- the variable of a source that gives something is one of the plan
-pub giver_var_there : (plan : Plan) (sources : Sources) (giver : Giver) (v : ℕ) → (giver ≡ by_user v) ⊎ (giver ≡ by_entry v)
+pub giver_var_there : (plan : Plan) (sources : Sources) (giver : Giver) (v : ℕ)
+    → (giver ≡ by_user v) ⊎ (giver ≡ by_entry v)
     → (set : List Atom) (a : Atom)
     → has same_atom (atoms_of (gives plan sources giver (seen_of set))) a ≡ true → v < length plan.vars
 giver_var_there plan sources giver v (inl e) set a h =
@@ -120,12 +123,15 @@ pub record Following (plan : Plan) (sources : Sources) (step : Step) (premises :
   pub is_in : IsIn giver (givers_of plan)
   pub given : has same_atom (atoms_of (gives plan sources giver (seen_of (set_with premises)))) step.conclusion ≡ true
 
-pub following : (plan : Plan) (sources : Sources) (step : Step) (premises : List Atom) → follows plan sources step premises ≡ true
+pub following : (plan : Plan) (sources : Sources) (step : Step) (premises : List Atom)
+    → follows plan sources step premises ≡ true
     → Following plan sources step premises
 following plan sources step premises e =
     let clear = is_clear plan (set_with premises) in
     let read = are_of (things_read plan (giver_of sources step)) premises in
-    let given = has same_atom (atoms_of (given_by plan sources (giver_of sources step) (set_with premises))) step.conclusion in
+    let given
+    = has same_atom (atoms_of (given_by plan sources (giver_of sources step) (set_with premises)))
+    step.conclusion in
     let p : ((clear && read) ≡ true) × (given ≡ true) = and_parts (clear && read) given e in
     let q : (clear ≡ true) × (read ≡ true) = and_parts clear read p.0 in
     by (giver_of sources step) q.0 p.1
@@ -135,7 +141,13 @@ following plan sources step premises e =
         → Following plan sources step premises
     by None c h = absurd (cc)
     by (Some giver) c h =
-        record { clear = c; giver = giver; is_in = giving_in plan sources giver (set_with premises) step.conclusion h; given = h }
+        record {
+          clear = c;
+          giver = giver;
+          is_in =
+              giving_in plan sources giver (set_with premises) step.conclusion h;
+          given = h;
+        }
 
 pub is_given : (plan : Plan) (sources : Sources)
     → IsGiven (system_of plan sources) (system_laws plan sources) step_form (follows plan sources) base

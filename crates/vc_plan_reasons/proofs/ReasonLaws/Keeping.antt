@@ -21,8 +21,10 @@ use Rattle.vc_plan.specs.Gives.{by_entry, value_says, entry_says, if_here}
 use Rattle.vc_plan.specs.Seen.{same_atom, seen_of}
 use Rattle.vc_plan.specs.Sources.{Sources, Entry, user_of, entry_of}
 use Rattle.vc_plan.proofs.PlanLaws.Atoms.{value_exact}
-use Rattle.vc_plan_reasons.specs.Checking.{are_of, follows, given_by, giver_from, giver_of, is_by, set_with, step_form, things_read, var_of}
-use Rattle.vc_plan_reasons.specs.Keeping.{is_gone, origin_differs, same_entry, same_mark, same_user, user_differs, entry_differs}
+use Rattle.vc_plan_reasons.specs.Checking.{are_of, follows, given_by, giver_from, giver_of, is_by, set_with, step_form}
+use Rattle.vc_plan_reasons.specs.Checking.{things_read, var_of}
+use Rattle.vc_plan_reasons.specs.Keeping.{is_gone, origin_differs, same_entry, same_mark, same_user, user_differs}
+use Rattle.vc_plan_reasons.specs.Keeping.{entry_differs}
 use Rattle.vc_plan_reasons.specs.Laws.{KeptIsAccepted, KeptIsLeft}
 
 -- values, marks and entries are told apart exactly
@@ -45,13 +47,17 @@ entry_exact (Some d) None e = absurd (cc)
 entry_exact (Some d) (Some f) e =
     let p = and_parts (same_mark d.mark f.mark) ((d.procedure == f.procedure) && (d.statement == f.statement)) e in
     let q = and_parts (d.procedure == f.procedure) (d.statement == f.statement) p.1 in
-    ap (λ m. Some (record { mark = m; procedure = d.procedure; statement = d.statement })) (mark_exact d.mark f.mark p.0)
-    ∙ (ap (λ n. Some (record { mark = f.mark; procedure = n; statement = d.statement })) (eqb-true d.procedure f.procedure q.0)
-    ∙ ap (λ n. Some (record { mark = f.mark; procedure = f.procedure; statement = n })) (eqb-true d.statement f.statement q.1))
+    ap (λ m. Some (record { mark = m; procedure = d.procedure; statement = d.statement }))
+    (mark_exact d.mark f.mark p.0)
+    ∙ (ap (λ n. Some (record { mark = f.mark; procedure = n; statement = d.statement }))
+    (eqb-true d.procedure f.procedure q.0)
+    ∙ ap (λ n. Some (record { mark = f.mark; procedure = f.procedure; statement = n }))
+    (eqb-true d.statement f.statement q.1))
 
 -- sources that don't differ are the same
 user_same : (old new : Sources) (v : ℕ) → user_differs old new v ≡ false → user_of old v ≡ user_of new v
-user_same old new v e = user_exact (user_of old v) (user_of new v) (not-false (same_user (user_of old v) (user_of new v)) e)
+user_same old new v e =
+    user_exact (user_of old v) (user_of new v) (not-false (same_user (user_of old v) (user_of new v)) e)
 
 entry_same : (old new : Sources) (v : ℕ) → entry_differs old new v ≡ false → entry_of old v ≡ entry_of new v
 entry_same old new v e =
@@ -85,7 +91,8 @@ follows_same plan old new step premises e =
     let set = set_with premises in
     let s = same_given plan old new set step.origin (var_of step.conclusion) e in
     let was = given_by plan old (giver_of old step) set in
-    ap (λ g. (is_clear plan set && are_of (things_read plan g) premises) && has same_atom (atoms_of was) step.conclusion) s.0
+    ap (λ g. (is_clear plan set && are_of (things_read plan g) premises)
+    && has same_atom (atoms_of was) step.conclusion) s.0
     ∙ ap (λ x. (is_clear plan set && are_of (things_read plan (giver_of new step)) premises)
     && has same_atom (atoms_of x) step.conclusion) s.1
 

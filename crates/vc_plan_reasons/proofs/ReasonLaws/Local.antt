@@ -1,5 +1,6 @@
 -- What a rule or source gives depends on what it reads and writes alone.
-use Rattle.std.proofs.Common.{◌≡◌, ℕ, min, Bool, true, false, cond, not, ◌&&◌, List, [], ◌∷◌, ◌++◌, map, refl, ◌∙◌, ap, subst}
+use Rattle.std.proofs.Common.{◌≡◌, ℕ, min, Bool, true, false, cond, not, ◌&&◌, List, [], ◌∷◌, ◌++◌, map, refl, ◌∙◌, ap}
+use Rattle.std.proofs.Common.{subst}
 use Rattle.std.specs.Prelude.{Option, None, Some, is_none, slice_get}
 use Rattle.std.specs.List.{filter, flat_map, list_all, list_any}
 use Rattle.vc_base.specs.Rounds.{Given, clash, atoms}
@@ -22,20 +23,28 @@ use Rattle.vc_plan.specs.declared.terms.Term.{Term}
 use Rattle.vc_plan.specs.declared.terms.Term.TheVariants.{Literal, Read, PartSum, PartCount, Applied', Joined'}
 use Rattle.vc_plan.specs.Answers.{nothing, clash_if, clash_if_false, beside, gathered, fresh, last_atoms, is_nothing}
 use Rattle.vc_plan.specs.Domains.{numbers_below, count_of, is_restrictable, is_grain_with}
-use Rattle.vc_plan.specs.Gives.{Giver, by_rule, by_user, by_entry, acts, kind_gives, rule_says, value_says, entry_says, giver_says}
+use Rattle.vc_plan.specs.Gives.{Giver, by_rule, by_user, by_entry, acts, kind_gives, rule_says, value_says, entry_says}
+use Rattle.vc_plan.specs.Gives.{giver_says}
 use Rattle.vc_plan.specs.Kleene.{is_true}
 use Rattle.vc_plan.specs.Pieces.{is_outside, turned, lies_in}
 use Rattle.vc_plan.specs.Readings.{net_reading}
 use Rattle.vc_plan.specs.Reads.{vars_of_term, vars_of_condition}
-use Rattle.vc_plan.specs.Restrictions.{is_inferred, failing, of_remaining, confined, allows, among, lone, lone_in, lone_inferred, related, compare, equal_to, decimals_in_side, differ, equate}
+use Rattle.vc_plan.specs.Restrictions.{is_inferred, failing, of_remaining, confined, allows, among, lone, lone_in}
+use Rattle.vc_plan.specs.Restrictions.{lone_inferred, related, compare, equal_to, decimals_in_side, differ, equate}
 use Rattle.vc_plan.specs.Seen.{Seen, same_atom, seen_of, is_left, is_value, says, slot_in, parent_in, is_here}
 use Rattle.vc_plan.specs.Sources.{Sources, user_of, entry_of}
-use Rattle.vc_plan.specs.TableRows.{rows_of, cell_passes, fits, is_possible, is_possible_in, is_column_of, columns_of, other_columns, missing_grains, agreed, for_variable, narrowed, by_table}
+use Rattle.vc_plan.specs.TableRows.{rows_of, cell_passes, fits, is_possible, is_possible_in, is_column_of, columns_of}
+use Rattle.vc_plan.specs.TableRows.{other_columns, missing_grains, agreed, for_variable, narrowed, by_table}
 use Rattle.vc_plan.specs.Truth.{compared, truth_at, value_at}
 use Rattle.vc_plan.proofs.PlanLaws.Atoms.{atom_exact, atom_itself}
 use Rattle.vc_plan_reasons.specs.Laws.{GivesLocally, RulesIgnoreSources, SaysLocally}
-use Rattle.vc_plan_reasons.specs.Things.{Thing, slot_at, var_at, same_thing, has_thing, thing_of, slots_of_var, vars_of_operand, vars_of_column, vars_of_kind, slots_of_kind, rule_reads, reads_in, giver_reads, giver_writes}
-use Rattle.vc_plan_reasons.proofs.ReasonLaws.Agreeing.{SameVar, SameVars, SameSlots, Agree, vars_front, vars_back, vars_join, slots_front, slots_back, agree_vars, agree_slots, alike_agree, slots_all, slot_same, left_same, out_same, value_same, truth_same, values_of}
+use Rattle.vc_plan_reasons.specs.Things.{Thing, slot_at, var_at, same_thing, has_thing, thing_of, slots_of_var}
+use Rattle.vc_plan_reasons.specs.Things.{vars_of_operand, vars_of_column, vars_of_kind, slots_of_kind, rule_reads}
+use Rattle.vc_plan_reasons.specs.Things.{reads_in, giver_reads, giver_writes}
+use Rattle.vc_plan_reasons.proofs.ReasonLaws.Agreeing.{SameVar, SameVars, SameSlots, Agree, vars_front, vars_back}
+use Rattle.vc_plan_reasons.proofs.ReasonLaws.Agreeing.{vars_join, slots_front, slots_back, agree_vars, agree_slots}
+use Rattle.vc_plan_reasons.proofs.ReasonLaws.Agreeing.{alike_agree, slots_all, slot_same, left_same, out_same}
+use Rattle.vc_plan_reasons.proofs.ReasonLaws.Agreeing.{value_same, truth_same, values_of}
 use Rattle.vc_plan_reasons.proofs.ReasonLaws.Reaching.{thing_exact, thing_itself}
 use Rattle.vc_plan_reasons.proofs.ReasonLaws.Writing.{Writes, inferred_parts, says_written}
 
@@ -55,7 +64,8 @@ among_same plan s t rule v restriction h =
     (filter (λ g. is_left plan s v g && is_grain_with plan v test g) (numbers_below (count_of plan v)))) nothing))
     (confined_same plan s t v test h)
     ∙ ap (λ f. cond (is_inferred rule v) (confined plan t v test)
-    (clash_if (is_nothing (filter (λ g. f g && is_grain_with plan v test g) (numbers_below (count_of plan v)))) nothing))
+    (clash_if (is_nothing (filter (λ g. f g && is_grain_with plan v test g) (numbers_below (count_of plan v))))
+    nothing))
     (left_same plan s t v h)
 
 -- a term that is one variable
@@ -107,7 +117,8 @@ equate_same plan s t rule a b h k =
     ap (λ z. clash_if ((is_none v && is_none w) && differ decimals z (value_at plan (net_reading s) b))
     (beside (equal_to plan v (value_at plan (net_reading s) b)) (equal_to plan w z)))
     (value_same plan s t a (values_of s t (vars_of_term (slice_get plan.terms a)) h))
-    ∙ ap (λ z. clash_if ((is_none v && is_none w) && differ decimals x z) (beside (equal_to plan v z) (equal_to plan w x)))
+    ∙ ap (λ z. clash_if ((is_none v && is_none w) && differ decimals x z)
+    (beside (equal_to plan v z) (equal_to plan w x)))
     (value_same plan s t b (values_of s t (vars_of_term (slice_get plan.terms b)) k))
 
 -- which rows are possible
@@ -127,14 +138,16 @@ possible_same plan s t (column ∷ columns) h row =
     ∙ ap (λ b. is_possible plan t row column && b)
     (possible_same plan s t columns (vars_back s t (vars_of_column column) (flat_map vars_of_column columns) h) row)
 
-some_columns : (s t : Seen) (p : Binding → Bool) (columns : List Binding) → SameVars s t (flat_map vars_of_column columns)
+some_columns : (s t : Seen) (p : Binding → Bool) (columns : List Binding)
+    → SameVars s t (flat_map vars_of_column columns)
     → SameVars s t (flat_map vars_of_column (filter p columns))
 some_columns s t p [] h = tt
 some_columns s t p (column ∷ columns) h =
     choice (p column) (filter p columns) (vars_front s t (vars_of_column column) (flat_map vars_of_column columns) h)
     (some_columns s t p columns (vars_back s t (vars_of_column column) (flat_map vars_of_column columns) h))
   where
-    choice : (b : Bool) (rest : List Binding) → SameVars s t (vars_of_column column) → SameVars s t (flat_map vars_of_column rest)
+    choice : (b : Bool) (rest : List Binding) → SameVars s t (vars_of_column column)
+        → SameVars s t (flat_map vars_of_column rest)
         → SameVars s t (flat_map vars_of_column (cond b (column ∷ rest) rest))
     choice true rest f g = vars_join s t (vars_of_column column) (flat_map vars_of_column rest) f g
     choice false rest f g = g
@@ -146,8 +159,10 @@ variable_same plan s t table columns v h =
     let others = other_columns v columns in
     let own = columns_of v columns in
     let same : is_possible_in plan s others ≡ is_possible_in plan t others
-    = λ i row. possible_same plan s t others (some_columns s t (λ column. not (is_column_of v column)) columns h) row i in
-    ap (λ f. atoms (cond (is_restrictable plan v) (map (Out v) (missing_grains plan v own (filter f (rows_of plan table))))
+    = λ i row. possible_same plan s t others (some_columns s t (λ column. not (is_column_of v column)) columns h) row
+    i in
+    ap (λ f. atoms (cond (is_restrictable plan v)
+    (map (Out v) (missing_grains plan v own (filter f (rows_of plan table))))
     (agreed plan v own (filter f (rows_of plan table))))) same
 
 table_same : (plan : Plan) (s t : Seen) (rule : Rule) (table : ℕ) (columns : List Binding)
@@ -188,7 +203,8 @@ kind_same plan s t rule (Line i) h k =
 
 rule_same : (plan : Plan) (s t : Seen) (rule : Rule)
     → SameVars s t (vars_of_condition (slice_get plan.conditions rule.condition) ++ vars_of_kind plan rule.kind)
-    → SameSlots s t (rule.slots ++ slots_of_kind plan rule.kind) → rule_says plan s (Some rule) ≡ rule_says plan t (Some rule)
+    → SameSlots s t (rule.slots ++ slots_of_kind plan rule.kind)
+    → rule_says plan s (Some rule) ≡ rule_says plan t (Some rule)
 rule_same plan s t rule h k =
     let asked = vars_of_condition (slice_get plan.conditions rule.condition) in
     let own = vars_of_kind plan rule.kind in
@@ -196,7 +212,8 @@ rule_same plan s t rule h k =
     let truth = truth_same plan s t rule.condition (values_of s t asked (vars_front s t asked own h)) in
     let said = kind_same plan s t rule rule.kind (vars_back s t asked own h)
     (slots_back s t rule.slots (slots_of_kind plan rule.kind) k) in
-    ap (λ b. cond (b && is_true (truth_at plan (net_reading s) rule.condition)) (kind_gives plan s rule rule.kind) nothing) slots
+    ap (λ b. cond (b && is_true (truth_at plan (net_reading s) rule.condition)) (kind_gives plan s rule rule.kind)
+    nothing) slots
     ∙ (ap (λ b. cond (list_all t.here rule.slots && is_true b) (kind_gives plan s rule rule.kind) nothing) truth
     ∙ ap (λ x. cond (acts plan t rule) x nothing) said)
 
@@ -212,18 +229,22 @@ filter_same : (p q : Atom → Bool) (xs : List Atom) → ((a : Atom) → has sam
 filter_same p q [] f = refl
 filter_same p q (x ∷ xs) f =
     ap (λ b. cond b (x ∷ filter p xs) (filter p xs)) (f x (has_first same_atom atom_exact atom_itself x xs))
-    ∙ ap (λ ys. cond (q x) (x ∷ ys) ys) (filter_same p q xs (λ a h. f a (has_more same_atom atom_exact atom_itself x xs a h)))
+    ∙ ap (λ ys. cond (q x) (x ∷ ys) ys)
+    (filter_same p q xs (λ a h. f a (has_more same_atom atom_exact atom_itself x xs a h)))
 
-fresh_same : (things : List Thing) (s t : Seen) → Agree things s t → (x : Given Atom) → Writes things x → fresh s x ≡ fresh t x
+fresh_same : (things : List Thing) (s t : Seen) → Agree things s t → (x : Given Atom) → Writes things x
+    → fresh s x ≡ fresh t x
 fresh_same things s t g clash w = refl
 fresh_same things s t g (atoms xs) w =
-    ap atoms (filter_same (λ a. not (says s a)) (λ a. not (says t a)) xs (λ a h. ap not (says_same things s t g a (w a h))))
+    ap atoms (filter_same (λ a. not (says s a)) (λ a. not (says t a)) xs
+    (λ a h. ap not (says_same things s t g a (w a h))))
 
 -- a part of the things
 part : (xs ys : List Thing) (s t : Seen) → Within same_thing xs ys → Agree ys s t → Agree xs s t
 part xs ys s t w g = record { here = λ i h. g.here i (w (slot_at i) h); var = λ v h. g.var v (w (var_at v) h) }
 
-rule_agrees : (plan : Plan) (s t : Seen) (o : Option Rule) → Agree (reads_in plan o) s t → rule_says plan s o ≡ rule_says plan t o
+rule_agrees : (plan : Plan) (s t : Seen) (o : Option Rule) → Agree (reads_in plan o) s t
+    → rule_says plan s o ≡ rule_says plan t o
 rule_agrees plan s t None g = refl
 rule_agrees plan s t (Some rule) g =
     let slots = rule.slots ++ slots_of_kind plan rule.kind in
@@ -249,7 +270,8 @@ giver_agrees plan sources (by_entry v) s t g = source_agrees plan s t v (entry_s
 
 pub says_locally : SaysLocally
 says_locally plan sources giver set other clear alike =
-    giver_agrees plan sources giver (seen_of set) (seen_of other) (alike_agree plan (giver_reads plan giver) set other clear alike)
+    giver_agrees plan sources giver (seen_of set) (seen_of other)
+    (alike_agree plan (giver_reads plan giver) set other clear alike)
 
 pub rules_ignore_sources : RulesIgnoreSources
 rules_ignore_sources plan sources others r seen = refl

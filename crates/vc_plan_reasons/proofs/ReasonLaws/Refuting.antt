@@ -1,5 +1,6 @@
 -- Where a clash refutes, no set is closed, and so settling is broken.
-use Rattle.std.proofs.Common.{◌≡◌, ℕ, zero, suc, ◌<◌, Bool, true, false, cond, not, ◌&&◌, ◌||◌, List, [], ◌∷◌, length, map, refl, sym, ◌∙◌, ap, inl, inr}
+use Rattle.std.proofs.Common.{◌≡◌, ℕ, zero, suc, ◌<◌, Bool, true, false, cond, not, ◌&&◌, ◌||◌, List, [], ◌∷◌, length}
+use Rattle.std.proofs.Common.{map, refl, sym, ◌∙◌, ap, inl, inr}
 use Rattle.std.specs.Prelude.{Option, None, Some, slice_get, ◌==◌}
 use Rattle.std.specs.List.{list_all, list_any}
 use Rattle.std.proofs.lemmas.Bool.{and_parts, eqb-true, or_cases, not-true}
@@ -28,9 +29,12 @@ use Rattle.vc_plan.specs.Sources.{Sources, entry_of}
 use Rattle.vc_plan.proofs.PlanLaws.Atoms.{atom_exact, atom_itself}
 use Rattle.vc_plan.proofs.PlanLaws.Facts.{part_clear}
 use Rattle.vc_plan.proofs.PlanLaws.Givers.{clashes_stay}
-use Rattle.vc_plan_reasons.specs.Checking.{are_of, concluded, follows, given_by, giver_from, giver_of, is_accepted, is_by, set_with, step_form, things_read, var_of}
+use Rattle.vc_plan_reasons.specs.Checking.{are_of, concluded, follows, given_by, giver_from, giver_of, is_accepted}
+use Rattle.vc_plan_reasons.specs.Checking.{is_by, set_with, step_form, things_read, var_of}
 use Rattle.vc_plan_reasons.specs.Laws.{IsGuilty, RefutingBlames, RefutingBreaks}
-use Rattle.vc_plan_reasons.specs.Refuting.{culprit_clashes, culprit_reads, entry_clashes, is_blamable, is_clash_at, is_collision, is_of_constraint, is_origin, is_restriction, contradicts, refutes, set_without}
+use Rattle.vc_plan_reasons.specs.Refuting.{culprit_clashes, culprit_reads, entry_clashes, is_blamable, is_clash_at}
+use Rattle.vc_plan_reasons.specs.Refuting.{is_collision, is_of_constraint, is_origin, is_restriction, contradicts}
+use Rattle.vc_plan_reasons.specs.Refuting.{refutes, set_without}
 use Rattle.vc_plan_reasons.proofs.ReasonLaws.Closed.{Settled, all_stand, conclusions_stand, settled_closed}
 use Rattle.vc_plan_reasons.proofs.ReasonLaws.Givers.{clashing_in, following, rooted}
 
@@ -53,7 +57,8 @@ calm_part : (plan : Plan) (sources : Sources) (set closed : List Atom) (giver : 
     → is_clash (gives plan sources giver (seen_of set)) ≡ true → ⊥
 calm_part plan sources set closed giver c w e =
     both
-    (at_any (λ g. is_clash (gives plan sources g (seen_of closed))) giver (givers_of plan) (clashing_in plan sources giver set e)
+    (at_any (λ g. is_clash (gives plan sources g (seen_of closed))) giver (givers_of plan)
+    (clashing_in plan sources giver set e)
     (clashes_stay plan sources giver set closed c.clear w e))
     c.calm
 
@@ -65,7 +70,8 @@ pub record Refuted (plan : Plan) (sources : Sources) (clash : Clash) : Type 0 wh
   pub cites : cited (concluded clash.steps) clash.premises ≡ Some premises
   pub holds : contradicts plan sources clash premises ≡ true
 
-pub refuted : (plan : Plan) (sources : Sources) (clash : Clash) → refutes plan sources clash ≡ true → Refuted plan sources clash
+pub refuted : (plan : Plan) (sources : Sources) (clash : Clash) → refutes plan sources clash ≡ true
+    → Refuted plan sources clash
 refuted plan sources clash e =
     let test = contradicts plan sources clash in
     let p = and_parts (is_accepted plan sources clash.steps && is_blamable plan clash.culprit)
@@ -106,7 +112,8 @@ none_closed plan sources clash r closed c w =
     (cited_within same_atom atom_exact atom_itself (concluded clash.steps) clash.premises r.premises r.cites a h) in
     let all_in : Within same_atom (set_with r.premises) closed = all_stand plan closed r.premises w premises_in in
     let by = cited (map (λ step. step.origin) clash.steps) clash.premises in
-    elim (or_cases (is_clash_at plan sources clash.culprit r.premises) (is_collision plan clash.culprit r.premises by) r.holds) [
+    elim (or_cases (is_clash_at plan sources clash.culprit r.premises) (is_collision plan clash.culprit r.premises by)
+    r.holds) [
       | inl e ↦
           let p = clash_parts plan sources clash.culprit r.premises e in
           let g = clashing plan sources clash.culprit (set_with r.premises) p.1 in
@@ -125,7 +132,8 @@ none_cited (suc n ∷ numbers) xs e = absurd (cc)
 -- the plan has a root, since a set with it is clear
 steps_rooted : (plan : Plan) (sources : Sources) (culprit : Culprit) (steps : List Step) (numbers : List ℕ)
     → is_accepted plan sources steps ≡ true
-    → all_pass (list_any (is_origin culprit)) (cited (map (λ step. step.origin) steps) numbers) ≡ true → 0 < length plan.slots
+    → all_pass (list_any (is_origin culprit)) (cited (map (λ step. step.origin) steps) numbers) ≡ true
+    → 0 < length plan.slots
 steps_rooted plan sources culprit [] numbers e blamed =
     let r = passed (list_any (is_origin culprit)) (cited [] numbers) blamed in
     absurd (both r.2 (ap (list_any (is_origin culprit)) (none_cited numbers r.0 r.1)))
@@ -137,7 +145,8 @@ steps_rooted plan sources culprit (step ∷ steps) numbers e blamed =
 clash_rooted : (plan : Plan) (sources : Sources) (clash : Clash) → Refuted plan sources clash → 0 < length plan.slots
 clash_rooted plan sources clash r =
     let by = cited (map (λ step. step.origin) clash.steps) clash.premises in
-    elim (or_cases (is_clash_at plan sources clash.culprit r.premises) (is_collision plan clash.culprit r.premises by) r.holds) [
+    elim (or_cases (is_clash_at plan sources clash.culprit r.premises) (is_collision plan clash.culprit r.premises by)
+    r.holds) [
       | inl e ↦ rooted plan r.premises (clash_parts plan sources clash.culprit r.premises e).0
       | inr e ↦ steps_rooted plan sources clash.culprit clash.steps clash.premises r.accepted
           (collision_parts plan clash.culprit r.premises by e).1
@@ -154,8 +163,10 @@ refuting_breaks plan sources clash e =
     ] refl
 
 -- an origin that a culprit is: a step of it by a statement has an entry of that statement
-given_by_statement : (plan : Plan) (sources : Sources) (procedure statement : ℕ) (set : List Atom) (a : Atom) (v : Option ℕ)
-    → has same_atom (atoms_of (given_by plan sources (giver_from sources (origins.Written procedure statement) v) set)) a ≡ true
+given_by_statement : (plan : Plan) (sources : Sources) (procedure statement : ℕ) (set : List Atom) (a : Atom)
+    (v : Option ℕ)
+    → has same_atom (atoms_of (given_by plan sources (giver_from sources (origins.Written procedure statement) v) set))
+    a ≡ true
     → (w : ℕ) × (is_by procedure statement (entry_of sources w) ≡ true)
 given_by_statement plan sources procedure statement set a None h = absurd (cc)
 given_by_statement plan sources procedure statement set a (Some v) h =
@@ -192,7 +203,8 @@ step_wrote plan sources procedure statement step premises e by =
 
 collision_wrote : (plan : Plan) (sources : Sources) (procedure statement : ℕ) (steps : List Step) (numbers : List ℕ)
     → is_accepted plan sources steps ≡ true
-    → all_pass (list_any (is_origin (Written procedure statement))) (cited (map (λ step. step.origin) steps) numbers) ≡ true
+    → all_pass (list_any (is_origin (Written procedure statement))) (cited (map (λ step. step.origin) steps) numbers)
+    ≡ true
     → (v : ℕ) × (is_by procedure statement (entry_of sources v) ≡ true)
 collision_wrote plan sources procedure statement steps numbers e blamed =
     let origins = map (λ step. step.origin) steps in
@@ -212,7 +224,8 @@ clash_wrote plan sources procedure statement set e =
     (r.0, (and_parts by (is_clash (gives plan sources (by_entry r.0) (seen_of set))) r.2).0)
 
 -- a rule that can be to blame is of no last grain and of no line
-restriction_guilty : (plan : Plan) (sources : Sources) (r : ℕ) (o : Option PlanRule) → slice_get plan.rules r ≡ o → is_of_constraint o ≡ true
+restriction_guilty : (plan : Plan) (sources : Sources) (r : ℕ) (o : Option PlanRule) → slice_get plan.rules r ≡ o
+    → is_of_constraint o ≡ true
     → IsGuilty plan sources (Rule r)
 restriction_guilty plan sources r None is blamable = absurd (cc)
 restriction_guilty plan sources r (Some rule) is blamable = (
@@ -235,8 +248,10 @@ blamed_guilty plan sources (Written procedure statement) steps numbers premises 
     let culprit = Written procedure statement in
     let by = cited (map (λ step. step.origin) steps) numbers in
     elim (or_cases (is_clash_at plan sources culprit premises) (is_collision plan culprit premises by) h) [
-      | inl k ↦ clash_wrote plan sources procedure statement (set_with premises) (clash_parts plan sources culprit premises k).1
-      | inr k ↦ collision_wrote plan sources procedure statement steps numbers e (collision_parts plan culprit premises by k).1
+      | inl k ↦ clash_wrote plan sources procedure statement (set_with premises)
+          (clash_parts plan sources culprit premises k).1
+      | inr k ↦ collision_wrote plan sources procedure statement steps numbers e
+          (collision_parts plan culprit premises by k).1
     ]
 blamed_guilty plan sources (Hidden dependency v) steps numbers premises e blamable h = absurd (cc)
 blamed_guilty plan sources (HiddenSet dependency set) steps numbers premises e blamable h = absurd (cc)

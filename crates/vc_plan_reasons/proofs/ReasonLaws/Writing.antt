@@ -1,11 +1,13 @@
 -- Rules and sources give atoms of the things that they write alone.
-use Rattle.std.proofs.Common.{◌≡◌, ℕ, min, Bool, true, false, cond, not, ◌&&◌, List, [], ◌∷◌, map, refl, sym, ◌∙◌, ap, subst, inl, inr}
+use Rattle.std.proofs.Common.{◌≡◌, ℕ, min, Bool, true, false, cond, not, ◌&&◌, List, [], ◌∷◌, map, refl, sym, ◌∙◌, ap}
+use Rattle.std.proofs.Common.{subst, inl, inr}
 use Rattle.std.specs.Prelude.{Option, None, Some, is_none, nat_eq, slice_get, ◌==◌}
 use Rattle.std.specs.List.{filter, flat_map, list_all, list_any}
 use Rattle.std.proofs.lemmas.Bool.{eqb-true, eq-eqb, or_cases, or_left, or_right}
 use Rattle.vc_base.specs.Rounds.{Given, clash, atoms, atoms_of}
 use Rattle.vc_base.specs.Sets.{has}
-use Rattle.vc_base.proofs.SetLaws.{has_back, has_cases, has_either, has_filter, has_front, has_first, has_more, filter_has}
+use Rattle.vc_base.proofs.SetLaws.{has_back, has_cases, has_either, has_filter, has_front, has_first, has_more}
+use Rattle.vc_base.proofs.SetLaws.{filter_has}
 use Rattle.vc_value.specs.declared.value.Value.{Value}
 use Rattle.vc_plan.specs.declared.atoms.Atom.{Atom}
 use Rattle.vc_plan.specs.declared.atoms.Atom.TheVariants.{Here, Out, Is}
@@ -23,22 +25,29 @@ use Rattle.vc_plan.specs.declared.rules.Restriction.{Restriction}
 use Rattle.vc_plan.specs.declared.rules.Rule.{Rule}
 use Rattle.vc_plan.specs.declared.terms.Term.{Term}
 use Rattle.vc_plan.specs.declared.terms.Term.TheVariants.{Literal, Read, PartSum, PartCount, Applied', Joined'}
-use Rattle.vc_plan.specs.Answers.{nothing, clash_if, beside, gathered, fresh, value_atoms, only_value, last_atoms, is_nothing}
+use Rattle.vc_plan.specs.Answers.{nothing, clash_if, beside, gathered, fresh, value_atoms, only_value, last_atoms}
+use Rattle.vc_plan.specs.Answers.{is_nothing}
 use Rattle.vc_plan.specs.Domains.{decimals_of, grains_of, is_restrictable}
 use Rattle.vc_plan.specs.Kleene.{is_false}
-use Rattle.vc_plan.specs.Gives.{Giver, by_rule, by_user, by_entry, acts, not_out, kind_gives, rule_says, value_says, mark_says, entry_says, if_here, giver_says}
+use Rattle.vc_plan.specs.Gives.{Giver, by_rule, by_user, by_entry, acts, not_out, kind_gives, rule_says, value_says}
+use Rattle.vc_plan.specs.Gives.{mark_says, entry_says, if_here, giver_says}
 use Rattle.vc_plan.specs.Pieces.{is_outside, turned, lies_in_some}
 use Rattle.vc_plan.specs.Readings.{net_reading}
 use Rattle.vc_plan.specs.Reads.{vars_of_term}
-use Rattle.vc_plan.specs.Restrictions.{is_inferred, failing, left_with, of_remaining, confined, allows, among, lone_in, if_inferred, related, assigned, equal_to, rounded_value, lone, lone_inferred, decimals_in_side, differ}
+use Rattle.vc_plan.specs.Restrictions.{is_inferred, failing, left_with, of_remaining, confined, allows, among, lone_in}
+use Rattle.vc_plan.specs.Restrictions.{if_inferred, related, assigned, equal_to, rounded_value, lone, lone_inferred}
+use Rattle.vc_plan.specs.Restrictions.{decimals_in_side, differ}
 use Rattle.vc_plan.specs.Seen.{Seen, same_atom, seen_of, says, is_here, is_parent_here}
 use Rattle.vc_plan.specs.Sources.{Sources, Entry, user_of, entry_of}
-use Rattle.vc_plan.specs.TableRows.{has_cell, is_column_of, is_possible_in, is_variable, rows_of, columns_of, rows_for, missing_grains, first_cell, value_if, agreed, for_variable, narrowed}
+use Rattle.vc_plan.specs.TableRows.{has_cell, is_column_of, is_possible_in, is_variable, rows_of, columns_of, rows_for}
+use Rattle.vc_plan.specs.TableRows.{missing_grains, first_cell, value_if, agreed, for_variable, narrowed}
 use Rattle.vc_plan.specs.Truth.{compared, value_at}
 use Rattle.vc_base.proofs.ListLaws.{number_exact, number_itself}
 use Rattle.vc_plan.proofs.PlanLaws.Atoms.{atom_exact, atom_itself}
 use Rattle.vc_plan_reasons.specs.Laws.{GivesWhatItWrites}
-use Rattle.vc_plan_reasons.specs.Things.{Thing, slot_at, var_at, same_thing, has_thing, thing_of, vars_of_sides, vars_of_operand, vars_of_column, vars_of_kind, inferred_of, kind_writes, rule_writes, writes_in, giver_writes}
+use Rattle.vc_plan_reasons.specs.Things.{Thing, slot_at, var_at, same_thing, has_thing, thing_of, vars_of_sides}
+use Rattle.vc_plan_reasons.specs.Things.{vars_of_operand, vars_of_column, vars_of_kind, inferred_of, kind_writes}
+use Rattle.vc_plan_reasons.specs.Things.{rule_writes, writes_in, giver_writes}
 use Rattle.vc_plan_reasons.proofs.ReasonLaws.Reaching.{thing_exact, thing_itself}
 
 -- an answer that is of some things alone
@@ -51,7 +60,8 @@ w_nothing things a h = absurd (cc)
 w_clash : (things : List Thing) → Writes things clash
 w_clash things a h = absurd (cc)
 
-w_if : (things : List Thing) (b : Bool) (x y : Given Atom) → (b ≡ true → Writes things x) → (b ≡ false → Writes things y)
+w_if : (things : List Thing) (b : Bool) (x y : Given Atom) → (b ≡ true → Writes things x)
+    → (b ≡ false → Writes things y)
     → Writes things (cond b x y)
 w_if things true x y f g = f refl
 w_if things false x y f g = g refl
@@ -67,7 +77,8 @@ w_beside things (atoms xs) clash f g a h = absurd (cc)
 w_beside things (atoms xs) (atoms ys) f g a h =
     elim (has_either same_atom atom_exact atom_itself xs ys a h) [ inl e ↦ f a e | inr e ↦ g a e ]
 
-w_gathered : (things : List Thing) (f : ℕ → Given Atom) (xs : List ℕ) → ((x : ℕ) → has nat_eq xs x ≡ true → Writes things (f x))
+w_gathered : (things : List Thing) (f : ℕ → Given Atom) (xs : List ℕ)
+    → ((x : ℕ) → has nat_eq xs x ≡ true → Writes things (f x))
     → Writes things (gathered f xs)
 w_gathered things f [] g = w_nothing things
 w_gathered things f (x ∷ xs) g =
@@ -82,7 +93,8 @@ w_one things a e b h =
       | inr q ↦ absurd (cc)
     ]
 
-w_out : (things : List Thing) (v : ℕ) (gs : List ℕ) → has_thing things (var_at v) ≡ true → Writes things (atoms (map (Out v) gs))
+w_out : (things : List Thing) (v : ℕ) (gs : List ℕ) → has_thing things (var_at v) ≡ true
+    → Writes things (atoms (map (Out v) gs))
 w_out things v [] e = w_nothing things
 w_out things v (g ∷ gs) e =
     λ b h. elim (has_cases same_atom atom_exact atom_itself (Out v g) (map (Out v) gs) b h) [
@@ -101,7 +113,8 @@ w_last things plan v [] e = w_nothing things
 w_last things plan v (g ∷ []) e = w_value things v (only_value plan v g) e
 w_last things plan v (g ∷ (h ∷ more)) e = w_nothing things
 
-w_confined : (things : List Thing) (plan : Plan) (s : Seen) (v : ℕ) (test : Piece → Bool) → has_thing things (var_at v) ≡ true
+w_confined : (things : List Thing) (plan : Plan) (s : Seen) (v : ℕ) (test : Piece → Bool)
+    → has_thing things (var_at v) ≡ true
     → Writes things (confined plan s v test)
 w_confined things plan s v test e =
     w_if things (is_restrictable plan v) (atoms (map (Out v) (failing plan v test)))
@@ -133,7 +146,8 @@ lone_has : (o : Option Term) (v : ℕ) → lone_in o ≡ Some v → has nat_eq (
 lone_has None v e = absurd (cc)
 lone_has (Some (Literal a)) v e = absurd (cc)
 lone_has (Some (Read w)) v e =
-    let is : w ≡ v = cc in subst (λ z. has nat_eq (w ∷ []) z ≡ true) is (has_first nat_eq number_exact number_itself w [])
+    let is : w ≡ v
+    = cc in subst (λ z. has nat_eq (w ∷ []) z ≡ true) is (has_first nat_eq number_exact number_itself w [])
 lone_has (Some (PartSum slot characteristic)) v e = absurd (cc)
 lone_has (Some (PartCount slot)) v e = absurd (cc)
 lone_has (Some (Applied' function p a)) v e = absurd (cc)
@@ -144,11 +158,13 @@ pub inferred_parts : (rule : Rule) (o : Option ℕ) (v : ℕ) → if_inferred ru
 inferred_parts rule None v e = absurd (cc)
 inferred_parts rule (Some w) v e = choice (is_inferred rule w) refl e
   where
-    choice : (b : Bool) → is_inferred rule w ≡ b → cond b (Some w) None ≡ Some v → (Some w ≡ Some v) × (is_inferred rule v ≡ true)
+    choice : (b : Bool) → is_inferred rule w ≡ b → cond b (Some w) None ≡ Some v
+        → (Some w ≡ Some v) × (is_inferred rule v ≡ true)
     choice true q k = let is : w ≡ v = cc in (k, subst (λ z. is_inferred rule z ≡ true) is q)
     choice false q k = absurd (cc)
 
-left_side : (plan : Plan) (rule : Rule) (kind : Kind) (a b : ℕ) → vars_of_kind plan kind ≡ vars_of_sides plan a b → (v : ℕ)
+left_side : (plan : Plan) (rule : Rule) (kind : Kind) (a b : ℕ) → vars_of_kind plan kind ≡ vars_of_sides plan a b
+    → (v : ℕ)
     → lone_inferred plan rule a ≡ Some v → has_thing (inferred_of plan rule kind) (var_at v) ≡ true
 left_side plan rule kind a b k v e =
     let p = inferred_parts rule (lone plan a) v e in
@@ -157,7 +173,8 @@ left_side plan rule kind a b k v e =
     ∙ has_front nat_eq number_exact number_itself (vars_of_term (slice_get plan.terms a))
     (vars_of_term (slice_get plan.terms b)) v here) p.1
 
-right_side : (plan : Plan) (rule : Rule) (kind : Kind) (a b : ℕ) → vars_of_kind plan kind ≡ vars_of_sides plan a b → (v : ℕ)
+right_side : (plan : Plan) (rule : Rule) (kind : Kind) (a b : ℕ) → vars_of_kind plan kind ≡ vars_of_sides plan a b
+    → (v : ℕ)
     → lone_inferred plan rule b ≡ Some v → has_thing (inferred_of plan rule kind) (var_at v) ≡ true
 right_side plan rule kind a b k v e =
     let p = inferred_parts rule (lone plan b) v e in
@@ -170,7 +187,8 @@ w_related : (things : List Thing) (plan : Plan) (s : Seen) (r : Relation) (o : O
     → ((v : ℕ) → o ≡ Some v → has_thing things (var_at v) ≡ true) → Writes things (related plan s r o x)
 w_related things plan s r None x f = w_nothing things
 w_related things plan s r (Some v) None f = w_nothing things
-w_related things plan s r (Some v) (Some a) f = w_confined things plan s v (λ piece. not (is_outside r a piece)) (f v refl)
+w_related things plan s r (Some v) (Some a) f =
+    w_confined things plan s v (λ piece. not (is_outside r a piece)) (f v refl)
 
 w_equal : (things : List Thing) (plan : Plan) (o : Option ℕ) (x : Option Value)
     → ((v : ℕ) → o ≡ Some v → has_thing things (var_at v) ≡ true)
@@ -211,14 +229,16 @@ is_inferred_from v (w ∷ vs) h =
 w_value_if : (things : List Thing) (test : Value → Bool) (v : ℕ) (o : Option Value) → has_thing things (var_at v) ≡ true
     → Writes things (atoms (value_if test v o))
 w_value_if things test v None e = w_nothing things
-w_value_if things test v (Some a) e = w_atoms_if things (test a) (Is v a ∷ []) [] (w_one things (Is v a) e) (w_nothing things)
+w_value_if things test v (Some a) e =
+    w_atoms_if things (test a) (Is v a ∷ []) [] (w_one things (Is v a) e) (w_nothing things)
 
 w_agreed : (things : List Thing) (plan : Plan) (v : ℕ) (own : List Binding) (rows : List (List Value))
     → has_thing things (var_at v) ≡ true
     → Writes things (atoms (agreed plan v own rows))
 w_agreed things plan v own [] e = w_nothing things
 w_agreed things plan v own (row ∷ rows) e =
-    w_value_if things (λ a. list_all (has_cell own a) (row ∷ rows) && lies_in_some (grains_of plan v) a) v (first_cell own row) e
+    w_value_if things (λ a. list_all (has_cell own a) (row ∷ rows) && lies_in_some (grains_of plan v) a) v
+    (first_cell own row) e
 
 w_variable : (things : List Thing) (plan : Plan) (s : Seen) (table : ℕ) (columns : List Binding) (v : ℕ)
     → has_thing things (var_at v) ≡ true
@@ -244,9 +264,11 @@ w_among plan s rule v restriction =
     w_if things (is_inferred rule v) (confined plan s v test) (clash_if (is_nothing (left_with plan s v test)) nothing)
     (λ e. w_confined things plan s v test
     (inferred_has plan rule (Among v restriction) v (has_first nat_eq number_exact number_itself v []) e))
-    (λ e. w_if things (is_nothing (left_with plan s v test)) clash nothing (λ k. w_clash things) (λ k. w_nothing things))
+    (λ e. w_if things (is_nothing (left_with plan s v test)) clash nothing (λ k. w_clash things)
+    (λ k. w_nothing things))
 
-w_kind : (plan : Plan) (s : Seen) (rule : Rule) (kind : Kind) → Writes (kind_writes plan rule kind) (kind_gives plan s rule kind)
+w_kind : (plan : Plan) (s : Seen) (rule : Rule) (kind : Kind)
+    → Writes (kind_writes plan rule kind) (kind_gives plan s rule kind)
 w_kind plan s rule (Among v restriction) = w_among plan s rule v restriction
 w_kind plan s rule (Compare r a b) =
     let things = inferred_of plan rule (Compare r a b) in
@@ -256,7 +278,8 @@ w_kind plan s rule (Compare r a b) =
     let y = related plan s (turned r) (lone_inferred plan rule b) first in
     w_if things (is_false (compared r first second)) clash (beside x y) (λ e. w_clash things) (λ e. w_beside things x y
     (w_related things plan s r (lone_inferred plan rule a) second (left_side plan rule (Compare r a b) a b refl))
-    (w_related things plan s (turned r) (lone_inferred plan rule b) first (right_side plan rule (Compare r a b) a b refl)))
+    (w_related things plan s (turned r) (lone_inferred plan rule b) first
+    (right_side plan rule (Compare r a b) a b refl)))
 w_kind plan s rule (Equate a b) =
     let things = inferred_of plan rule (Equate a b) in
     let first = value_at plan (net_reading s) a in
@@ -277,19 +300,22 @@ w_kind plan s rule (ByTable table columns) =
     (λ v h. w_variable things plan s table columns v (narrowed_has plan rule table columns v h)))
 w_kind plan s rule Never = w_clash []
 w_kind plan s rule (Last v) =
-    let own : has_thing (var_at v ∷ []) (var_at v) ≡ true = has_first same_thing thing_exact thing_itself (var_at v) [] in
+    let own : has_thing (var_at v ∷ []) (var_at v) ≡ true
+    = has_first same_thing thing_exact thing_itself (var_at v) [] in
     w_atoms_if (var_at v ∷ []) (is_here plan s v) (last_atoms plan v (not_out plan s v)) []
     (w_last (var_at v ∷ []) plan v (not_out plan s v) own)
     (w_nothing (var_at v ∷ []))
 w_kind plan s rule (Line i) =
-    let own : has_thing (slot_at i ∷ []) (slot_at i) ≡ true = has_first same_thing thing_exact thing_itself (slot_at i) [] in
+    let own : has_thing (slot_at i ∷ []) (slot_at i) ≡ true
+    = has_first same_thing thing_exact thing_itself (slot_at i) [] in
     w_atoms_if (slot_at i ∷ []) (is_parent_here plan s i) (Here i ∷ []) [] (w_one (slot_at i ∷ []) (Here i) own)
     (w_nothing (slot_at i ∷ []))
 
 w_rule : (plan : Plan) (s : Seen) (o : Option Rule) → Writes (writes_in plan o) (rule_says plan s o)
 w_rule plan s None = w_nothing []
 w_rule plan s (Some rule) =
-    w_if (rule_writes plan rule) (acts plan s rule) (kind_gives plan s rule rule.kind) nothing (λ e. w_kind plan s rule rule.kind)
+    w_if (rule_writes plan rule) (acts plan s rule) (kind_gives plan s rule rule.kind) nothing
+    (λ e. w_kind plan s rule rule.kind)
     (λ e. w_nothing (rule_writes plan rule))
 
 w_value_says : (v : ℕ) (o : Option Value) → Writes (var_at v ∷ []) (value_says v o)
@@ -306,14 +332,16 @@ w_entry v (Some entry) = w_mark v entry.mark
 
 w_source : (plan : Plan) (s : Seen) (v : ℕ) (said : Given Atom) → Writes (var_at v ∷ []) said
     → Writes (var_at v ∷ []) (if_here plan s v said)
-w_source plan s v said f = w_if (var_at v ∷ []) (is_here plan s v) said nothing (λ e. f) (λ e. w_nothing (var_at v ∷ []))
+w_source plan s v said f =
+    w_if (var_at v ∷ []) (is_here plan s v) said nothing (λ e. f) (λ e. w_nothing (var_at v ∷ []))
 
 pub says_written : (plan : Plan) (sources : Sources) (giver : Giver) (s : Seen)
     → Writes (giver_writes plan giver) (giver_says plan sources giver s)
 says_written plan sources (by_rule r) s = w_rule plan s (slice_get plan.rules r)
 says_written plan sources (by_user v) s =
     w_source plan s v (value_says v (user_of sources v)) (w_value_says v (user_of sources v))
-says_written plan sources (by_entry v) s = w_source plan s v (entry_says v (entry_of sources v)) (w_entry v (entry_of sources v))
+says_written plan sources (by_entry v) s =
+    w_source plan s v (entry_says v (entry_of sources v)) (w_entry v (entry_of sources v))
 
 w_fresh : (things : List Thing) (s : Seen) (x : Given Atom) → Writes things x → Writes things (fresh s x)
 w_fresh things s clash f = f

@@ -26,8 +26,10 @@ use Rattle.vc_plan_reasons.specs.Refuting.{culprit_reads, refutes}
 use Rattle.vc_plan_reasons.specs.Things.{giver_reads, slot_at}
 use Rattle.vc_plan_reasons.proofs.ReasonRows.Steps.{by_user as chosen, clash_of, step}
 
--- MACH: variable 0 is DRIVEN of the root, Y 0 or N 1, and variable 1 POWER of its drive, P1 2 or P2 3. Rule 0 brings the drive
--- where DRIVEN is Y, rule 3 excludes P1, rule 4 excludes P2, and rule 5 says that POWER isn't P2. A procedure of the drive has
+-- MACH: variable 0 is DRIVEN of the root, Y 0 or N 1, and variable 1 POWER of its drive, P1 2 or P2 3. Rule 0 brings
+-- the drive
+-- where DRIVEN is Y, rule 3 excludes P1, rule 4 excludes P2, and rule 5 says that POWER isn't P2. A procedure of the
+-- drive has
 -- two statements that set POWER, and a third that takes its default away
 abbrev pub drive : Plan
 drive = record empty {
@@ -67,7 +69,8 @@ by_users = refl
 by_statements : accepts (step (Is 1 (Text 2)) (Written 0 1) (2 ∷ []) ∷ []) ≡ true
 by_statements = refl
 
-from_nothing : map (λ origin. accepts (step (Is 1 (Text 3)) origin [] ∷ [])) (User ∷ Written 0 1 ∷ []) ≡ false ∷ false ∷ []
+from_nothing : map (λ origin. accepts (step (Is 1 (Text 3)) origin [] ∷ [])) (User ∷ Written 0 1 ∷ [])
+    ≡ false ∷ false ∷ []
 from_nothing = refl
 
 from_root : accepts (step (Is 1 (Text 2)) (Written 0 1) (0 ∷ []) ∷ []) ≢ true
@@ -125,7 +128,8 @@ abbrev two_values : List Step
 two_values =
     yes ∷ here ∷ step (Is 1 (Text 3)) User (2 ∷ []) ∷ step (Is 1 (Text 2)) (Written 0 1) (2 ∷ []) ∷ []
 
-statement_blamed : refutes drive (marked (Held (Text 2)) 1) (clash_of two_values (culprits.Written 0 1) (3 ∷ 4 ∷ [])) ≡ true
+statement_blamed : refutes drive (marked (Held (Text 2)) 1) (clash_of two_values (culprits.Written 0 1) (3 ∷ 4 ∷ []))
+    ≡ true
 statement_blamed = refl
 
 first_blamed : refutes drive (marked (Held (Text 2)) 1) (clash_of two_values (culprits.Written 0 0) (3 ∷ 4 ∷ [])) ≢ true
@@ -136,5 +140,6 @@ abbrev never : List ℕ → Bool
 never premises = refutes drive (marked Outside 1)
     (clash_of (yes ∷ here ∷ step (Is 1 (Text 3)) User (2 ∷ []) ∷ []) (culprits.Rule 5) premises)
 
-never_clashes : map never ((2 ∷ 3 ∷ []) ∷ (3 ∷ []) ∷ (2 ∷ []) ∷ (1 ∷ 2 ∷ 3 ∷ []) ∷ []) ≡ true ∷ false ∷ false ∷ false ∷ []
+never_clashes : map never ((2 ∷ 3 ∷ []) ∷ (3 ∷ []) ∷ (2 ∷ []) ∷ (1 ∷ 2 ∷ 3 ∷ []) ∷ [])
+    ≡ true ∷ false ∷ false ∷ false ∷ []
 never_clashes = refl

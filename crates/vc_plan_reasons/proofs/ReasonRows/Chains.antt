@@ -41,14 +41,17 @@ itself : is_accepted pump large (large_size ∷ no_e1 (2 ∷ []) ∷ []) ≢ tru
 itself e = cc
 
 -- two steps that cite each other
-circle : first_refused_step mirror (users []) (step (Out 0 0) (Rule 0) (2 ∷ []) ∷ step (Out 1 0) (Rule 0) (1 ∷ []) ∷ []) ≡ Some 1
+circle : first_refused_step mirror (users []) (step (Out 0 0) (Rule 0) (2 ∷ []) ∷ step (Out 1 0) (Rule 0) (1 ∷ []) ∷ [])
+    ≡ Some 1
 circle = refl
 
-circle_accepted : is_accepted mirror (users []) (step (Out 0 0) (Rule 0) (2 ∷ []) ∷ step (Out 1 0) (Rule 0) (1 ∷ []) ∷ []) ≢ true
+circle_accepted : is_accepted mirror (users [])
+    (step (Out 0 0) (Rule 0) (2 ∷ []) ∷ step (Out 1 0) (Rule 0) (1 ∷ []) ∷ []) ≢ true
 circle_accepted e = cc
 
 -- the second of them follows from the first
-after_first : first_refused_step mirror (users []) (step (Out 1 0) (Rule 0) [] ∷ step (Out 0 0) (Rule 0) (1 ∷ []) ∷ []) ≡ Some 1
+after_first : first_refused_step mirror (users []) (step (Out 1 0) (Rule 0) [] ∷ step (Out 0 0) (Rule 0) (1 ∷ []) ∷ [])
+    ≡ Some 1
 after_first = refl
 
 -- what the user didn't set, or not so
@@ -98,7 +101,8 @@ motor_whole = refl
 accepted_is_whole : is_whole pump large why_motor ≢ is_accepted pump large why_motor
 accepted_is_whole e = cc
 
-all_steps : is_whole pump large (large_size ∷ no_e1 (1 ∷ []) ∷ no_e2 (1 ∷ []) ∷ step (Is 1 (Text 5)) (Rule 2) (2 ∷ 3 ∷ [])
+all_steps : is_whole pump large
+    (large_size ∷ no_e1 (1 ∷ []) ∷ no_e2 (1 ∷ []) ∷ step (Is 1 (Text 5)) (Rule 2) (2 ∷ 3 ∷ [])
     ∷ step (Out 0 0) (Rule 0) (2 ∷ []) ∷ step (Out 0 1) (Rule 0) (2 ∷ 3 ∷ []) ∷ []) ≡ true
 all_steps = refl
 

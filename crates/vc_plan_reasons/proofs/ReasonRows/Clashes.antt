@@ -31,10 +31,12 @@ table_clashes : refutes pump small_e3 (clash_of chosen (culprits.Rule 0) (1 ∷ 
 table_clashes = refl
 
 -- the two values are clear and say all that the user set; but the table still clashes, so they aren't whole
-clash_left : is_whole pump (users (Some (Text 0) ∷ Some (Text 5) ∷ [])) (by_user 0 (Text 0) ∷ by_user 1 (Text 5) ∷ []) ≡ false
+clash_left : is_whole pump (users (Some (Text 0) ∷ Some (Text 5) ∷ [])) (by_user 0 (Text 0) ∷ by_user 1 (Text 5) ∷ [])
+    ≡ false
 clash_left = refl
 
-clash_is_silent : is_whole pump (users (Some (Text 0) ∷ Some (Text 5) ∷ [])) (by_user 0 (Text 0) ∷ by_user 1 (Text 5) ∷ []) ≢ true
+clash_is_silent : is_whole pump (users (Some (Text 0) ∷ Some (Text 5) ∷ []))
+    (by_user 0 (Text 0) ∷ by_user 1 (Text 5) ∷ []) ≢ true
 clash_is_silent e = cc
 
 -- of the size alone there is a row
@@ -58,7 +60,8 @@ last_blamed e = cc
 
 -- with E3 a pump isn't small, and neither medium: the size set and its grain out collide
 abbrev colliding : List Step
-colliding = by_user 0 (Text 0) ∷ by_user 1 (Text 5) ∷ step (Out 0 0) (Rule 0) (2 ∷ []) ∷ step (Out 0 1) (Rule 0) (2 ∷ []) ∷ []
+colliding = by_user 0 (Text 0) ∷ by_user 1 (Text 5) ∷ step (Out 0 0) (Rule 0) (2 ∷ [])
+    ∷ step (Out 0 1) (Rule 0) (2 ∷ []) ∷ []
 
 collides : refutes pump small_e3 (clash_of colliding (culprits.Rule 0) (1 ∷ 3 ∷ [])) ≡ true
 collides = refl
@@ -111,7 +114,8 @@ past_the_end e = cc
 -- a motor that follows, and another by the user: the rule of the last grain isn't to blame, nor the table, which gave
 -- neither of them
 abbrev two_motors : List Step
-two_motors = large_size ∷ no_e1 (1 ∷ []) ∷ no_e2 (1 ∷ []) ∷ step (Is 1 (Text 5)) (Rule 2) (2 ∷ 3 ∷ []) ∷ by_user 1 (Text 3) ∷ []
+two_motors = large_size ∷ no_e1 (1 ∷ []) ∷ no_e2 (1 ∷ []) ∷ step (Is 1 (Text 5)) (Rule 2) (2 ∷ 3 ∷ [])
+    ∷ by_user 1 (Text 3) ∷ []
 
 abbrev large_e1 : Sources
 large_e1 = users (Some (Text 2) ∷ Some (Text 3) ∷ [])
@@ -136,7 +140,8 @@ statement_clashes = refl
 other_statement : refutes paint outside (clash_of [] (culprits.Written 1 1) []) ≢ true
 other_statement e = cc
 
-held : refutes paint (record { user = []; written = Some (record { mark = Held (Text 2); procedure = 1; statement = 0 }) ∷ [] })
+held : refutes paint
+    (record { user = []; written = Some (record { mark = Held (Text 2); procedure = 1; statement = 0 }) ∷ [] })
     (clash_of [] (culprits.Written 1 0) []) ≢ true
 held e = cc
 

@@ -63,7 +63,11 @@ none_changed e = cc
 -- a value that a statement wrote, by another statement now: its step goes, and the user's of the same variable stays
 abbrev written : Value → ℕ → Sources
 written a statement =
-    record { user = Some (Text 2) ∷ []; written = Some (record { mark = Held a; procedure = 1; statement = statement }) ∷ [] }
+    record {
+      user = Some (Text 2) ∷ [];
+      written = Some (record { mark = Held a; procedure = 1; statement = statement })
+          ∷ [];
+    }
 
 abbrev green : Step
 green = step (Is 0 (Text 2)) (Written 1 0) []
@@ -79,7 +83,8 @@ user_gone : kept_of (written (Text 2) 0) (record (written (Text 2) 0) { user = [
     (green ∷ by_user 0 (Text 2) ∷ []) ≡ green ∷ []
 user_gone = refl
 
--- an entry that differs changes its variable, though the user's value is the same; one outside is the same as another outside
+-- an entry that differs changes its variable, though the user's value is the same; one outside is the same as another
+-- outside
 entry_changed : changed pump (written (Text 2) 0) (written (Text 2) 1) ≡ 0 ∷ []
 entry_changed = refl
 
@@ -90,7 +95,11 @@ value_changed : changed pump (written (Text 2) 0) (written (Text 1) 0) ≡ 0 ∷
 value_changed = refl
 
 abbrev outside : ℕ → Sources
-outside procedure = record { user = []; written = Some (record { mark = Outside; procedure = procedure; statement = 0 }) ∷ [] }
+outside procedure = record {
+  user = [];
+  written = Some (record { mark = Outside; procedure = procedure; statement = 0 })
+      ∷ [];
+}
 
 still_outside : changed pump (outside 1) (outside 1) ≡ []
 still_outside = refl

@@ -31,7 +31,8 @@ users_fit = refl
 in_no_grain : by_users (Some (Text 2) ∷ []) ≢ true
 in_no_grain e = cc
 
--- an entry of POWER, by each of the drive's statements, of which the third writes nothing; by one that isn't there, and by
+-- an entry of POWER, by each of the drive's statements, of which the third writes nothing; by one that isn't there, and
+-- by
 -- another procedure
 abbrev written : Mark → ℕ → ℕ → Bool
 written mark procedure statement =

@@ -14,19 +14,22 @@ use Rattle.vc_plan.specs.declared.rules.Rule.{Rule}
 use Rattle.vc_plan.specs.declared.terms.Operator.TheVariants.{Plus}
 use Rattle.vc_plan.specs.declared.terms.Term.TheVariants.{Literal, Read, Joined'}
 use Rattle.vc_plan.specs.Gives.{by_rule}
-use Rattle.vc_plan.proofs.PlanRows.Models.{column, empty, fixed_pair, fixed_var, own_rule, root, rule, table_of, three_grains, users, whole}
+use Rattle.vc_plan.proofs.PlanRows.Models.{column, empty, fixed_pair, fixed_var, own_rule, root, rule, table_of}
+use Rattle.vc_plan.proofs.PlanRows.Models.{three_grains, users, whole}
 use Rattle.vc_plan_reasons.specs.Refuting.{is_of_constraint, refutes}
 use Rattle.vc_plan_reasons.specs.Things.{Thing, giver_reads, giver_writes, slot_at, var_at}
 use Rattle.vc_plan_reasons.specs.Work.{work_of}
 use Rattle.vc_plan_reasons.proofs.ReasonRows.Steps.{by_user, clash_of}
 
--- slot 2 stands in slot 1; variables 0 to 2 are of slot 1, variable 3 of slot 2. The condition reads variables 3 and 0; term 0 is
+-- slot 2 stands in slot 1; variables 0 to 2 are of slot 1, variable 3 of slot 2. The condition reads variables 3 and 0;
+-- term 0 is
 -- variable 1, term 1 the sum of variables 1 and 2
 abbrev plan : Box (Unit {0}) Global → Rule → Plan
 plan p r = record empty {
   domains = three_grains ∷ [];
   slots =
-      root ∷ record { parent = Some 0; depth = 1; object = 1; line = 0 } ∷ record { parent = Some 1; depth = 2; object = 2; line = 1 } ∷ [];
+      root ∷ record { parent = Some 0; depth = 1; object = 1; line = 0 }
+      ∷ record { parent = Some 1; depth = 2; object = 2; line = 1 } ∷ [];
   vars =
       record (fixed_var 0) { slot = 1 } ∷ record (fixed_var 0) { slot = 1 } ∷ record (fixed_var 0) { slot = 1 }
       ∷ record (fixed_var 0) { slot = 2 } ∷ [];
@@ -59,7 +62,8 @@ equate : (p : Box (Unit {0}) Global)
 equate p = refl
 
 by_table : (p : Box (Unit {0}) Global)
-    → things p (of_constraint (ByTable 0 (column 0 2 ∷ record { column = 1; operand = Constant (whole 1) } ∷ column 2 1 ∷ [])))
+    → things p (of_constraint
+    (ByTable 0 (column 0 2 ∷ record { column = 1; operand = Constant (whole 1) } ∷ column 2 1 ∷ [])))
     ≡ (slot_at 2 ∷ slot_at 1 ∷ var_at 3 ∷ var_at 0 ∷ var_at 2 ∷ var_at 1 ∷ [], var_at 2 ∷ [])
 by_table p = refl
 
@@ -71,7 +75,8 @@ never p = refl
 last_of : (p : Box (Unit {0}) Global) → things p (own_rule 0 (Last 3)) ≡ (slot_at 2 ∷ var_at 3 ∷ [], var_at 3 ∷ [])
 last_of p = refl
 
-line : (p : Box (Unit {0}) Global) → things p (own_rule 1 (Line 2)) ≡ (slot_at 1 ∷ var_at 3 ∷ var_at 0 ∷ [], slot_at 2 ∷ [])
+line : (p : Box (Unit {0}) Global)
+    → things p (own_rule 1 (Line 2)) ≡ (slot_at 1 ∷ var_at 3 ∷ var_at 0 ∷ [], slot_at 2 ∷ [])
 line p = refl
 
 root_too : (p : Box (Unit {0}) Global) → giver_reads (plan p (of_constraint Never)) (by_rule 0)
@@ -82,7 +87,8 @@ itself_too : (p : Box (Unit {0}) Global) → giver_reads (plan p (own_rule 1 (Li
     ≢ slot_at 1 ∷ slot_at 2 ∷ var_at 3 ∷ var_at 0 ∷ []
 itself_too p e = cc
 
--- a line's rule only writes its slot, and has a share in the work on it: 1 + 2 x 1; with variable 3 of four atoms, which it
+-- a line's rule only writes its slot, and has a share in the work on it: 1 + 2 x 1; with variable 3 of four atoms,
+-- which it
 -- reads, 1 + 2 x (4 + 1)
 slot_work : (p : Box (Unit {0}) Global) → work_of (plan p (own_rule 1 (Line 2))) (slot_at 2 ∷ []) ≡ 3
 slot_work p = refl
@@ -102,19 +108,24 @@ blamable : map (λ kind. is_of_constraint (Some (of_constraint kind)))
     ≡ true ∷ true ∷ true ∷ true ∷ true ∷ false ∷ false ∷ []
 blamable = refl
 
--- each clashes at 4 and 1: the first may be 1 at most, and no more than the second, equal to it, of one row with it, or not be
+-- each clashes at 4 and 1: the first may be 1 at most, and no more than the second, equal to it, of one row with it, or
+-- not be
 abbrev blames : Kind → List ℕ → Bool
 blames kind premises =
-    refutes (record (fixed_pair (Read 0 ∷ Read 1 ∷ []) (rule 0 [] kind)) { tables = table_of ((whole 1 ∷ whole 1 ∷ []) ∷ []) ∷ [] })
+    refutes (record (fixed_pair (Read 0 ∷ Read 1 ∷ []) (rule 0 [] kind))
+    { tables = table_of ((whole 1 ∷ whole 1 ∷ []) ∷ []) ∷ [] })
     (users (Some (whole 4) ∷ Some (whole 1) ∷ []))
     (clash_of (by_user 0 (whole 4) ∷ by_user 1 (whole 1) ∷ []) (culprits.Rule 0) premises)
 
-each_blamed : (blames (Among 0 (Against AtMost (whole 1))) (1 ∷ []) ≡ true) × (blames (Compare AtMost 0 1) (1 ∷ 2 ∷ []) ≡ true)
-    × (blames (Equate 0 1) (1 ∷ 2 ∷ []) ≡ true) × (blames (ByTable 0 (column 0 0 ∷ column 1 1 ∷ [])) (1 ∷ 2 ∷ []) ≡ true)
+each_blamed : (blames (Among 0 (Against AtMost (whole 1))) (1 ∷ []) ≡ true)
+    × (blames (Compare AtMost 0 1) (1 ∷ 2 ∷ []) ≡ true)
+    × (blames (Equate 0 1) (1 ∷ 2 ∷ []) ≡ true)
+    × (blames (ByTable 0 (column 0 0 ∷ column 1 1 ∷ [])) (1 ∷ 2 ∷ []) ≡ true)
     × (blames Never [] ≡ true)
 each_blamed = (refl, refl, refl, refl, refl)
 
 -- each by what it reads alone
-too_much : (blames (Among 0 (Against AtMost (whole 1))) (1 ∷ 2 ∷ []) ≡ false) × (blames (Compare AtMost 0 1) (1 ∷ []) ≡ false)
+too_much : (blames (Among 0 (Against AtMost (whole 1))) (1 ∷ 2 ∷ []) ≡ false)
+    × (blames (Compare AtMost 0 1) (1 ∷ []) ≡ false)
     × (blames (Equate 0 1) (2 ∷ []) ≡ false) × (blames Never (1 ∷ []) ≡ false)
 too_much = (refl, refl, refl, refl)

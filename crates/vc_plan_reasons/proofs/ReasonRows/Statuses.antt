@@ -35,10 +35,12 @@ blue_h_status = (
 blue_h_complete : IsStatus paint blue_h Complete → ⊥
 blue_h_complete (clash, refuted, is) = cc
 
--- neither the rule of the last color nor the first procedure is, whatever the steps: that rule is no constraint's, and no
+-- neither the rule of the last color nor the first procedure is, whatever the steps: that rule is no constraint's, and
+-- no
 -- entry is by that procedure
 abbrev at_1 : Sources
-at_1 = sources_of blue_h (Some (record { mark = Held (Text 2); hard = true; procedure = 1; statement = 0 }) ∷ None ∷ None ∷ [])
+at_1 = sources_of blue_h
+    (Some (record { mark = Held (Text 2); hard = true; procedure = 1; statement = 0 }) ∷ None ∷ None ∷ [])
 
 last_blamed : IsStatus paint blue_h (Contradiction (culprits.Rule 0)) → ⊥
 last_blamed (clash, refuted, is) =

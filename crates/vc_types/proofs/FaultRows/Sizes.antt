@@ -4,12 +4,14 @@ use Rattle.std.specs.Prelude.{None, Some, codes}
 use Rattle.vc_syntax_terms.specs.declared.tree.Function.TheVariants.{Abs, Sign, Trunc, Floor, Ceil, Frac}
 use Rattle.vc_syntax_terms.specs.declared.tree.Operator.TheVariants.{Plus, Minus, Times, Over}
 use Rattle.vc_syntax_terms.specs.declared.tree.Relator.TheVariants.{Equal}
-use Rattle.vc_syntax_terms.specs.Trees.{Term, Operand, Negated, Combined, Applied, SumOfParts, CountOfParts, Counts, Procedure, Precondition, Assign}
+use Rattle.vc_syntax_terms.specs.Trees.{Term, Operand, Negated, Combined, Applied, SumOfParts, CountOfParts, Counts}
+use Rattle.vc_syntax_terms.specs.Trees.{Procedure, Precondition, Assign}
 use Rattle.vc_types.specs.Faults.{fault_of}
 use Rattle.vc_types.specs.RangeFaults.{size_of}
 use Rattle.vc_types.specs.Settings.{setting_of}
 use Rattle.vc_types.specs.declared.fault.TypeFaultKind.TheVariants.{RangeTooWide}
-use Rattle.vc_types.proofs.FaultRows.Small.{Quantity, small, at_root, at_part, at_operation, by_root, leaf, plain, number, related}
+use Rattle.vc_types.proofs.FaultRows.Small.{Quantity, small, at_root, at_part, at_operation, by_root, leaf, plain}
+use Rattle.vc_types.proofs.FaultRows.Small.{number, related}
 
 abbrev n : Term
 n = Operand (plain (codes "N"))
@@ -26,11 +28,14 @@ times left right = Combined left Times right
 abbrev size : Quantity → Term → ℕ
 size q term = size_of (setting_of (small q) by_root (Counts term)) term
 
--- sizes: the larger end of a list, sums and differences alike, a product with a millionth more, a quotient by the least divisor
+-- sizes: the larger end of a list, sums and differences alike, a product with a millionth more, a quotient by the least
+-- divisor
 of_list : (q : Quantity) → size q n ≡ 100_000_000
 of_list q = refl
 
-of_low_end : (q : Quantity) → size_of (setting_of (small q) at_part (Counts (Operand (plain (codes "W"))))) (Operand (plain (codes "W"))) ≡ 9_000_000
+of_low_end : (q : Quantity)
+    → size_of (setting_of (small q) at_part (Counts (Operand (plain (codes "W"))))) (Operand (plain (codes "W")))
+    ≡ 9_000_000
 of_low_end q = refl
 
 of_texts : (q : Quantity) → size q (Operand (plain (codes "A"))) ≡ 0
@@ -83,28 +88,40 @@ three_factors : (q : Quantity) → fault_of (small q) at_operation (Counts (time
 three_factors q = refl
 
 -- the fault is told wherever the term stands: under a function, in a divisor, at either side
-under_function : (q : Quantity) → fault_of (small q) at_operation (Counts (Applied Sign (times (times b b) b))) ≡ Some RangeTooWide
+under_function : (q : Quantity)
+    → fault_of (small q) at_operation (Counts (Applied Sign (times (times b b) b))) ≡ Some RangeTooWide
 under_function q = refl
 
-in_divisor : (q : Quantity) → fault_of (small q) at_operation (Counts (Combined n Over (times (times b b) b))) ≡ Some RangeTooWide
+in_divisor : (q : Quantity)
+    → fault_of (small q) at_operation (Counts (Combined n Over (times (times b b) b))) ≡ Some RangeTooWide
 in_divisor q = refl
 
-at_right : (q : Quantity) → fault_of (small q) at_root (Precondition (related n Equal (times (times b b) b))) ≡ Some RangeTooWide
+at_right : (q : Quantity)
+    → fault_of (small q) at_root (Precondition (related n Equal (times (times b b) b))) ≡ Some RangeTooWide
 at_right q = refl
 
 -- a part sum may be added and divided, and not multiplied by another; with a factor of a hundred it may
-sum_times_count : (q : Quantity) → fault_of (small q) by_root (Procedure (record { action = Assign (leaf (codes "N")) (times w CountOfParts); condition = None } ∷ [])) ≡ Some RangeTooWide
+sum_times_count : (q : Quantity)
+    → fault_of (small q) by_root
+    (Procedure (record { action = Assign (leaf (codes "N")) (times w CountOfParts); condition = None } ∷ []))
+    ≡ Some RangeTooWide
 sum_times_count q = refl
 
-sum_by_count : (q : Quantity) → fault_of (small q) by_root (Procedure (record { action = Assign (leaf (codes "N")) (Combined w Over CountOfParts); condition = None } ∷ [])) ≡ None
+sum_by_count : (q : Quantity)
+    → fault_of (small q) by_root
+    (Procedure (record { action = Assign (leaf (codes "N")) (Combined w Over CountOfParts); condition = None } ∷ []))
+    ≡ None
 sum_by_count q = refl
 
-sum_times_hundred : (q : Quantity) → fault_of (small q) by_root (Procedure (record { action = Assign (leaf (codes "N")) (times w n); condition = None } ∷ [])) ≡ None
+sum_times_hundred : (q : Quantity)
+    → fault_of (small q) by_root
+    (Procedure (record { action = Assign (leaf (codes "N")) (times w n); condition = None } ∷ [])) ≡ None
 sum_times_hundred q = refl
 
 -- the limit itself, by a quotient: what is computed on the way is 10^36 less 10^6, and 10^36
 at_the_limit : (q : Quantity) → fault_of (small q) at_operation (Counts (Combined (number (10 ^ 30 - 1)) Over n)) ≡ None
 at_the_limit q = refl
 
-past_the_limit : (q : Quantity) → fault_of (small q) at_operation (Counts (Combined (number (10 ^ 30)) Over n)) ≡ Some RangeTooWide
+past_the_limit : (q : Quantity)
+    → fault_of (small q) at_operation (Counts (Combined (number (10 ^ 30)) Over n)) ≡ Some RangeTooWide
 past_the_limit q = refl

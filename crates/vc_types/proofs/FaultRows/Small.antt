@@ -1,5 +1,7 @@
--- A small model, and short words for trees. M is the root, of class K with A, N, S, B; its bill has P, of class D with W
--- and A. A is a text, N is 0 to 100 by tenths, S has sets of texts, B is up to 10^9, W is -9 to 5. T has the key A, and N
+-- A small model, and short words for trees. M is the root, of class K with A, N, S, B; its bill has P, of class D with
+-- W
+-- and A. A is a text, N is 0 to 100 by tenths, S has sets of texts, B is up to 10^9, W is -9 to 5. T has the key A, and
+-- N
 -- and B; U has no key.
 use Rattle.std.proofs.Common.{ℕ, pos, neg_ℤ, true, false, List, [], ◌∷◌}
 use Rattle.std.specs.Prelude.{None, Some, Box, codes}
@@ -18,7 +20,8 @@ use Rattle.vc_syntax_terms.specs.declared.tree.Owner.{Owner}
 use Rattle.vc_syntax_terms.specs.declared.tree.Relator.{Relator}
 use Rattle.vc_syntax_terms.specs.declared.tree.Relator.TheVariants.{Equal}
 use Rattle.vc_syntax_terms.specs.declared.tree.Term.{Term as StoredTerm}
-use Rattle.vc_syntax_terms.specs.Trees.{Term, Number, Text, Operand, Condition, Related, Compared, Dependency, Constrains}
+use Rattle.vc_syntax_terms.specs.Trees.{Term, Number, Text, Operand, Condition, Related, Compared, Dependency}
+use Rattle.vc_syntax_terms.specs.Trees.{Constrains}
 use Rattle.vc_types.specs.declared.place.At.TheVariants as at
 use Rattle.vc_types.specs.declared.place.Place.{Place}
 
@@ -32,23 +35,28 @@ texts name listed = record { name = name; restrictable = false; required = false
 -- numbers from -low to high, in millionths
 abbrev pub numbers : ℕ → ℕ → ℕ → Values
 numbers decimals low high =
-    values.Numbers decimals None (record { low = record { millionths = neg_ℤ (pos low) }; high = record { millionths = pos high }; uses = [] } ∷ [])
+    values.Numbers decimals None
+    (record { low = record { millionths = neg_ℤ (pos low) }; high = record { millionths = pos high }; uses = [] }
+    ∷ [])
 
 abbrev pub small : Quantity → Model
 small quantity = record {
   name = codes "M";
   version = 1;
   characteristics =
-      texts (codes "A") (values.Texts 1 false []) ∷ texts (codes "N") (numbers 1 0 100_000_000) ∷ texts (codes "S") (values.Texts 1 true [])
+      texts (codes "A") (values.Texts 1 false []) ∷ texts (codes "N") (numbers 1 0 100_000_000)
+      ∷ texts (codes "S") (values.Texts 1 true [])
       ∷ texts (codes "B") (numbers 0 0 999_999_999_000_000) ∷ texts (codes "W") (numbers 0 9_000_000 5_000_000) ∷ [];
   texts = [];
   classes =
-      record { name = codes "K"; members = 0 ∷ 1 ∷ 2 ∷ 3 ∷ [] } ∷ record { name = codes "D"; members = 4 ∷ 0 ∷ [] } ∷ [];
+      record { name = codes "K"; members = 0 ∷ 1 ∷ 2 ∷ 3 ∷ [] } ∷ record { name = codes "D"; members = 4 ∷ 0 ∷ [] }
+      ∷ [];
   tables =
       record {
         name = codes "T";
         file = [];
-        columns = record { characteristic = 0; key = true } ∷ record { characteristic = 1; key = false } ∷ record { characteristic = 3; key = false } ∷ [];
+        columns = record { characteristic = 0; key = true } ∷ record { characteristic = 1; key = false }
+            ∷ record { characteristic = 3; key = false } ∷ [];
       }
       ∷ record {
         name = codes "U";
@@ -64,13 +72,22 @@ small quantity = record {
         class = 0;
         nets = [];
         procedures = [];
-        bill = record { item = 10; component = components.Object 0; unit = codes "PC"; quantity = quantity; uses = []; line = 9 } ∷ [];
+        bill = record {
+          item = 10;
+          component = components.Object 0;
+          unit = codes "PC";
+          quantity = quantity;
+          uses =
+              [];
+          line = 9;
+        } ∷ [];
         operations = [];
       } ∷ [];
   root = 1;
 }
 
--- places: in a net; at a characteristic of the root, and of the component; at a configurable line, a plain one, an operation
+-- places: in a net; at a characteristic of the root, and of the component; at a configurable line, a plain one, an
+-- operation
 abbrev pub in_net : Place
 in_net = record { object = 1; parent = None; at = at.Constraint }
 
@@ -130,7 +147,12 @@ of_class name class = record { variable = leaf name; kind = objects.Class (leaf 
 -- an object with a WHERE
 abbrev pub of_class_where : List ℕ → List ℕ → List ℕ → List ℕ → Object
 of_class_where name class value c =
-    record { variable = leaf name; kind = objects.Class (leaf class); aliases = record { variable = leaf value; characteristic = leaf c } ∷ [] }
+    record {
+      variable = leaf name;
+      kind = objects.Class (leaf class);
+      aliases =
+          record { variable = leaf value; characteristic = leaf c } ∷ [];
+    }
 
 -- a constraint of one restriction, a relation, that infers nothing
 abbrev pub restricts : List Object → Condition → Dependency

@@ -7,7 +7,8 @@ use Rattle.vc_app.proofs.script.next_line.Goals as goal
 
 pub returns-in-Some-clause-line : goal.returns-in-Some-clause-line
 returns-in-Some-clause-line c =
-    rw (take_rest, c.without_carriage_return.ensures) (first_line c.args.text.now c.in-Some.at (sym c.line_feed.ensures.place ∙ c.in-Some.is))
+    rw (take_rest, c.without_carriage_return.ensures)
+    (first_line c.args.text.now c.in-Some.at (sym c.line_feed.ensures.place ∙ c.in-Some.is))
 
 pub returns-in-None-2-clause-line : goal.returns-in-None-2-clause-line
 returns-in-None-2-clause-line c =

@@ -1,4 +1,5 @@
--- What the ending's status promises, and that words and files decide it; of words that ask to check, what is said of the model.
+-- What the ending's status promises, and that words and files decide it; of words that ask to check, what is said of
+-- the model.
 use Rattle.std.proofs.Common.{subst}
 use Rattle.vc_app_check.specs.Checking.{EndsCheck}
 use Rattle.vc_app.specs.Endings.{outside}
@@ -9,22 +10,42 @@ use Rattle.vc_app.proofs.top.desk.Goals as goal
 
 pub returns-in-None-clause-status : goal.returns-in-None-clause-status
 returns-in-None-clause-status g c =
-    let o = outside (g.F.Shelf.files c.args.shelf.now) (g.F.Shelf.faults c.args.shelf.now) (g.F.Shelf.faults c.end.new.shelf)
-    (g.S.Sink.written c.args.out.now) (g.S.Sink.written c.end.new.out) (g.S.Sink.faults c.args.out.now) (g.S.Sink.faults c.end.new.out) in
+    let o = outside (g.F.Shelf.files c.args.shelf.now) (g.F.Shelf.faults c.args.shelf.now)
+    (g.F.Shelf.faults c.end.new.shelf)
+    (g.S.Sink.written c.args.out.now) (g.S.Sink.written c.end.new.out) (g.S.Sink.faults c.args.out.now)
+    (g.S.Sink.faults c.end.new.out) in
     λ other.
-    promised c.args.words.now o c.status.result (record { ending = c.end.result; number = c.status.ensures; ends = c.end.ensures.ends; cause = c.end.ensures.cause })
+    promised c.args.words.now o c.status.result
+    (record {
+      ending = c.end.result;
+      number = c.status.ensures;
+      ends = c.end.ensures.ends;
+      cause =
+          c.end.ensures.cause;
+    })
 
 pub returns-in-None-clause-exact : goal.returns-in-None-clause-exact
 returns-in-None-clause-exact g c =
-    let o = outside (g.F.Shelf.files c.args.shelf.now) (g.F.Shelf.faults c.args.shelf.now) (g.F.Shelf.faults c.end.new.shelf)
-    (g.S.Sink.written c.args.out.now) (g.S.Sink.written c.end.new.out) (g.S.Sink.faults c.args.out.now) (g.S.Sink.faults c.end.new.out) in
+    let o = outside (g.F.Shelf.files c.args.shelf.now) (g.F.Shelf.faults c.args.shelf.now)
+    (g.F.Shelf.faults c.end.new.shelf)
+    (g.S.Sink.written c.args.out.now) (g.S.Sink.written c.end.new.out) (g.S.Sink.faults c.args.out.now)
+    (g.S.Sink.faults c.end.new.out) in
     λ other.
-    exactly c.args.words.now o c.status.result (record { ending = c.end.result; number = c.status.ensures; ends = c.end.ensures.ends; cause = c.end.ensures.cause })
+    exactly c.args.words.now o c.status.result
+    (record {
+      ending = c.end.result;
+      number = c.status.ensures;
+      ends = c.end.ensures.ends;
+      cause =
+          c.end.ensures.cause;
+    })
 
 pub returns-in-Some-clause-check : goal.returns-in-Some-clause-check
 returns-in-Some-clause-check g c =
-    let o = outside (g.F.Shelf.files c.args.shelf.now) (g.F.Shelf.faults c.args.shelf.now) (g.F.Shelf.faults c.check.new.shelf)
-    (g.S.Sink.written c.args.out.now) (g.S.Sink.written c.check.new.out) (g.S.Sink.faults c.args.out.now) (g.S.Sink.faults c.check.new.out) in
+    let o = outside (g.F.Shelf.files c.args.shelf.now) (g.F.Shelf.faults c.args.shelf.now)
+    (g.F.Shelf.faults c.check.new.shelf)
+    (g.S.Sink.written c.args.out.now) (g.S.Sink.written c.check.new.out) (g.S.Sink.faults c.args.out.now)
+    (g.S.Sink.faults c.check.new.out) in
     λ name asked.
     subst (λ other. EndsCheck other o c.check.result)
     (one_name c.args.words.now c.in-Some.name.now name c.in-Some.ensures.some asked) c.check.ensures.ends

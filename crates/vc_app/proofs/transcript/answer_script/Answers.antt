@@ -1,7 +1,8 @@
 -- One line more is answered, whole or cut short, or none is left.
-use Rattle.std.proofs.Common.{rules}
+use Rattle.std.proofs.Common.{rules, subst}
 use Rattle.std.proofs.lemmas.Result.{err_from_is_err_and}
-use Rattle.vc_app.specs.Sessions.{state_of}
+use Rattle.vc_desk.specs.Desks.{state_of}
+use Rattle.vc_app.specs.Transcript.{LineCut, LineDone, LineUnsaid}
 use Rattle.vc_app.proofs.TranscriptLaws.{so_far_push, all_done, some_done, cut_short}
 use Rattle.vc_app.proofs.transcript.answer_script.Goals as goal
 
@@ -9,30 +10,52 @@ pub returns-in_err-answer_line-clause-memory : goal.returns-in_err-answer_line-c
 returns-in_err-answer_line-clause-memory g c =
     let p = err_from_is_err_and c.from_residual.result c.from_residual.ensures.1 in
     let written = g.S.Sink.written in
-    rw (p.1, p.2) (λ h. some_done c.args.plan.now c.args.script.now c.loop-line.rest.now (state_of c.args.opened.now) (state_of c.loop-line.opened)
-    (written c.args.out.now) (written c.loop-line.out) c.in-Some.line.now c.in-Some.later.now (state_of c.answer_line.new.opened) (written c.answer_line.new.out)
-    c.loop-line.invariant.so_far c.in-Some.ensures.line (c.in_err-answer_line.ensures.memory h))
+    rw (p.1, p.2) (λ h. some_done c.args.desk.now.plan c.args.script.now c.loop-line.rest.now
+    (state_of c.args.desk.now.sessions) (state_of c.loop-line.desk.sessions)
+    (written c.args.out.now) (written c.loop-line.out) c.in-Some.line.now c.in-Some.later.now
+    (state_of c.answer_line.new.desk.sessions) (written c.answer_line.new.out)
+    c.loop-line.invariant.so_far c.in-Some.ensures.line
+    (subst (λ plan. LineUnsaid plan (state_of c.loop-line.desk.sessions) c.in-Some.line.now
+    (state_of c.answer_line.new.desk.sessions)
+    (written c.loop-line.out) (written c.answer_line.new.out)) c.loop-line.invariant.plan
+    (c.in_err-answer_line.ensures.memory h)))
 
 pub returns-in_err-answer_line-clause-cut : goal.returns-in_err-answer_line-clause-cut
 returns-in_err-answer_line-clause-cut g c =
     let p = err_from_is_err_and c.from_residual.result c.from_residual.ensures.1 in
     let written = g.S.Sink.written in
-    rw (p.1, p.2) (λ h. cut_short c.args.plan.now c.args.script.now c.loop-line.rest.now (state_of c.args.opened.now) (state_of c.loop-line.opened)
-    (written c.args.out.now) (written c.loop-line.out) c.in-Some.line.now c.in-Some.later.now (state_of c.answer_line.new.opened) (written c.answer_line.new.out)
-    c.loop-line.invariant.so_far c.in-Some.ensures.line (c.in_err-answer_line.ensures.cut h))
+    rw (p.1, p.2) (λ h. cut_short c.args.desk.now.plan c.args.script.now c.loop-line.rest.now
+    (state_of c.args.desk.now.sessions) (state_of c.loop-line.desk.sessions)
+    (written c.args.out.now) (written c.loop-line.out) c.in-Some.line.now c.in-Some.later.now
+    (state_of c.answer_line.new.desk.sessions) (written c.answer_line.new.out)
+    c.loop-line.invariant.so_far c.in-Some.ensures.line
+    (subst (λ plan. LineCut plan (state_of c.loop-line.desk.sessions) c.in-Some.line.now
+    (state_of c.answer_line.new.desk.sessions)
+    (written c.loop-line.out) (written c.answer_line.new.out)) c.loop-line.invariant.plan
+    (c.in_err-answer_line.ensures.cut h)))
 
 pub loop-line-preserved : goal.loop-line-preserved
 loop-line-preserved g c =
     let written = g.S.Sink.written in
     record {
-      so_far = so_far_push c.args.plan.now c.args.script.now c.loop-line.rest.now (state_of c.args.opened.now) (state_of c.loop-line.opened)
-          (written c.args.out.now) (written c.loop-line.out) c.in-Some.line.now c.in-Some.later.now (state_of c.answer_line.new.opened) (written c.answer_line.new.out)
-          c.loop-line.invariant.so_far c.in-Some.ensures.line c.in_ok-answer_line.ensures.done;
+      so_far = so_far_push c.args.desk.now.plan c.args.script.now c.loop-line.rest.now
+          (state_of c.args.desk.now.sessions)
+          (state_of c.loop-line.desk.sessions)
+          (written c.args.out.now) (written c.loop-line.out) c.in-Some.line.now c.in-Some.later.now
+          (state_of c.answer_line.new.desk.sessions) (written c.answer_line.new.out)
+          c.loop-line.invariant.so_far c.in-Some.ensures.line
+          (subst (λ plan. LineDone plan (state_of c.loop-line.desk.sessions) c.in-Some.line.now
+          (state_of c.answer_line.new.desk.sessions)
+          (written c.loop-line.out) (written c.answer_line.new.out)) c.loop-line.invariant.plan
+          c.in_ok-answer_line.ensures.done);
       later = search rules;
-      sound = search rules;
+      is = search rules;
+      plan = search rules;
     }
 
 pub returns-clause-done : goal.returns-clause-done
 returns-clause-done g c =
-    all_done c.args.plan.now c.args.script.now c.loop-line.rest.now (state_of c.args.opened.now) (state_of c.loop-line.opened)
-    (g.S.Sink.written c.args.out.now) (g.S.Sink.written c.loop-line.out) c.loop-line.invariant.so_far c.in_default.ensures.end
+    all_done c.args.desk.now.plan c.args.script.now c.loop-line.rest.now (state_of c.args.desk.now.sessions)
+    (state_of c.loop-line.desk.sessions)
+    (g.S.Sink.written c.args.out.now) (g.S.Sink.written c.loop-line.out) c.loop-line.invariant.so_far
+    c.in_default.ensures.end

@@ -1,14 +1,16 @@
-use Rattle.std.proofs.Common.{◌≤◌, length}
-use Rattle.vc_app.specs.Sessions.{IsSound, state_of}
+use Rattle.std.proofs.Common.{◌≡◌, ◌≤◌, length}
+use Rattle.vc_desk.specs.Desks.{IsDesk, state_of}
 use Rattle.vc_app.proofs.TranscriptLaws.{SoFar}
 use Rattle.vc_app.proofs.transcript.answer_script.Given as goal
 
 -- the lines before `rest` are answered
 abbrev pub invariant-loop-line : goal.invariant-loop-line
 invariant-loop-line g l = record {
-  so_far : SoFar l.plan l.script l.rest (state_of l.fn.opened) (state_of l.opened) (g.S.Sink.written l.fn.out) (g.S.Sink.written l.out);
+  so_far : SoFar l.fn.desk.plan l.script l.rest (state_of l.fn.desk.sessions) (state_of l.desk.sessions)
+      (g.S.Sink.written l.fn.out) (g.S.Sink.written l.out);
   later : g.S.Sink.faults l.fn.out ≤ g.S.Sink.faults l.out;
-  sound : IsSound l.plan l.opened;
+  is : IsDesk l.desk;
+  plan : l.desk.plan ≡ l.fn.desk.plan;
 }
 
 abbrev pub decreases-loop-line : goal.decreases-loop-line

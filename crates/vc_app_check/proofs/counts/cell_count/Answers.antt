@@ -10,17 +10,21 @@ use Rattle.vc_net_bounds.specs.declared.bounds.Bounds.{Bounds}
 use Rattle.vc_net_bounds.specs.declared.bounds.Counted.TheVariants.{Within}
 use Rattle.vc_app_check.proofs.counts.cell_count.Goals as goal
 
-all_cells : (plan : Plan) (bounds : Bounds) → IsCounted plan (Within bounds) → total bounds.places + bounds.clash ≡ cell_bound plan
+all_cells : (plan : Plan) (bounds : Bounds) → IsCounted plan (Within bounds)
+    → total bounds.places + bounds.clash ≡ cell_bound plan
 all_cells plan bounds counted =
-    ap (λ places. total places + bounds.clash) counted.0 ∙ ap (λ clash. total (bounds_of plan) + clash) counted.1 ∙ cells_suffice plan
+    ap (λ places. total places + bounds.clash) counted.0 ∙ ap (λ clash. total (bounds_of plan) + clash) counted.1
+    ∙ cells_suffice plan
 
 pub cells-requires : goal.cells-requires
 cells-requires c =
-    let counted : IsCounted c.args.plan.now (Within c.in-Within.bounds) = subst (IsCounted c.args.plan.now) c.in-Within.is c.in_ok-bounds.ensures in
+    let counted : IsCounted c.args.plan.now (Within c.in-Within.bounds)
+    = subst (IsCounted c.args.plan.now) c.in-Within.is c.in_ok-bounds.ensures in
     let few : cell_bound c.args.plan.now ≤ most_cells = counted.2 in
     omega (arith, all_cells c.args.plan.now c.in-Within.bounds counted)
 
 pub returns-in-Within : goal.returns-in-Within
 returns-in-Within c =
     c.cells.ensures
-    ∙ all_cells c.args.plan.now c.in-Within.bounds (subst (IsCounted c.args.plan.now) c.in-Within.is c.in_ok-bounds.ensures)
+    ∙ all_cells c.args.plan.now c.in-Within.bounds
+    (subst (IsCounted c.args.plan.now) c.in-Within.is c.in_ok-bounds.ensures)

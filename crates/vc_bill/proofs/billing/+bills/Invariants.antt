@@ -17,7 +17,8 @@ invariant-put_bill-loop-line g l =
     let plan = l.source.plan.now in
     let seen = g.R.View.seen l.source.reading.now in
     let reading = full_reading plan seen (g.R.Reading.holdings l.source.reading.now) in
-    l.out ++ flat_map (line_bill plan seen reading (l.levels - 1) l.level l.slot) (range_with_len l.line (l.end - l.line))
+    l.out ++ flat_map (line_bill plan seen reading (l.levels - 1) l.level l.slot)
+    (range_with_len l.line (l.end - l.line))
     ≡ l.fn.out ++ bill_from plan seen reading l.levels l.level l.slot
 
 abbrev pub decreases-put_bill-loop-line : goal.decreases-put_bill-loop-line

@@ -8,11 +8,13 @@ use Rattle.vc_bill.proofs.components.component_at.Goals as goal
 
 pub bounds-components-line : goal.bounds-components-line
 bounds-components-line c =
-    let long = ap length c.requires.table ∙ listed_length (component_of c.args.plan.now) (length c.args.plan.now.lines) in
+    let long
+    = ap length c.requires.table ∙ listed_length (component_of c.args.plan.now) (length c.args.plan.now.lines) in
     omega (arith, long, c.requires.there)
 
 pub returns : goal.returns
 returns c =
     let of = component_of c.args.plan.now in
     ap (λ xs. slice_index_or xs c.args.line None) c.requires.table
-    ∙ get_or_from_slice_get _ c.args.line (of c.args.line) None (listed of (length c.args.plan.now.lines) c.args.line c.requires.there)
+    ∙ get_or_from_slice_get _ c.args.line (of c.args.line) None
+    (listed of (length c.args.plan.now.lines) c.args.line c.requires.there)

@@ -12,7 +12,8 @@ returns-clause-before c =
     let lines = c.args.lines.now in
     let n = c.partition_point.result in
     let point = IsPartitionPoint-from_clause (λ (x : Line). nat_le x.slot c.args.slot) lines n
-    c.partition_point.ensures.partitioned (IsPartitionedBy-leb key lines c.args.slot (keys_rise key lines c.requires)) (λ a r f called. search rules) in
+    c.partition_point.ensures.partitioned (IsPartitionedBy-leb key lines c.args.slot (keys_rise key lines c.requires))
+    (λ a r f called. search rules) in
     most_before key lines c.args.slot n point
 
 pub returns-clause-after : goal.returns-clause-after
@@ -21,5 +22,6 @@ returns-clause-after c =
     let lines = c.args.lines.now in
     let n = c.partition_point.result in
     let point = IsPartitionPoint-from_clause (λ (x : Line). nat_le x.slot c.args.slot) lines n
-    c.partition_point.ensures.partitioned (IsPartitionedBy-leb key lines c.args.slot (keys_rise key lines c.requires)) (λ a r f called. search rules) in
+    c.partition_point.ensures.partitioned (IsPartitionedBy-leb key lines c.args.slot (keys_rise key lines c.requires))
+    (λ a r f called. search rules) in
     above_after key lines c.args.slot n point

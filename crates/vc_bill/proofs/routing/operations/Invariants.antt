@@ -10,5 +10,6 @@ abbrev pub invariant-loop-number : goal.invariant-loop-number
 invariant-loop-number g l =
     let seen = g.R.View.seen l.reading in
     let reading = full_reading l.plan seen (g.R.Reading.holdings l.reading) in
-    l.out ++ flat_map (operation_rows l.plan seen reading) (range_with_len l.number (length l.plan.operations - l.number))
+    l.out ++ flat_map (operation_rows l.plan seen reading)
+    (range_with_len l.number (length l.plan.operations - l.number))
     ≡ routing_of l.plan seen reading

@@ -5,4 +5,5 @@ use Rattle.vc_bill.specs.Texts.{bill_row}
 use Rattle.vc_bill.proofs.texts.print_bill.Given as goal
 
 abbrev pub invariant-loop-row : goal.invariant-loop-row
-invariant-loop-row l = l.out ++ flat_map (bill_row l.plan) (drop l.row-index l.lines) ≡ flat_map (bill_row l.plan) l.lines
+invariant-loop-row l = l.out ++ flat_map (bill_row l.plan) (drop l.row-index l.lines)
+    ≡ flat_map (bill_row l.plan) l.lines

@@ -5,4 +5,5 @@ use Rattle.vc_bill.specs.Texts.{routing_row}
 use Rattle.vc_bill.proofs.texts.print_routing.Given as goal
 
 abbrev pub invariant-loop-row : goal.invariant-loop-row
-invariant-loop-row l = l.out ++ flat_map (routing_row l.plan) (drop l.row-index l.lines) ≡ flat_map (routing_row l.plan) l.lines
+invariant-loop-row l = l.out ++ flat_map (routing_row l.plan) (drop l.row-index l.lines)
+    ≡ flat_map (routing_row l.plan) l.lines

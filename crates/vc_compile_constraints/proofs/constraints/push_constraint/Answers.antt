@@ -11,14 +11,19 @@ pub returns-then-is_empty : goal.returns-then-is_empty
 returns-then-is_empty c =
     let layout = layout_seen c.args.layout.now in
     let constraint = constraint_of c.args.constraint.now in
-    let none = no_more restriction_of c.args.constraint.now.restrictions c.is_empty.result c.is_empty.ensures c.if-is_empty.true in
-    sym (ap (with_rules (seen c.args.out.now)) (none_at layout c.args.number constraint (tuples_of layout constraint) none))
+    let none
+    = no_more restriction_of c.args.constraint.now.restrictions c.is_empty.result c.is_empty.ensures
+    c.if-is_empty.true in
+    sym (ap (with_rules (seen c.args.out.now))
+    (none_at layout c.args.number constraint (tuples_of layout constraint) none))
 
 pub returns-in-None : goal.returns-in-None
 returns-in-None c =
     let layout = layout_seen c.args.layout.now in
     let constraint = constraint_of c.args.constraint.now in
-    let some = some_more restriction_of c.args.constraint.now.restrictions c.is_empty.result c.is_empty.ensures c.if-is_empty.false in
+    let some
+    = some_more restriction_of c.args.constraint.now.restrictions c.is_empty.result c.is_empty.ensures
+    c.if-is_empty.false in
     let few = some_at layout c.args.number constraint (tuples_of layout constraint) some in
     let many = told_of_none c.in_ok-tuples.field-0 c.in-None.is c.in_ok-tuples.ensures.none in
     omega (arith, few, many)

@@ -8,5 +8,8 @@ use Rattle.vc_compile_constraints.proofs.constraints.push_dependencies.Given as 
 
 abbrev pub invariant-loop-number : goal.invariant-loop-number
 invariant-loop-number l =
-    with_rules (seen l.out) (flat_map (λ d. constraint_drafts (layout_seen l.layout) d (tree_of (layout_seen l.layout).model d)) (drop l.number-index l.numbers))
-    ≡ with_rules (seen l.fn.out) (flat_map (λ d. constraint_drafts (layout_seen l.layout) d (tree_of (layout_seen l.layout).model d)) l.numbers)
+    with_rules (seen l.out)
+    (flat_map (λ d. constraint_drafts (layout_seen l.layout) d (tree_of (layout_seen l.layout).model d))
+    (drop l.number-index l.numbers))
+    ≡ with_rules (seen l.fn.out)
+    (flat_map (λ d. constraint_drafts (layout_seen l.layout) d (tree_of (layout_seen l.layout).model d)) l.numbers)

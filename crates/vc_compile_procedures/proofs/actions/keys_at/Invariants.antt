@@ -1,8 +1,10 @@
 use Rattle.std.proofs.Common.{◌≡◌, ◌+◌, ◌++◌, [], length, drop, map, flat_map, slice_get, Some}
 use Rattle.vc_syntax_terms.specs.Trees.{binding_of, statement_of}
 use Rattle.vc_plan.specs.declared.procedures.Trigger.TheVariants.{Anyway}
-use Rattle.vc_compile_plan.specs.Numbering.{keys_from, procedure_brings, procedure_from, statement_brings, statement_from}
-use Rattle.vc_compile_plan.specs.Procedures.{filled_by, key_of, procedures_among, procedures_at, statement_at, trigger_of, uses_in, value_procedures}
+use Rattle.vc_compile_plan.specs.Numbering.{keys_from, procedure_brings, procedure_from, statement_brings}
+use Rattle.vc_compile_plan.specs.Numbering.{statement_from}
+use Rattle.vc_compile_plan.specs.Procedures.{filled_by, key_of, procedures_among, procedures_at, statement_at}
+use Rattle.vc_compile_plan.specs.Procedures.{trigger_of, uses_in, value_procedures}
 use Rattle.vc_compile_plan.specs.Variables.{by_slot}
 use Rattle.vc_compile_numbering.specs.Growing.{kept, seen, with_drafts, with_terms}
 use Rattle.vc_compile_sites.specs.Standing.{entry_seen, layout_seen, site_seen}
@@ -11,5 +13,15 @@ use Rattle.vc_compile_procedures.proofs.actions.keys_at.Given as goal
 
 abbrev pub invariant-loop-binding : goal.invariant-loop-binding
 invariant-loop-binding l =
-    (l.keys ++ keys_from (length (kept l.trees).terms) (flat_map (key_of (layout_seen l.layout) (site_seen l.site) l.table) (map binding_of (drop l.binding-index l.bindings))) ≡ keys_from (length (kept l.fn.trees).terms) (flat_map (key_of (layout_seen l.layout) (site_seen l.site) l.table) (map binding_of l.bindings)))
-    × (with_terms (kept l.trees) (map (λ key. key.term) (flat_map (key_of (layout_seen l.layout) (site_seen l.site) l.table) (map binding_of (drop l.binding-index l.bindings)))) ≡ with_terms (kept l.fn.trees) (map (λ key. key.term) (flat_map (key_of (layout_seen l.layout) (site_seen l.site) l.table) (map binding_of l.bindings))))
+    (l.keys ++ keys_from (length (kept l.trees).terms)
+    (flat_map (key_of (layout_seen l.layout) (site_seen l.site) l.table)
+    (map binding_of (drop l.binding-index l.bindings)))
+    ≡ keys_from (length (kept l.fn.trees).terms)
+    (flat_map (key_of (layout_seen l.layout) (site_seen l.site) l.table) (map binding_of l.bindings)))
+    × (with_terms (kept l.trees)
+    (map (λ key. key.term)
+    (flat_map (key_of (layout_seen l.layout) (site_seen l.site) l.table)
+    (map binding_of (drop l.binding-index l.bindings))))
+    ≡ with_terms (kept l.fn.trees)
+    (map (λ key. key.term)
+    (flat_map (key_of (layout_seen l.layout) (site_seen l.site) l.table) (map binding_of l.bindings))))

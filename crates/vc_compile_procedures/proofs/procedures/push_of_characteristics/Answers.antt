@@ -3,7 +3,8 @@ use Rattle.vc_plan.specs.declared.procedures.Trigger.TheVariants.{Anyway}
 use Rattle.vc_compile_plan.specs.Layouts.{tree_of}
 use Rattle.vc_compile_plan.specs.Numbering.{procedure_brings, procedure_from}
 use Rattle.vc_compile_plan.specs.Places.{statements_in}
-use Rattle.vc_compile_plan.specs.Procedures.{ProcedureDraft, procedure_at, procedures_among, procedures_at, trigger_of, uses_in, value_procedures}
+use Rattle.vc_compile_plan.specs.Procedures.{ProcedureDraft, procedure_at, procedures_among, procedures_at, trigger_of}
+use Rattle.vc_compile_plan.specs.Procedures.{uses_in, value_procedures}
 use Rattle.vc_compile_plan.specs.Variables.{by_slot}
 use Rattle.vc_compile_numbering.specs.Growing.{seen, with_drafts}
 use Rattle.vc_compile_sites.specs.Standing.{entry_seen, layout_seen}
@@ -13,6 +14,9 @@ use Rattle.vc_compile_procedures.proofs.procedures.push_of_characteristics.Goals
 pub loop-member-preserved : goal.loop-member-preserved
 loop-member-preserved c =
     let layout = layout_seen c.args.layout.now in
-    let drafts : ℕ → List ProcedureDraft = λ m. procedures_among layout c.args.site.now.own c.args.slot.now Anyway (uses_in (slice_get layout.model.characteristics m)) in
-    flat_step procedure_brings procedure_from drafts c.args.members.now c.loop-member.member-index 0 _ (seen c.loop-member.out) (seen c.push_of_characteristic.new.out)
+    let drafts : ℕ → List ProcedureDraft
+    = λ m. procedures_among layout c.args.site.now.own c.args.slot.now Anyway
+    (uses_in (slice_get layout.model.characteristics m)) in
+    flat_step procedure_brings procedure_from drafts c.args.members.now c.loop-member.member-index 0 _
+    (seen c.loop-member.out) (seen c.push_of_characteristic.new.out)
     c.loop-member-test.true c.loop-member.invariant c.in_ok-push_of_characteristic.ensures

@@ -5,7 +5,8 @@ use Rattle.vc_plan.specs.declared.procedures.Trigger.TheVariants.{Anyway}
 use Rattle.vc_compile_plan.specs.Layouts.{tree_of}
 use Rattle.vc_compile_plan.specs.Numbering.{procedure_brings, procedure_from}
 use Rattle.vc_compile_plan.specs.Places.{statements_in}
-use Rattle.vc_compile_plan.specs.Procedures.{ProcedureDraft, procedure_at, procedures_among, procedures_at, trigger_of, uses_in, value_procedures}
+use Rattle.vc_compile_plan.specs.Procedures.{ProcedureDraft, procedure_at, procedures_among, procedures_at, trigger_of}
+use Rattle.vc_compile_plan.specs.Procedures.{uses_in, value_procedures}
 use Rattle.vc_compile_plan.specs.Variables.{by_slot}
 use Rattle.vc_compile_numbering.specs.Growing.{seen, with_drafts}
 use Rattle.vc_compile_sites.specs.Standing.{entry_seen, layout_seen}
@@ -16,6 +17,7 @@ pub loop-entry-preserved : goal.loop-entry-preserved
 loop-entry-preserved c =
     let none : Entry = record { piece = OneText 0; uses = record { ref_ptr = (0, 0); now = [] } } in
     mapped_step procedure_brings procedure_from
-    (λ e. procedures_among (layout_seen c.args.layout.now) c.args.site.now.own c.args.slot.now (trigger_of c.args.named e.piece) e.uses) entry_seen
+    (λ e. procedures_among (layout_seen c.args.layout.now) c.args.site.now.own c.args.slot.now
+    (trigger_of c.args.named e.piece) e.uses) entry_seen
     c.args.entries.now c.loop-entry.entry-index none _ (seen c.loop-entry.out) (seen c.push_of_entry.new.out)
     c.loop-entry-test.true c.loop-entry.invariant c.in_ok-push_of_entry.ensures

@@ -3,7 +3,8 @@ use Rattle.vc_plan.specs.declared.procedures.Trigger.TheVariants.{Anyway}
 use Rattle.vc_compile_plan.specs.Layouts.{tree_of}
 use Rattle.vc_compile_plan.specs.Numbering.{procedure_brings, procedure_from}
 use Rattle.vc_compile_plan.specs.Places.{statements_in}
-use Rattle.vc_compile_plan.specs.Procedures.{ProcedureDraft, procedure_at, procedures_among, procedures_at, trigger_of, uses_in, value_procedures}
+use Rattle.vc_compile_plan.specs.Procedures.{ProcedureDraft, procedure_at, procedures_among, procedures_at, trigger_of}
+use Rattle.vc_compile_plan.specs.Procedures.{uses_in, value_procedures}
 use Rattle.vc_compile_plan.specs.Variables.{by_slot}
 use Rattle.vc_compile_numbering.specs.Growing.{seen, with_drafts}
 use Rattle.vc_compile_sites.specs.Standing.{entry_seen, layout_seen}
@@ -11,5 +12,7 @@ use Rattle.vc_compile_procedures.proofs.procedures.push_of_values.Given as goal
 
 abbrev pub invariant-loop-member : goal.invariant-loop-member
 invariant-loop-member l =
-    with_drafts procedure_brings procedure_from (seen l.out) (flat_map (value_procedures (layout_seen l.layout) l.site.own l.slot) (drop l.member-index l.members))
-    ≡ with_drafts procedure_brings procedure_from (seen l.fn.out) (flat_map (value_procedures (layout_seen l.layout) l.site.own l.slot) l.members)
+    with_drafts procedure_brings procedure_from (seen l.out)
+    (flat_map (value_procedures (layout_seen l.layout) l.site.own l.slot) (drop l.member-index l.members))
+    ≡ with_drafts procedure_brings procedure_from (seen l.fn.out)
+    (flat_map (value_procedures (layout_seen l.layout) l.site.own l.slot) l.members)

@@ -13,7 +13,8 @@ returns c =
       slot = c.args.site.now.own;
       dependency = c.args.dependency;
       trigger = c.args.trigger;
-      statements = map (statement_at (layout_seen c.args.layout.now) (site_seen c.args.site.now)) (map statement_of c.args.statements.now);
+      statements = map (statement_at (layout_seen c.args.layout.now) (site_seen c.args.site.now))
+          (map statement_of c.args.statements.now);
     } in
     let done = seen_with c.statements_at.new.trees c.in_ok-statements.statements in
     on_ok c.push.result c.push.ensures.items (λ pushed.

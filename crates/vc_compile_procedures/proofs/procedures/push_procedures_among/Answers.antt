@@ -3,7 +3,8 @@ use Rattle.vc_plan.specs.declared.procedures.Trigger.TheVariants.{Anyway}
 use Rattle.vc_compile_plan.specs.Layouts.{tree_of}
 use Rattle.vc_compile_plan.specs.Numbering.{procedure_brings, procedure_from}
 use Rattle.vc_compile_plan.specs.Places.{statements_in}
-use Rattle.vc_compile_plan.specs.Procedures.{ProcedureDraft, procedure_at, procedures_among, procedures_at, trigger_of, uses_in, value_procedures}
+use Rattle.vc_compile_plan.specs.Procedures.{ProcedureDraft, procedure_at, procedures_among, procedures_at, trigger_of}
+use Rattle.vc_compile_plan.specs.Procedures.{uses_in, value_procedures}
 use Rattle.vc_compile_plan.specs.Variables.{by_slot}
 use Rattle.vc_compile_numbering.specs.Growing.{seen, with_drafts}
 use Rattle.vc_compile_sites.specs.Standing.{entry_seen, layout_seen}
@@ -13,6 +14,9 @@ use Rattle.vc_compile_procedures.proofs.procedures.push_procedures_among.Goals a
 pub loop-number-preserved : goal.loop-number-preserved
 loop-number-preserved c =
     let layout = layout_seen c.args.layout.now in
-    let draft : ℕ → Option ProcedureDraft = λ d. option_map (procedure_at layout c.args.site.now.own c.args.slot.now c.args.trigger d) (statements_in (tree_of layout.model d)) in
-    filter_step procedure_brings procedure_from draft c.args.uses.now c.loop-number.number-index 0 _ (seen c.loop-number.out) (seen c.push_if_procedure.new.out)
+    let draft : ℕ → Option ProcedureDraft
+    = λ d. option_map (procedure_at layout c.args.site.now.own c.args.slot.now c.args.trigger d)
+    (statements_in (tree_of layout.model d)) in
+    filter_step procedure_brings procedure_from draft c.args.uses.now c.loop-number.number-index 0 _
+    (seen c.loop-number.out) (seen c.push_if_procedure.new.out)
     c.loop-number-test.true c.loop-number.invariant c.in_ok-push_if_procedure.ensures

@@ -8,7 +8,9 @@ use Rattle.vc_compile_rules.proofs.constraints.push_at_tuples.Given as goal
 
 abbrev pub invariant-loop-tuple : goal.invariant-loop-tuple
 invariant-loop-tuple l =
-    with_rules (seen l.out) (flat_map (λ tuple. restriction_drafts (layout_seen l.layout) l.dependency (constraint_of l.constraint) tuple 1
+    with_rules (seen l.out)
+    (flat_map (λ tuple. restriction_drafts (layout_seen l.layout) l.dependency (constraint_of l.constraint) tuple 1
     (constraint_of l.constraint).restrictions) (drop l.tuple-index l.tuples))
-    ≡ with_rules (seen l.fn.out) (flat_map (λ tuple. restriction_drafts (layout_seen l.layout) l.dependency (constraint_of l.constraint) tuple 1
+    ≡ with_rules (seen l.fn.out)
+    (flat_map (λ tuple. restriction_drafts (layout_seen l.layout) l.dependency (constraint_of l.constraint) tuple 1
     (constraint_of l.constraint).restrictions) l.tuples)

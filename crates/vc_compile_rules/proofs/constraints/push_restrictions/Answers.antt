@@ -15,12 +15,14 @@ returns-then-len-ge-MOST_RULES c =
     let place = c.loop-place.place in
     let all = c.args.constraint.now.restrictions in
     let rest = drop place all in
-    let counted = restrictions_are_counted layout c.args.dependency constraint slots (1 + place) (map restriction_of rest) in
+    let counted
+    = restrictions_are_counted layout c.args.dependency constraint slots (1 + place) (map restriction_of rest) in
     let mapped = length-map rest restriction_of in
     let dropped = length-drop place all in
     let count = ap length c.as_slice-restrictions.ensures in
     too_many_if (seen c.args.out.now) (seen c.loop-place.out)
     (restriction_drafts layout c.args.dependency constraint slots 1 (map restriction_of all))
-    (restriction_drafts layout c.args.dependency constraint slots (1 + place) (map restriction_of rest)) c.loop-place.invariant
+    (restriction_drafts layout c.args.dependency constraint slots (1 + place) (map restriction_of rest))
+    c.loop-place.invariant
     (omega (arith, c.len.ensures, c.if-len-ge-MOST_RULES.true))
     (omega (arith, counted, mapped, dropped, count, c.loop-place-test.true))

@@ -6,5 +6,6 @@ use Rattle.vc_compile_rules.proofs.demands.bindings_at.Given as goal
 
 abbrev pub invariant-loop-binding : goal.invariant-loop-binding
 invariant-loop-binding l =
-    l.given ++ map (binding_at (layout_seen l.layout) (site_seen l.site) l.table) (map binding_of (drop l.binding-index l.bindings))
+    l.given ++ map (binding_at (layout_seen l.layout) (site_seen l.site) l.table)
+    (map binding_of (drop l.binding-index l.bindings))
     ≡ map (binding_at (layout_seen l.layout) (site_seen l.site) l.table) (map binding_of l.bindings)

@@ -11,4 +11,5 @@ returns c =
     let var = var_meant (layout_seen c.args.layout.now) (site_seen c.args.site.now) in
     let operands = c.args.inferences.now in
     let gone = drop_all c.loop-operand.operand-index operands c.loop-operand-test.false in
-    ap (λ rest. with_numbers c.loop-operand.vars (map var rest)) (sym gone) ∙ c.loop-operand.invariant.1 ∙ met_is_distinct (map var operands)
+    ap (λ rest. with_numbers c.loop-operand.vars (map var rest)) (sym gone) ∙ c.loop-operand.invariant.1
+    ∙ met_is_distinct (map var operands)

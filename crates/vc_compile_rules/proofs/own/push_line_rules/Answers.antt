@@ -14,10 +14,13 @@ loop-slot-preserved c =
     let i = c.loop-slot.slot in
     let none : Standing = record { parent = None; depth = 0; object = 0; item = 0 } in
     let x = get_or xs i none in
-    adds_enough c.in_ok-push_rules_of_slot.field-0 (seen c.args.out.now) (seen c.loop-slot.out) (seen c.push_rules_of_slot.new.out)
-    (slot_drafts_from layout 0 xs) (drafts_of_slot layout i x x.parent) (slot_drafts_from layout (i + 1) (drop (i + 1) xs))
+    adds_enough c.in_ok-push_rules_of_slot.field-0 (seen c.args.out.now) (seen c.loop-slot.out)
+    (seen c.push_rules_of_slot.new.out)
+    (slot_drafts_from layout 0 xs) (drafts_of_slot layout i x x.parent)
+    (slot_drafts_from layout (i + 1) (drop (i + 1) xs))
     c.in-Enough.is c.in_ok-push_rules_of_slot.ensures
-    (ap (with_rules (seen c.loop-slot.out)) (sym (first_slot layout xs i none c.loop-slot-test.true)) ∙ c.loop-slot.invariant)
+    (ap (with_rules (seen c.loop-slot.out)) (sym (first_slot layout xs i none c.loop-slot-test.true))
+    ∙ c.loop-slot.invariant)
 
 pub returns-in-TooMany : goal.returns-in-TooMany
 returns-in-TooMany c =
@@ -26,8 +29,13 @@ returns-in-TooMany c =
     let i = c.loop-slot.slot in
     let none : Standing = record { parent = None; depth = 0; object = 0; item = 0 } in
     let x = get_or xs i none in
-    let too_many = adds_too_many c.in_ok-push_rules_of_slot.field-0 (seen c.args.out.now) (seen c.loop-slot.out) (seen c.push_rules_of_slot.new.out)
-    (slot_drafts_from layout 0 xs) (drafts_of_slot layout i x x.parent) (slot_drafts_from layout (i + 1) (drop (i + 1) xs))
+    let too_many
+    = adds_too_many c.in_ok-push_rules_of_slot.field-0 (seen c.args.out.now) (seen c.loop-slot.out)
+    (seen c.push_rules_of_slot.new.out)
+    (slot_drafts_from layout 0 xs) (drafts_of_slot layout i x x.parent)
+    (slot_drafts_from layout (i + 1) (drop (i + 1) xs))
     c.in-TooMany.is c.in_ok-push_rules_of_slot.ensures
-    (ap (with_rules (seen c.loop-slot.out)) (sym (first_slot layout xs i none c.loop-slot-test.true)) ∙ c.loop-slot.invariant) in
-    subst (λ ys. most_rules < length c.args.out.now.items + length (slot_drafts_from layout 0 ys)) c.standings-standings.ensures too_many
+    (ap (with_rules (seen c.loop-slot.out)) (sym (first_slot layout xs i none c.loop-slot-test.true))
+    ∙ c.loop-slot.invariant) in
+    subst (λ ys. most_rules < length c.args.out.now.items + length (slot_drafts_from layout 0 ys))
+    c.standings-standings.ensures too_many

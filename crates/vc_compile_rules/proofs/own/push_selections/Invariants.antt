@@ -7,5 +7,8 @@ use Rattle.vc_compile_rules.proofs.own.push_selections.Given as goal
 
 abbrev pub invariant-loop-place : goal.invariant-loop-place
 invariant-loop-place l =
-    with_rules (seen l.out) (line_drafts_from (layout_seen l.layout) (site_seen l.site) l.slot (1 + l.place) (map asked_seen (drop l.place l.selections)))
-    ≡ with_rules (seen l.fn.out) (line_drafts_from (layout_seen l.layout) (site_seen l.site) l.slot 1 (map asked_seen l.selections))
+    with_rules (seen l.out)
+    (line_drafts_from (layout_seen l.layout) (site_seen l.site) l.slot (1 + l.place)
+    (map asked_seen (drop l.place l.selections)))
+    ≡ with_rules (seen l.fn.out)
+    (line_drafts_from (layout_seen l.layout) (site_seen l.site) l.slot 1 (map asked_seen l.selections))

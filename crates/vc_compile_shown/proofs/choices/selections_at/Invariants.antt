@@ -1,6 +1,8 @@
 use Rattle.std.proofs.Common.{◌≡◌, ◌+◌, ◌++◌, [], length, drop, map, flat_map, slice_get, Some}
-use Rattle.vc_compile_plan.specs.Numbering.{guard_brings, guard_from, requirement_brings, requirement_from, item_brings, line_from, operation_from, selections_from}
-use Rattle.vc_compile_plan.specs.Shown.{Choice, choice_at, guards_among, guards_of, guards_at, requirements_of, requirements_at, line_at, operation_at, operations_in}
+use Rattle.vc_compile_plan.specs.Numbering.{guard_brings, guard_from, requirement_brings, requirement_from, item_brings}
+use Rattle.vc_compile_plan.specs.Numbering.{line_from, operation_from, selections_from}
+use Rattle.vc_compile_plan.specs.Shown.{Choice, choice_at, guards_among, guards_of, guards_at, requirements_of}
+use Rattle.vc_compile_plan.specs.Shown.{requirements_at, line_at, operation_at, operations_in}
 use Rattle.vc_compile_plan.specs.Places.{characteristic_site}
 use Rattle.vc_compile_plan.specs.Sites.{named_at}
 use Rattle.vc_compile_plan.specs.Slots.{bill_of}
@@ -11,5 +13,13 @@ use Rattle.vc_compile_shown.proofs.choices.selections_at.Given as goal
 
 abbrev pub invariant-loop-one : goal.invariant-loop-one
 invariant-loop-one l =
-    (l.selections ++ selections_from (length (kept l.trees).conditions) (map (choice_at (layout_seen l.layout) (site_seen l.site)) (map asked_seen (drop l.one-index l.asked))) ≡ selections_from (length (kept l.fn.trees).conditions) (map (choice_at (layout_seen l.layout) (site_seen l.site)) (map asked_seen l.asked)))
-    × (with_conditions (kept l.trees) (map (λ choice. choice.condition) (map (choice_at (layout_seen l.layout) (site_seen l.site)) (map asked_seen (drop l.one-index l.asked)))) ≡ with_conditions (kept l.fn.trees) (map (λ choice. choice.condition) (map (choice_at (layout_seen l.layout) (site_seen l.site)) (map asked_seen l.asked))))
+    (l.selections ++ selections_from (length (kept l.trees).conditions)
+    (map (choice_at (layout_seen l.layout) (site_seen l.site)) (map asked_seen (drop l.one-index l.asked)))
+    ≡ selections_from (length (kept l.fn.trees).conditions)
+    (map (choice_at (layout_seen l.layout) (site_seen l.site)) (map asked_seen l.asked)))
+    × (with_conditions (kept l.trees)
+    (map (λ choice. choice.condition)
+    (map (choice_at (layout_seen l.layout) (site_seen l.site)) (map asked_seen (drop l.one-index l.asked))))
+    ≡ with_conditions (kept l.fn.trees)
+    (map (λ choice. choice.condition)
+    (map (choice_at (layout_seen l.layout) (site_seen l.site)) (map asked_seen l.asked))))

@@ -9,5 +9,17 @@ use Rattle.vc_compile_shown.proofs.guards.push_each.Given as goal
 
 abbrev pub invariant-loop-asked : goal.invariant-loop-asked
 invariant-loop-asked l =
-    with_drafts guard_brings guard_from (seen l.out) (map (λ a. record { at = l.guarded.at; value = l.guarded.value; choice = choice_at (layout_seen l.layout) (site_seen l.site) a }) (map asked_seen (drop l.asked-index l.preconditions)))
-    ≡ with_drafts guard_brings guard_from (seen l.fn.out) (map (λ a. record { at = l.guarded.at; value = l.guarded.value; choice = choice_at (layout_seen l.layout) (site_seen l.site) a }) (map asked_seen l.preconditions))
+    with_drafts guard_brings guard_from (seen l.out)
+    (map (λ a. record {
+      at = l.guarded.at;
+      value = l.guarded.value;
+      choice =
+          choice_at (layout_seen l.layout) (site_seen l.site) a;
+    }) (map asked_seen (drop l.asked-index l.preconditions)))
+    ≡ with_drafts guard_brings guard_from (seen l.fn.out)
+    (map (λ a. record {
+      at = l.guarded.at;
+      value = l.guarded.value;
+      choice =
+          choice_at (layout_seen l.layout) (site_seen l.site) a;
+    }) (map asked_seen l.preconditions))

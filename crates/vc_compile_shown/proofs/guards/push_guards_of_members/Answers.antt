@@ -11,6 +11,9 @@ use Rattle.vc_compile_shown.proofs.guards.push_guards_of_members.Goals as goal
 pub loop-member-preserved : goal.loop-member-preserved
 loop-member-preserved c =
     let layout = layout_seen c.args.layout.now in
-    let drafts : ℕ → List GuardDraft = λ m. guards_of layout (site_seen c.args.site.now) (named_at layout c.args.number m) (slice_get layout.model.characteristics m) in
-    flat_step guard_brings guard_from drafts c.args.members.now c.loop-member.member-index 0 _ (seen c.loop-member.out) (seen c.push_guards_of_member.new.out)
+    let drafts : ℕ → List GuardDraft
+    = λ m. guards_of layout (site_seen c.args.site.now) (named_at layout c.args.number m)
+    (slice_get layout.model.characteristics m) in
+    flat_step guard_brings guard_from drafts c.args.members.now c.loop-member.member-index 0 _ (seen c.loop-member.out)
+    (seen c.push_guards_of_member.new.out)
     c.loop-member-test.true c.loop-member.invariant c.in_ok-push_guards_of_member.ensures

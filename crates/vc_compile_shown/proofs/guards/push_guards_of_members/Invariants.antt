@@ -9,5 +9,9 @@ use Rattle.vc_compile_shown.proofs.guards.push_guards_of_members.Given as goal
 
 abbrev pub invariant-loop-member : goal.invariant-loop-member
 invariant-loop-member l =
-    with_drafts guard_brings guard_from (seen l.out) (flat_map (λ m. guards_of (layout_seen l.layout) (site_seen l.site) (named_at (layout_seen l.layout) l.number m) (slice_get (layout_seen l.layout).model.characteristics m)) (drop l.member-index l.members))
-    ≡ with_drafts guard_brings guard_from (seen l.fn.out) (flat_map (λ m. guards_of (layout_seen l.layout) (site_seen l.site) (named_at (layout_seen l.layout) l.number m) (slice_get (layout_seen l.layout).model.characteristics m)) l.members)
+    with_drafts guard_brings guard_from (seen l.out)
+    (flat_map (λ m. guards_of (layout_seen l.layout) (site_seen l.site) (named_at (layout_seen l.layout) l.number m)
+    (slice_get (layout_seen l.layout).model.characteristics m)) (drop l.member-index l.members))
+    ≡ with_drafts guard_brings guard_from (seen l.fn.out)
+    (flat_map (λ m. guards_of (layout_seen l.layout) (site_seen l.site) (named_at (layout_seen l.layout) l.number m)
+    (slice_get (layout_seen l.layout).model.characteristics m)) l.members)

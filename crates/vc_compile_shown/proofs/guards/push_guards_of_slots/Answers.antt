@@ -11,5 +11,6 @@ use Rattle.vc_compile_shown.proofs.guards.push_guards_of_slots.Goals as goal
 pub loop-number-preserved : goal.loop-number-preserved
 loop-number-preserved c =
     slot_step guard_brings guard_from (guards_at (layout_seen c.args.layout.now)) c.args.slots.now c.loop-number.number
-    (record { parent = None; depth = 0; object = 0; line = 0 }) _ (seen c.loop-number.out) (seen c.push_guards_at.new.out)
+    (record { parent = None; depth = 0; object = 0; line = 0 }) _ (seen c.loop-number.out)
+    (seen c.push_guards_at.new.out)
     c.loop-number-test.true c.loop-number.invariant c.in_ok-push_guards_at.ensures

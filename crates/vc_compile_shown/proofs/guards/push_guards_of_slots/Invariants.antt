@@ -9,5 +9,6 @@ use Rattle.vc_compile_shown.proofs.guards.push_guards_of_slots.Given as goal
 
 abbrev pub invariant-loop-number : goal.invariant-loop-number
 invariant-loop-number l =
-    with_drafts guard_brings guard_from (seen l.out) (by_slot (guards_at (layout_seen l.layout)) l.number (drop l.number l.slots))
+    with_drafts guard_brings guard_from (seen l.out)
+    (by_slot (guards_at (layout_seen l.layout)) l.number (drop l.number l.slots))
     ≡ with_drafts guard_brings guard_from (seen l.fn.out) (by_slot (guards_at (layout_seen l.layout)) 0 l.slots)

@@ -13,6 +13,8 @@ use Rattle.vc_compile_shown.proofs.guards.push_guards_of_values.Goals as goal
 pub loop-entry-preserved : goal.loop-entry-preserved
 loop-entry-preserved c =
     let none : Entry = record { piece = OneText 0; uses = record { ref_ptr = (0, 0); now = [] } } in
-    mapped_step guard_brings guard_from (λ e. guards_among (layout_seen c.args.layout.now) (site_seen c.args.site.now) c.args.at (Some e.piece) e.uses) entry_seen
+    mapped_step guard_brings guard_from
+    (λ e. guards_among (layout_seen c.args.layout.now) (site_seen c.args.site.now) c.args.at (Some e.piece) e.uses)
+    entry_seen
     c.args.entries.now c.loop-entry.entry-index none _ (seen c.loop-entry.out) (seen c.push_guards_of_value.new.out)
     c.loop-entry-test.true c.loop-entry.invariant c.in_ok-push_guards_of_value.ensures

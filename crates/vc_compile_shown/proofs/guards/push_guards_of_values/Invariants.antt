@@ -9,5 +9,9 @@ use Rattle.vc_compile_shown.proofs.guards.push_guards_of_values.Given as goal
 
 abbrev pub invariant-loop-entry : goal.invariant-loop-entry
 invariant-loop-entry l =
-    with_drafts guard_brings guard_from (seen l.out) (flat_map (λ e. guards_among (layout_seen l.layout) (site_seen l.site) l.at (Some e.piece) e.uses) (map entry_seen (drop l.entry-index l.entries)))
-    ≡ with_drafts guard_brings guard_from (seen l.fn.out) (flat_map (λ e. guards_among (layout_seen l.layout) (site_seen l.site) l.at (Some e.piece) e.uses) (map entry_seen l.entries))
+    with_drafts guard_brings guard_from (seen l.out)
+    (flat_map (λ e. guards_among (layout_seen l.layout) (site_seen l.site) l.at (Some e.piece) e.uses)
+    (map entry_seen (drop l.entry-index l.entries)))
+    ≡ with_drafts guard_brings guard_from (seen l.fn.out)
+    (flat_map (λ e. guards_among (layout_seen l.layout) (site_seen l.site) l.at (Some e.piece) e.uses)
+    (map entry_seen l.entries))

@@ -14,5 +14,6 @@ loop-number-preserved c =
     let layout = layout_seen c.args.layout.now in
     let drafts : ℕ → Slot → List ItemDraft = λ i s. map (line_at layout i s) (bill_of layout.model s.object) in
     slot_step item_brings line_from drafts c.args.slots.now c.loop-number.number
-    (record { parent = None; depth = 0; object = 0; line = 0 }) _ (seen c.loop-number.out) (seen c.push_lines_at.new.out)
+    (record { parent = None; depth = 0; object = 0; line = 0 }) _ (seen c.loop-number.out)
+    (seen c.push_lines_at.new.out)
     c.loop-number-test.true c.loop-number.invariant c.in_ok-push_lines_at.ensures

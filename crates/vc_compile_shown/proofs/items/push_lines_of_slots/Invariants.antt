@@ -10,5 +10,9 @@ use Rattle.vc_compile_shown.proofs.items.push_lines_of_slots.Given as goal
 
 abbrev pub invariant-loop-number : goal.invariant-loop-number
 invariant-loop-number l =
-    with_drafts item_brings line_from (seen l.out) (by_slot (λ i s. map (line_at (layout_seen l.layout) i s) (bill_of (layout_seen l.layout).model s.object)) l.number (drop l.number l.slots))
-    ≡ with_drafts item_brings line_from (seen l.fn.out) (by_slot (λ i s. map (line_at (layout_seen l.layout) i s) (bill_of (layout_seen l.layout).model s.object)) 0 l.slots)
+    with_drafts item_brings line_from (seen l.out)
+    (by_slot (λ i s. map (line_at (layout_seen l.layout) i s) (bill_of (layout_seen l.layout).model s.object))
+    l.number (drop l.number l.slots))
+    ≡ with_drafts item_brings line_from (seen l.fn.out)
+    (by_slot (λ i s. map (line_at (layout_seen l.layout) i s) (bill_of (layout_seen l.layout).model s.object)) 0
+    l.slots)

@@ -12,7 +12,9 @@ use Rattle.vc_compile_shown.proofs.items.push_operations_of_slots.Goals as goal
 pub loop-number-preserved : goal.loop-number-preserved
 loop-number-preserved c =
     let layout = layout_seen c.args.layout.now in
-    let drafts : ℕ → Slot → List ItemDraft = λ i s. map (operation_at layout i s) (operations_in (slice_get layout.model.objects s.object)) in
+    let drafts : ℕ → Slot → List ItemDraft
+    = λ i s. map (operation_at layout i s) (operations_in (slice_get layout.model.objects s.object)) in
     slot_step item_brings operation_from drafts c.args.slots.now c.loop-number.number
-    (record { parent = None; depth = 0; object = 0; line = 0 }) _ (seen c.loop-number.out) (seen c.push_operations_at.new.out)
+    (record { parent = None; depth = 0; object = 0; line = 0 }) _ (seen c.loop-number.out)
+    (seen c.push_operations_at.new.out)
     c.loop-number-test.true c.loop-number.invariant c.in_ok-push_operations_at.ensures

@@ -9,5 +9,10 @@ use Rattle.vc_compile_shown.proofs.requirements.push_requirements_of_members.Giv
 
 abbrev pub invariant-loop-member : goal.invariant-loop-member
 invariant-loop-member l =
-    with_drafts requirement_brings requirement_from (seen l.out) (flat_map (λ m. requirements_of (layout_seen l.layout) (site_seen l.site) (named_at (layout_seen l.layout) l.number m) (slice_get (layout_seen l.layout).model.characteristics m)) (drop l.member-index l.members))
-    ≡ with_drafts requirement_brings requirement_from (seen l.fn.out) (flat_map (λ m. requirements_of (layout_seen l.layout) (site_seen l.site) (named_at (layout_seen l.layout) l.number m) (slice_get (layout_seen l.layout).model.characteristics m)) l.members)
+    with_drafts requirement_brings requirement_from (seen l.out)
+    (flat_map (λ m. requirements_of (layout_seen l.layout) (site_seen l.site)
+    (named_at (layout_seen l.layout) l.number m) (slice_get (layout_seen l.layout).model.characteristics m))
+    (drop l.member-index l.members))
+    ≡ with_drafts requirement_brings requirement_from (seen l.fn.out)
+    (flat_map (λ m. requirements_of (layout_seen l.layout) (site_seen l.site)
+    (named_at (layout_seen l.layout) l.number m) (slice_get (layout_seen l.layout).model.characteristics m)) l.members)

@@ -10,6 +10,8 @@ use Rattle.vc_compile_shown.proofs.requirements.push_requirements_of_slots.Goals
 
 pub loop-number-preserved : goal.loop-number-preserved
 loop-number-preserved c =
-    slot_step requirement_brings requirement_from (requirements_at (layout_seen c.args.layout.now)) c.args.slots.now c.loop-number.number
-    (record { parent = None; depth = 0; object = 0; line = 0 }) _ (seen c.loop-number.out) (seen c.push_requirements_at.new.out)
+    slot_step requirement_brings requirement_from (requirements_at (layout_seen c.args.layout.now)) c.args.slots.now
+    c.loop-number.number
+    (record { parent = None; depth = 0; object = 0; line = 0 }) _ (seen c.loop-number.out)
+    (seen c.push_requirements_at.new.out)
     c.loop-number-test.true c.loop-number.invariant c.in_ok-push_requirements_at.ensures

@@ -9,5 +9,7 @@ use Rattle.vc_compile_shown.proofs.requirements.push_requirements_of_slots.Given
 
 abbrev pub invariant-loop-number : goal.invariant-loop-number
 invariant-loop-number l =
-    with_drafts requirement_brings requirement_from (seen l.out) (by_slot (requirements_at (layout_seen l.layout)) l.number (drop l.number l.slots))
-    ≡ with_drafts requirement_brings requirement_from (seen l.fn.out) (by_slot (requirements_at (layout_seen l.layout)) 0 l.slots)
+    with_drafts requirement_brings requirement_from (seen l.out)
+    (by_slot (requirements_at (layout_seen l.layout)) l.number (drop l.number l.slots))
+    ≡ with_drafts requirement_brings requirement_from (seen l.fn.out)
+    (by_slot (requirements_at (layout_seen l.layout)) 0 l.slots)

@@ -9,6 +9,8 @@ decreases-add l = l.levels
 abbrev pub invariant-loop-item : goal.invariant-loop-item
 invariant-loop-item l = record {
   few : length l.standings ≤ 40;
-  all : l.standings ++ for_lines (standings_from l.model (l.levels - 1) (Some l.number) (suc l.standing.depth)) l.item (length l.standings) (drop l.item l.bill)
-      ≡ l.fn.standings ++ standings_from l.model l.levels l.standing.parent l.standing.depth l.standing.item (length l.fn.standings) l.standing.object;
+  all : l.standings ++ for_lines (standings_from l.model (l.levels - 1) (Some l.number) (suc l.standing.depth)) l.item
+      (length l.standings) (drop l.item l.bill)
+      ≡ l.fn.standings ++ standings_from l.model l.levels l.standing.parent l.standing.depth l.standing.item
+      (length l.fn.standings) l.standing.object;
 }

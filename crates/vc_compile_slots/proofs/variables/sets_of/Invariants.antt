@@ -3,4 +3,5 @@ use Rattle.vc_compile_plan.specs.Variables.{by_slot, sets_at}
 use Rattle.vc_compile_slots.proofs.variables.sets_of.Given as goal
 
 abbrev pub invariant-loop-number : goal.invariant-loop-number
-invariant-loop-number l = l.sets ++ by_slot (sets_at l.model) l.number (drop l.number l.slots) ≡ by_slot (sets_at l.model) 0 l.slots
+invariant-loop-number l = l.sets ++ by_slot (sets_at l.model) l.number (drop l.number l.slots)
+    ≡ by_slot (sets_at l.model) 0 l.slots

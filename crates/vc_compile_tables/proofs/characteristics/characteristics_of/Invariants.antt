@@ -4,4 +4,5 @@ use Rattle.vc_compile_tables.proofs.characteristics.characteristics_of.Given as 
 
 abbrev pub invariant-loop-characteristic : goal.invariant-loop-characteristic
 invariant-loop-characteristic l =
-    l.all ++ map kept.characteristic_from (drop l.characteristic-index l.declared) ≡ map kept.characteristic_from l.declared
+    l.all ++ map kept.characteristic_from (drop l.characteristic-index l.declared)
+    ≡ map kept.characteristic_from l.declared

@@ -12,9 +12,11 @@ use Rattle.vc_compile_typing.proofs.members.with_characteristic.Goals as goal
 pub returns : goal.returns
 returns c =
     let model = (layout_seen c.args.layout.now).model in
-    let place : Dependency → Place = λ dependency. place_at (layout_seen c.args.layout.now) c.args.slot.now (at_of dependency) in
+    let place : Dependency → Place
+    = λ dependency. place_at (layout_seen c.args.layout.now) c.args.slot.now (at_of dependency) in
     let characteristic = c.args.characteristic.now in
     c.in_ok-first-2.ensures
     ∙ ap (λ first. first_with model first (typed_at model place (uses_of_values characteristic.values)))
-    (c.in_ok-first.ensures ∙ ap (λ numbers. first_with model (seen_if c.args.before) (typed_at model place numbers)) c.as_slice.ensures)
+    (c.in_ok-first.ensures
+    ∙ ap (λ numbers. first_with model (seen_if c.args.before) (typed_at model place numbers)) c.as_slice.ensures)
     ∙ sym (uses_in_parts model place (seen_if c.args.before) characteristic.uses (uses_of_values characteristic.values))

@@ -8,5 +8,10 @@ use Rattle.vc_compile_typing.proofs.members.with_members.Given as goal
 
 abbrev pub invariant-loop-member : goal.invariant-loop-member
 invariant-loop-member l =
-    first_with (layout_seen l.layout).model (seen_if l.first) (typed_at (layout_seen l.layout).model (λ dependency. place_at (layout_seen l.layout) l.slot (at_of dependency)) (flat_map (λ c. uses_of_characteristic (slice_get (layout_seen l.layout).model.characteristics c)) (drop l.member-index l.members)))
-    ≡ first_with (layout_seen l.layout).model (seen_if l.fn.before) (typed_at (layout_seen l.layout).model (λ dependency. place_at (layout_seen l.layout) l.slot (at_of dependency)) (flat_map (λ c. uses_of_characteristic (slice_get (layout_seen l.layout).model.characteristics c)) l.members))
+    first_with (layout_seen l.layout).model (seen_if l.first)
+    (typed_at (layout_seen l.layout).model (λ dependency. place_at (layout_seen l.layout) l.slot (at_of dependency))
+    (flat_map (λ c. uses_of_characteristic (slice_get (layout_seen l.layout).model.characteristics c))
+    (drop l.member-index l.members)))
+    ≡ first_with (layout_seen l.layout).model (seen_if l.fn.before)
+    (typed_at (layout_seen l.layout).model (λ dependency. place_at (layout_seen l.layout) l.slot (at_of dependency))
+    (flat_map (λ c. uses_of_characteristic (slice_get (layout_seen l.layout).model.characteristics c)) l.members))

@@ -10,7 +10,8 @@ returns c =
     let layout = layout_seen c.args.layout.now in
     let slots = flat_map (typed_slot layout) layout.slots in
     c.in_ok-first-2.ensures
-    ∙ ap (λ all. first_with layout.model (seen_if c.in_ok-first.first) (flat_map (typed_slot layout) all)) c.slots.ensures.slots
+    ∙ ap (λ all. first_with layout.model (seen_if c.in_ok-first.first) (flat_map (typed_slot layout) all))
+    c.slots.ensures.slots
     ∙ ap (λ first. first_with layout.model first slots) c.in_ok-first.ensures
     ∙ sym (typed_in_parts layout.model None (typed_constraints layout.model) slots)
     ∙ none_before (first_of (type_faults layout))

@@ -9,7 +9,8 @@ use Rattle.vc_compile_typing.proofs.slots.with_counted.Goals as goal
 pub returns : goal.returns
 returns c =
     let model = (layout_seen c.args.layout.now).model in
-    let counted : Typed = record { line = c.args.line; place = c.args.place.now; tree = Counts (term_of c.args.term.now) } in
+    let counted : Typed
+    = record { line = c.args.line; place = c.args.place.now; tree = Counts (term_of c.args.term.now) } in
     let asked = typed_at model (λ dependency. c.args.place.now) c.args.uses.now in
     c.in_ok-first-2.ensures
     ∙ ap (λ first. first_with model first asked)

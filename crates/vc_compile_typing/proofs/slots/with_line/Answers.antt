@@ -15,11 +15,16 @@ returns c =
     let layout = layout_seen c.args.layout.now in
     let item = c.args.item.now in
     let counted : Place → Term → List ℕ → List Typed = λ place term uses.
-    record { line = item.line; place = place; tree = Counts (term_of term) } ∷ typed_at layout.model (λ dependency. place) uses in
+    record { line = item.line; place = place; tree = Counts (term_of term) }
+    ∷ typed_at layout.model (λ dependency. place) uses in
     let first : Place → Term → List ℕ → Option TypeFault = λ place term uses.
     first_with layout.model (seen_if c.args.before) (counted place term uses) in
     let same : c.deref.result.now ≡ item.quantity.value = first_of (search rules, cc) in
-    let place = c.place_at-place.ensures ∙ ap (λ b. place_at layout c.args.slot.now (at.Line b)) c.is_configurable-configurable.ensures in
+    let place
+    = c.place_at-place.ensures
+    ∙ ap (λ b. place_at layout c.args.slot.now (at.Line b)) c.is_configurable-configurable.ensures in
     c.in_ok-first.ensures ∙ ap (λ p. first p c.deref.result.now c.as_slice-uses.result.now) place
-    ∙ ap (λ term. first (place_at layout c.args.slot.now (at.Line (is_configurable item.component))) term c.as_slice-uses.result.now) same
-    ∙ ap (first (place_at layout c.args.slot.now (at.Line (is_configurable item.component))) item.quantity.value) c.as_slice-uses.ensures
+    ∙ ap (λ term. first (place_at layout c.args.slot.now (at.Line (is_configurable item.component))) term
+    c.as_slice-uses.result.now) same
+    ∙ ap (first (place_at layout c.args.slot.now (at.Line (is_configurable item.component))) item.quantity.value)
+    c.as_slice-uses.ensures

@@ -6,5 +6,7 @@ use Rattle.vc_compile_typing.proofs.slots.with_lines.Given as goal
 
 abbrev pub invariant-loop-item : goal.invariant-loop-item
 invariant-loop-item l =
-    first_with (layout_seen l.layout).model (seen_if l.first) (flat_map (typed_line (layout_seen l.layout) l.slot) (drop l.item-index l.bill))
-    ≡ first_with (layout_seen l.layout).model (seen_if l.fn.before) (flat_map (typed_line (layout_seen l.layout) l.slot) l.bill)
+    first_with (layout_seen l.layout).model (seen_if l.first)
+    (flat_map (typed_line (layout_seen l.layout) l.slot) (drop l.item-index l.bill))
+    ≡ first_with (layout_seen l.layout).model (seen_if l.fn.before)
+    (flat_map (typed_line (layout_seen l.layout) l.slot) l.bill)

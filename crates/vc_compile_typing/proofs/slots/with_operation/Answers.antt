@@ -14,7 +14,8 @@ returns c =
     let layout = layout_seen c.args.layout.now in
     let operation = c.args.operation.now in
     let counted : Place → Term → List ℕ → List Typed = λ place term uses.
-    record { line = operation.line; place = place; tree = Counts (term_of term) } ∷ typed_at layout.model (λ dependency. place) uses in
+    record { line = operation.line; place = place; tree = Counts (term_of term) }
+    ∷ typed_at layout.model (λ dependency. place) uses in
     let first : Place → Term → List ℕ → Option TypeFault = λ place term uses.
     first_with layout.model (seen_if c.args.before) (counted place term uses) in
     let same : c.deref.result.now ≡ operation.time.value = first_of (search rules, cc) in

@@ -8,7 +8,9 @@ use Rattle.vc_compile_typing.proofs.slots.with_operations.Goals as goal
 pub loop-operation-preserved : goal.loop-operation-preserved
 loop-operation-preserved c =
     let layout = layout_seen c.args.layout.now in
-    typed_step layout.model (typed_operation layout c.args.slot.now) c.args.operations.now c.loop-operation.operation-index c.operation-item.result _
+    typed_step layout.model (typed_operation layout c.args.slot.now) c.args.operations.now
+    c.loop-operation.operation-index c.operation-item.result _
     (seen_if c.loop-operation.first) _ c.loop-operation-test.true c.loop-operation.invariant
     (c.in_ok-first.ensures
-    ∙ ap (λ one. first_with layout.model (seen_if c.loop-operation.first) (typed_operation layout c.args.slot.now one)) c.operation-item.is)
+    ∙ ap (λ one. first_with layout.model (seen_if c.loop-operation.first) (typed_operation layout c.args.slot.now one))
+    c.operation-item.is)

@@ -6,5 +6,7 @@ use Rattle.vc_compile_typing.proofs.slots.with_operations.Given as goal
 
 abbrev pub invariant-loop-operation : goal.invariant-loop-operation
 invariant-loop-operation l =
-    first_with (layout_seen l.layout).model (seen_if l.first) (flat_map (typed_operation (layout_seen l.layout) l.slot) (drop l.operation-index l.operations))
-    ≡ first_with (layout_seen l.layout).model (seen_if l.fn.before) (flat_map (typed_operation (layout_seen l.layout) l.slot) l.operations)
+    first_with (layout_seen l.layout).model (seen_if l.first)
+    (flat_map (typed_operation (layout_seen l.layout) l.slot) (drop l.operation-index l.operations))
+    ≡ first_with (layout_seen l.layout).model (seen_if l.fn.before)
+    (flat_map (typed_operation (layout_seen l.layout) l.slot) l.operations)

@@ -6,4 +6,5 @@ use Rattle.vc_compile_typing.proofs.slots.with_slots.Given as goal
 
 abbrev pub invariant-loop-number : goal.invariant-loop-number
 invariant-loop-number l =
-    seen_if l.first ≡ first_with (layout_seen l.layout).model (seen_if l.fn.before) (flat_map (typed_slot (layout_seen l.layout)) (take l.number l.slots))
+    seen_if l.first ≡ first_with (layout_seen l.layout).model (seen_if l.fn.before)
+    (flat_map (typed_slot (layout_seen l.layout)) (take l.number l.slots))

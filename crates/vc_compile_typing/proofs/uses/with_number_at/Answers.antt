@@ -15,9 +15,13 @@ returns-in_ok-first-in-Some c =
     let model = layout.model in
     let named = c.in-Some.named.now in
     let typed : Place → Typed = λ place. record { line = named.line; place = place; tree = dependency_of named.tree } in
-    let there : slice_get model.dependencies c.args.number ≡ Some named = sym c.dependency.ensures ∙ ap option_copied c.in-Some.is in
-    c.in_ok-first-in-Some.ensures ∙ ap (λ m. first_with m (seen_if c.args.before) (typed c.place_at-place.result ∷ [])) c.names.ensures
+    let there : slice_get model.dependencies c.args.number ≡ Some named
+    = sym c.dependency.ensures ∙ ap option_copied c.in-Some.is in
+    c.in_ok-first-in-Some.ensures
+    ∙ ap (λ m. first_with m (seen_if c.args.before) (typed c.place_at-place.result ∷ [])) c.names.ensures
     ∙ ap (λ place. first_with model (seen_if c.args.before) (typed place ∷ []))
     (c.place_at-place.ensures ∙ ap (λ at. place_at layout c.args.slot.now at) c.at_of.ensures)
     ∙ ap (first_with model (seen_if c.args.before))
-    (sym (typed_if_there model (λ dependency. place_at (layout_seen c.args.layout.now) c.args.slot.now (at_of dependency)) c.args.number named there))
+    (sym (typed_if_there model
+    (λ dependency. place_at (layout_seen c.args.layout.now) c.args.slot.now (at_of dependency)) c.args.number named
+    there))

@@ -6,5 +6,7 @@ use Rattle.vc_compile_typing.proofs.uses.with_uses.Given as goal
 
 abbrev pub invariant-loop-number : goal.invariant-loop-number
 invariant-loop-number l =
-    first_with (layout_seen l.layout).model (seen_if l.first) (typed_at (layout_seen l.layout).model (λ dependency. l.place) (drop l.number-index l.uses))
-    ≡ first_with (layout_seen l.layout).model (seen_if l.fn.before) (typed_at (layout_seen l.layout).model (λ dependency. l.place) l.uses)
+    first_with (layout_seen l.layout).model (seen_if l.first)
+    (typed_at (layout_seen l.layout).model (λ dependency. l.place) (drop l.number-index l.uses))
+    ≡ first_with (layout_seen l.layout).model (seen_if l.fn.before)
+    (typed_at (layout_seen l.layout).model (λ dependency. l.place) l.uses)

@@ -7,5 +7,9 @@ use Rattle.vc_compile_typing.proofs.uses.with_uses_at.Given as goal
 
 abbrev pub invariant-loop-number : goal.invariant-loop-number
 invariant-loop-number l =
-    first_with (layout_seen l.layout).model (seen_if l.first) (typed_at (layout_seen l.layout).model (λ dependency. place_at (layout_seen l.layout) l.slot (at_of dependency)) (drop l.number-index l.uses))
-    ≡ first_with (layout_seen l.layout).model (seen_if l.fn.before) (typed_at (layout_seen l.layout).model (λ dependency. place_at (layout_seen l.layout) l.slot (at_of dependency)) l.uses)
+    first_with (layout_seen l.layout).model (seen_if l.first)
+    (typed_at (layout_seen l.layout).model (λ dependency. place_at (layout_seen l.layout) l.slot (at_of dependency))
+    (drop l.number-index l.uses))
+    ≡ first_with (layout_seen l.layout).model (seen_if l.fn.before)
+    (typed_at (layout_seen l.layout).model (λ dependency. place_at (layout_seen l.layout) l.slot (at_of dependency))
+    l.uses)

@@ -6,5 +6,6 @@ use Rattle.vc_compile_uses.proofs.mentions.put_bindings.Given as goal
 
 abbrev pub invariant-loop-binding : goal.invariant-loop-binding
 invariant-loop-binding l =
-    texts_seen l.out ++ flat_map (λ binding. texts_in_term binding.value) (map binding_of (drop l.binding-index l.bindings))
+    texts_seen l.out ++ flat_map (λ binding. texts_in_term binding.value)
+    (map binding_of (drop l.binding-index l.bindings))
     ≡ texts_seen l.fn.out ++ flat_map (λ binding. texts_in_term binding.value) (map binding_of l.bindings)

@@ -8,7 +8,8 @@ use Rattle.vc_compile_uses.proofs.texts.texts_of.Goals as goal
 pub returns : goal.returns
 returns c =
     texts_are c.args.model.now c.push_texts.new.all (texts_seen c.as_slice-3.result.now) c.add_texts.new.all
-    (c.in_ok-push_texts.ensures.all ∙ ap (λ texts. texts ++ c.as_slice-2.result.now) c.new-all.ensures ∙ c.as_slice-2.ensures)
+    (c.in_ok-push_texts.ensures.all ∙ ap (λ texts. texts ++ c.as_slice-2.result.now) c.new-all.ensures
+    ∙ c.as_slice-2.ensures)
     (ap texts_seen c.as_slice-3.ensures ∙ c.in_ok-put_mentions.ensures
     ∙ ap (λ out. texts_seen out ++ flat_map (λ one. texts_in (dependency_of one.tree)) c.as_slice.result.now)
     c.new-named.ensures

@@ -12,6 +12,7 @@ returns c = for_ok c.marked_numbers.result (λ found is.
     ∙ ap (λ nets. mark_all c.in_ok-marks.marks (flat_map (λ net. net.constraints) nets)) c.as_slice-2.ensures
     ∙ ap (λ marks. mark_all marks (flat_map (λ net. net.constraints) c.args.model.now.nets))
     (c.in_ok-marks.ensures ∙ ap (map (λ d. false)) c.as_slice.ensures))
-    ∙ marked c.args.model.now.dependencies (flat_map (λ net. net.constraints) c.args.model.now.nets) (is_in_net c.args.model.now)
+    ∙ marked c.args.model.now.dependencies (flat_map (λ net. net.constraints) c.args.model.now.nets)
+    (is_in_net c.args.model.now)
     (one_of_all (λ net. net.constraints) c.args.model.now.nets))
     c.marked_numbers.ensures

@@ -7,7 +7,8 @@ use Rattle.vc_model_drafts.proofs.DraftLaws.{IsDrafted}
 use Rattle.vc_model_drafts.proofs.drafts.gather.Given as goal
 
 abbrev pub invariant-lines : goal.invariant-lines
-invariant-lines l = IsDrafted (lines_of l.text) l.scope (seen_draft l.draft) (seen_readings l.readings) (seen_places l.text l.places)
+invariant-lines l = IsDrafted (lines_of l.text) l.scope (seen_draft l.draft) (seen_readings l.readings)
+    (seen_places l.text l.places)
 
 abbrev pub decreases-lines : goal.decreases-lines
 decreases-lines l = length l.places

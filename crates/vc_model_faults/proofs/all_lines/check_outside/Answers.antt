@@ -10,9 +10,14 @@ use Rattle.vc_model_faults.proofs.all_lines.check_outside.Goals as goal
 
 pub returns : goal.returns
 returns c =
-    let P : Line → Type 0 = λ line. Adds line c.args.place.number (lines_below line c.args.after.now) c.args.scope.now (seen_readings c.args.readings.now)
-    (seen_places c.args.text.now c.args.places.now) c.check_line.new.scope (seen_readings c.check_line.new.readings) (seen_places c.args.text.now c.push.new.self) c.is_in_block.result in
-    let Q : Line → Type 0 = λ line. Follows line c.args.place.number (seen_places c.args.text.now c.args.places.now) (seen_places c.args.text.now c.push.new.self) in
+    let P : Line → Type 0
+    = λ line. Adds line c.args.place.number (lines_below line c.args.after.now) c.args.scope.now
+    (seen_readings c.args.readings.now)
+    (seen_places c.args.text.now c.args.places.now) c.check_line.new.scope (seen_readings c.check_line.new.readings)
+    (seen_places c.args.text.now c.push.new.self) c.is_in_block.result in
+    let Q : Line → Type 0
+    = λ line. Follows line c.args.place.number (seen_places c.args.text.now c.args.places.now)
+    (seen_places c.args.text.now c.push.new.self) in
     subst P c.in_ok-line.ensures (record {
       next_is = c.is_in_block.ensures;
       sound = sym c.in_ok-kind.ensures.kind ∙ c.in-None.is;

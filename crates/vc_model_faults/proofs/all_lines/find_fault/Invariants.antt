@@ -9,7 +9,8 @@ use Rattle.vc_model_faults.proofs.all_lines.find_fault.Given as goal
 abbrev pub invariant-lines : goal.invariant-lines
 invariant-lines l = record {
   counted : l.line + length l.rest ≤ 1 + length l.text;
-  checked : IsChecked (lines_of l.text) (lines_from l.inside (lines l.rest)) l.line l.scope (seen_readings l.readings) (seen_places l.text l.places);
+  checked : IsChecked (lines_of l.text) (lines_from l.inside (lines l.rest)) l.line l.scope (seen_readings l.readings)
+      (seen_places l.text l.places);
   from : l.rest ≡ drop l.start l.text;
   passed : l.start + length l.rest ≡ length l.text;
 }

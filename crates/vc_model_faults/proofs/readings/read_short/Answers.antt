@@ -10,7 +10,8 @@ pub returns-in-Ok : goal.returns-in-Ok
 unfolding seen_reading tree_in
 returns-in-Ok c =
     let tree = dependency_of c.in-Ok.dependency in
-    sym (ap (λ r. dependency_reading (result_ok r)) (spelled_is_found c.args.kind c.args.text.now tree c.in-Ok.ensures.found))
+    sym (ap (λ r. dependency_reading (result_ok r))
+    (spelled_is_found c.args.kind c.args.text.now tree c.in-Ok.ensures.found))
 
 pub returns-in-Err-Bad : goal.returns-in-Err-Bad
 unfolding seen_reading tree_in

@@ -21,4 +21,5 @@ returns-in-Err-Bad c =
     let kind = c.in-Err-Bad.field-0-0 in
     let place = c.in-Err-Bad.field-0-1 in
     let fault = c.in-Err-Bad.ensures.told kind place (ap Err c.in-Err-Bad.field-0-is) in
-    sym (ap (λ r. count_reading (term_in_tree (result_ok r))) (fault_is_found kinds.Term c.args.text.now kind place fault))
+    sym (ap (λ r. count_reading (term_in_tree (result_ok r)))
+    (fault_is_found kinds.Term c.args.text.now kind place fault))

@@ -9,4 +9,6 @@ pub returns-in-Some-clause-lines : goal.returns-in-Some-clause-lines
 returns-in-Some-clause-lines c =
     let bytes = c.args.bytes.now in
     let at = c.in-Some.at in
-    rw (take_rest bytes (at + 1)) (cut_at bytes at c.in-Some.ensures.at ∙ ap (λ line. line ∷ lines (drop (at + 1) bytes)) (sym c.without_return.ensures))
+    rw (take_rest bytes (at + 1))
+    (cut_at bytes at c.in-Some.ensures.at
+    ∙ ap (λ line. line ∷ lines (drop (at + 1) bytes)) (sym c.without_return.ensures))

@@ -5,7 +5,8 @@ use Rattle.vc_model_scope.specs.LookAhead as ahead
 use Rattle.vc_model_scope.proofs.look_ahead.is_closed.Given as goal
 
 abbrev pub invariant-loop-raw : goal.invariant-loop-raw
-invariant-loop-raw l = ahead.is_closed (lines_from true (lines l.rest)) ≡ ahead.is_closed (lines_from true (lines l.block))
+invariant-loop-raw l = ahead.is_closed (lines_from true (lines l.rest))
+    ≡ ahead.is_closed (lines_from true (lines l.block))
 
 abbrev pub decreases-loop-raw : goal.decreases-loop-raw
 decreases-loop-raw l = length l.rest

@@ -9,8 +9,10 @@ use Rattle.vc_net_bounds.proofs.bounds.capped_bounds.Given as goal
 
 abbrev pub invariant-loop-rest : goal.invariant-loop-rest
 invariant-loop-rest l =
-    (raised_by_rules l.plan l.rest l.bounds.places ≡ raised_by_rules l.plan l.plan.rules (map source_bound (all_places l.plan)))
-    × ((max l.bounds.clash (capped (greatest (clash_bound l.plan) l.rest)) ≡ max 1 (capped (greatest (clash_bound l.plan) l.plan.rules)))
+    (raised_by_rules l.plan l.rest l.bounds.places
+    ≡ raised_by_rules l.plan l.plan.rules (map source_bound (all_places l.plan)))
+    × ((max l.bounds.clash (capped (greatest (clash_bound l.plan) l.rest))
+    ≡ max 1 (capped (greatest (clash_bound l.plan) l.plan.rules)))
     × ((length l.bounds.places ≡ length (all_places l.plan)) × IsKept l.plan l.kept))
 
 abbrev pub decreases-loop-rest : goal.decreases-loop-rest

@@ -11,14 +11,16 @@ use Rattle.vc_net_bounds.proofs.bounds.source_bounds.Goals as goal
 pub overflow_cast-var : goal.overflow_cast-var
 overflow_cast-var c =
     let s : IsSmall c.args.plan.now c.loop-var.var (2 ^ 32)
-    = small c.args.plan.now c.loop-var.var (2 ^ 32) (omega (arith, c.loop-var-test.true, c.len-var-end.ensures)) c.requires in
+    = small c.args.plan.now c.loop-var.var (2 ^ 32) (omega (arith, c.loop-var-test.true, c.len-var-end.ensures))
+    c.requires in
     omega (arith, s.var)
 
 pub loop-var-preserved : goal.loop-var-preserved
 loop-var-preserved c =
     let plan = c.args.plan.now in
     let var = c.loop-var.var in
-    c.in_ok-append_sources.ensures ∙ (ap (λ xs. xs ++ sources_of_var plan var) c.loop-var.invariant ∙ sources_next plan var)
+    c.in_ok-append_sources.ensures
+    ∙ (ap (λ xs. xs ++ sources_of_var plan var) c.loop-var.invariant ∙ sources_next plan var)
 
 pub returns-clause-is : goal.returns-clause-is
 returns-clause-is c =

@@ -13,4 +13,5 @@ returns-clause-is c =
     ∙ (ap (λ o. side o c.raise_side.new.bounds) c.lone_inferred-2.ensures
     ∙ (ap (side (lone_inferred plan c.args.rule.now c.args.right))
     (c.raise_side.ensures.is ∙ ap (λ o. side o c.args.bounds.now) c.lone_inferred.ensures)
-    ∙ compare_raised plan c.args.rule.now c.args.relation c.args.left c.args.right c.args.common c.args.bounds.now c.requires.common))
+    ∙ compare_raised plan c.args.rule.now c.args.relation c.args.left c.args.right c.args.common c.args.bounds.now
+    c.requires.common))

@@ -8,8 +8,10 @@ pub loop-grain-preserved : goal.loop-grain-preserved
 loop-grain-preserved g c =
     let plan = c.args.plan.now in
     let need = where_failing c.args.plan.now c.args.var (g.T.Test.passes c.args.test.now) c.args.bound in (
-      grain_next plan c.args.var c.loop-grain.grain (count_of plan c.args.var) c.where_failing-own.result need c.loop-grain.bounds c.raise_grain.new.bounds
-          (omega (arith, c.loop-grain-test.true, c.grain_count-grain-end.ensures)) c.where_failing-own.ensures c.raise_grain.ensures.is
+      grain_next plan c.args.var c.loop-grain.grain (count_of plan c.args.var) c.where_failing-own.result need
+          c.loop-grain.bounds c.raise_grain.new.bounds
+          (omega (arith, c.loop-grain-test.true, c.grain_count-grain-end.ensures)) c.where_failing-own.ensures
+          c.raise_grain.ensures.is
           ∙ c.loop-grain.invariant.0,
       c.raise_grain.ensures.whole,
     )

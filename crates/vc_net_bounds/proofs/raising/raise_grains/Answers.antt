@@ -8,7 +8,8 @@ pub loop-grain-preserved : goal.loop-grain-preserved
 loop-grain-preserved c =
     let plan = c.args.plan.now in
     let need = alike c.args.bound in (
-      grain_next plan c.args.var c.loop-grain.grain (count_of plan c.args.var) c.args.bound need c.loop-grain.bounds c.raise_grain.new.bounds
+      grain_next plan c.args.var c.loop-grain.grain (count_of plan c.args.var) c.args.bound need c.loop-grain.bounds
+          c.raise_grain.new.bounds
           (omega (arith, c.loop-grain-test.true, c.grain_count-grain-end.ensures)) refl c.raise_grain.ensures.is
           ∙ c.loop-grain.invariant.0,
       c.raise_grain.ensures.whole,

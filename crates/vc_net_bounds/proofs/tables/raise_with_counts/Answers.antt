@@ -8,8 +8,10 @@ pub loop-grain-preserved : goal.loop-grain-preserved
 loop-grain-preserved c =
     let plan = c.args.plan.now in
     let need = with_counts c.args.counts.now c.args.bound in (
-      grain_next plan c.args.var c.loop-grain.grain (count_of plan c.args.var) c.capped_sum-own.result need c.loop-grain.bounds
-          c.raise_grain.new.bounds (omega (arith, c.loop-grain-test.true, c.grain_count-grain-end.ensures)) c.capped_sum-own.ensures
+      grain_next plan c.args.var c.loop-grain.grain (count_of plan c.args.var) c.capped_sum-own.result need
+          c.loop-grain.bounds
+          c.raise_grain.new.bounds (omega (arith, c.loop-grain-test.true, c.grain_count-grain-end.ensures))
+          c.capped_sum-own.ensures
           c.raise_grain.ensures.is
           ∙ c.loop-grain.invariant.0,
       c.raise_grain.ensures.whole,

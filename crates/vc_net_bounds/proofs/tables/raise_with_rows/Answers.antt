@@ -17,5 +17,6 @@ returns-in_ok-place-in-Some-clause-is c =
 pub returns-in_ok-counts-in-None-clause-is : goal.returns-in_ok-counts-in-None-clause-is
 returns-in_ok-counts-in-None-clause-is c =
     c.raise_with_counts-in-None.ensures.is
-    ∙ counts_rows c.args.plan.now c.args.table c.args.columns.now c.args.var c.args.bound c.as_slice.result.now c.args.bounds.now
+    ∙ counts_rows c.args.plan.now c.args.table c.args.columns.now c.args.var c.args.bound c.as_slice.result.now
+    c.args.bounds.now
     (c.as_slice.ensures ∙ c.in_ok-counts-in-None.ensures)

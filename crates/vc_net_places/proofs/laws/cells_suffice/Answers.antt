@@ -1,4 +1,5 @@
-use Rattle.vc_net_places.proofs.PlaceLaws.Cells.{bounds_are_by_place, cells_are_apart, cells_end_at_total, cells_suffice, places_are_in_order}
+use Rattle.vc_net_places.proofs.PlaceLaws.Cells.{bounds_are_by_place, cells_are_apart, cells_end_at_total}
+use Rattle.vc_net_places.proofs.PlaceLaws.Cells.{cells_suffice, places_are_in_order}
 use Rattle.vc_net_places.proofs.laws.cells_suffice.Goals as goal
 
 pub returns-clause-ordered : goal.returns-clause-ordered

@@ -1,4 +1,5 @@
-use Rattle.vc_net_places.proofs.PlaceLaws.Things.{firsts_are_counted, index_tells_back, index_tells_places, index_tells_things, things_are_counted}
+use Rattle.vc_net_places.proofs.PlaceLaws.Things.{firsts_are_counted, index_tells_back, index_tells_places}
+use Rattle.vc_net_places.proofs.PlaceLaws.Things.{index_tells_things, things_are_counted}
 use Rattle.vc_net_places.proofs.laws.index_tells_places.Goals as goal
 
 pub returns-clause-places : goal.returns-clause-places

@@ -1,4 +1,5 @@
-use Rattle.vc_net_places.proofs.PlaceLaws.Numbering.{named_have_places, numbers_are_taken, places_are_apart, places_are_counted}
+use Rattle.vc_net_places.proofs.PlaceLaws.Numbering.{named_have_places, numbers_are_taken, places_are_apart}
+use Rattle.vc_net_places.proofs.PlaceLaws.Numbering.{places_are_counted}
 use Rattle.vc_net_places.proofs.laws.places_are_counted.Goals as goal
 
 pub returns-clause-named : goal.returns-clause-named

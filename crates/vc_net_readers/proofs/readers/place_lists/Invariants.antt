@@ -6,4 +6,5 @@ use Rattle.vc_net_places.specs.Places.{index_of}
 use Rattle.vc_net_readers.proofs.readers.place_lists.Given as goal
 
 abbrev pub invariant-loop-rule : goal.invariant-loop-rule
-invariant-loop-rule l = l.lists.items ≡ filed_below (waits_by l.plan) l.rule (replicate (length (index_of l.plan).things) [])
+invariant-loop-rule l = l.lists.items
+    ≡ filed_below (waits_by l.plan) l.rule (replicate (length (index_of l.plan).things) [])

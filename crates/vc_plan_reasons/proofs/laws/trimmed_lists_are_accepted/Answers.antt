@@ -1,4 +1,5 @@
-use Rattle.vc_plan_reasons.proofs.ReasonLaws.Trimming.{trimmed_clashes_refute, trimmed_is_a_chain, trimming_keeps_acceptance}
+use Rattle.vc_plan_reasons.proofs.ReasonLaws.Trimming.{trimmed_clashes_refute, trimmed_is_a_chain}
+use Rattle.vc_plan_reasons.proofs.ReasonLaws.Trimming.{trimming_keeps_acceptance}
 use Rattle.vc_plan_reasons.proofs.laws.trimmed_lists_are_accepted.Goals as goal
 
 pub returns-clause-accepted : goal.returns-clause-accepted

@@ -6,6 +6,8 @@ use Rattle.vc_plan_users.proofs.users.mark.Goals as goal
 
 pub loop-place-preserved : goal.loop-place-preserved
 loop-place-preserved c =
-    change_step (marked c.args.text c.args.there) c.args.listed.now c.loop-place.listed c.as_slice.result.now c.set.new.self
-    (record { text = 0; held = false }) c.marked.result c.loop-place.place (omega (arith, c.loop-place-test.true, c.len-place-end.ensures))
+    change_step (marked c.args.text c.args.there) c.args.listed.now c.loop-place.listed c.as_slice.result.now
+    c.set.new.self
+    (record { text = 0; held = false }) c.marked.result c.loop-place.place
+    (omega (arith, c.loop-place-test.true, c.len-place-end.ensures))
     c.loop-place.invariant.0 c.loop-place.invariant.1 c.as_slice.ensures c.marked.ensures c.set.ensures

@@ -5,4 +5,5 @@ use Rattle.vc_plan_users.proofs.users.mark.Given as goal
 
 abbrev pub invariant-loop-place : goal.invariant-loop-place
 invariant-loop-place l =
-    (l.listed ≡ take l.place (map (marked l.text l.there) l.fn.listed) ++ drop l.place l.fn.listed) × (length l.listed ≡ length l.fn.listed)
+    (l.listed ≡ take l.place (map (marked l.text l.there) l.fn.listed) ++ drop l.place l.fn.listed)
+    × (length l.listed ≡ length l.fn.listed)

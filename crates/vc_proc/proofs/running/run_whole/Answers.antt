@@ -11,7 +11,9 @@ few procedure = nat_lt (length procedure.statements) (2 ^ 32)
 
 pub run_statements-requires-clause-few : goal.run_statements-requires-clause-few
 run_statements-requires-clause-few g c =
-    let one = subst (PassesIf few) c.requires.there (all_get few c.args.plan.now.procedures c.args.proc c.requires.can.few_statements) in
+    let one
+    = subst (PassesIf few) c.requires.there
+    (all_get few c.args.plan.now.procedures c.args.proc c.requires.can.few_statements) in
     let below = ltb-true (length c.args.procedure.now.statements) (2 ^ 32) one in
     let same = ap length c.as_slice.ensures in
     omega (arith, below, same)

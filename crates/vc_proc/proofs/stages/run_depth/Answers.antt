@@ -11,7 +11,8 @@ loop-slot-preserved g c =
     let seen = g.R.View.seen c.args.stage.now in
     let holds = g.R.Reading.holdings c.args.stage.now in
     let test : ℕ → Bool = λ i. (depth_of plan i == c.args.depth) && seen.here i in (
-      slots_next plan seen holds (procedures_at plan false) test c.loop-slot.slot (length plan.slots) c.loop-slot.overlay c.run_at_depth.new.overlay
+      slots_next plan seen holds (procedures_at plan false) test c.loop-slot.slot (length plan.slots)
+          c.loop-slot.overlay c.run_at_depth.new.overlay
           (omega (arith, c.loop-slot-test.true, c.len-slot-end.ensures)) c.run_at_depth.ensures.is
           ∙ c.loop-slot.invariant.0,
       c.run_at_depth.ensures.lie,

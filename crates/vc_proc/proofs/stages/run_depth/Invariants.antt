@@ -12,6 +12,8 @@ invariant-loop-slot g l =
     let seen = g.R.View.seen l.stage in
     let holds = g.R.Reading.holdings l.stage in
     let test : ℕ → Bool = λ i. (depth_of l.plan i == l.depth) && seen.here i in
-    (all_run l.plan seen holds (flat_map (procedures_at l.plan false) (filter test (range_with_len l.slot (length l.plan.slots - l.slot)))) l.overlay
+    (all_run l.plan seen holds
+    (flat_map (procedures_at l.plan false) (filter test (range_with_len l.slot (length l.plan.slots - l.slot))))
+    l.overlay
     ≡ depth_written l.plan holds l.depth seen l.fn.overlay)
     × EntriesLie l.plan l.overlay

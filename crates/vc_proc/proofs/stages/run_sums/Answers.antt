@@ -11,7 +11,8 @@ loop-slot-preserved g c =
     let seen = g.R.View.seen c.args.stage.now in
     let holds = g.R.Reading.holdings c.args.stage.now in
     let test : ℕ → Bool = λ i. seen.here i && not (slice_index_or c.args.late.now i false) in (
-      slots_down plan seen holds (procedures_at plan true) test c.loop-slot.slot c.loop-slot.overlay c.run_sums_at.new.overlay
+      slots_down plan seen holds (procedures_at plan true) test c.loop-slot.slot c.loop-slot.overlay
+          c.run_sums_at.new.overlay
           (omega (arith, c.loop-slot-test.true)) c.run_sums_at.ensures.is
           ∙ c.loop-slot.invariant.0,
       c.run_sums_at.ensures.lie,

@@ -13,7 +13,8 @@ invariant-loop-slot g l =
     let seen = g.R.View.seen l.stage in
     let holds = g.R.Reading.holdings l.stage in
     let test : ℕ → Bool = λ i. seen.here i && not (slice_index_or l.late i false) in
-    (all_run l.plan seen holds (flat_map (procedures_at l.plan true) (reverse (filter test (numbers_below l.slot)))) l.overlay
+    (all_run l.plan seen holds (flat_map (procedures_at l.plan true) (reverse (filter test (numbers_below l.slot))))
+    l.overlay
     ≡ sums_written l.plan holds l.late seen l.fn.overlay)
     × EntriesLie l.plan l.overlay
 

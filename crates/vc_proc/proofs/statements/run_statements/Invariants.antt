@@ -8,5 +8,6 @@ abbrev pub invariant-loop-statement : goal.invariant-loop-statement
 invariant-loop-statement g l =
     let seen = g.R.View.seen l.stage in
     let holds = g.R.Reading.holdings l.stage in
-    (all_stated l.plan seen holds l.proc l.statement (drop l.statement l.statements) l.overlay ≡ all_stated l.plan seen holds l.proc 0 l.statements l.fn.overlay)
+    (all_stated l.plan seen holds l.proc l.statement (drop l.statement l.statements) l.overlay
+    ≡ all_stated l.plan seen holds l.proc 0 l.statements l.fn.overlay)
     × EntriesLie l.plan l.overlay

@@ -7,7 +7,8 @@ use Rattle.vc_proc.proofs.summing.keys_sum.Given as goal
 
 abbrev pub invariant-loop-rest : goal.invariant-loop-rest
 invariant-loop-rest l =
-    list_any (λ key. term_sums (slice_get l.plan.terms key.term)) l.rest ≡ list_any (λ key. term_sums (slice_get l.plan.terms key.term)) l.keys
+    list_any (λ key. term_sums (slice_get l.plan.terms key.term)) l.rest
+    ≡ list_any (λ key. term_sums (slice_get l.plan.terms key.term)) l.keys
 
 abbrev pub decreases-loop-rest : goal.decreases-loop-rest
 decreases-loop-rest l = length l.rest

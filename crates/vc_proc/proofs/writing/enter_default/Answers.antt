@@ -6,5 +6,6 @@ use Rattle.vc_proc.proofs.writing.enter_default.Goals as goal
 
 pub returns-in-Outside : goal.returns-in-Outside
 returns-in-Outside g c =
-    default_outside c.args.plan.now (g.V.View.seen c.args.view.now) (place_from c.args.place) c.args.var (meant c.args.value) c.args.overlay.now
+    default_outside c.args.plan.now (g.V.View.seen c.args.view.now) (place_from c.args.place) c.args.var
+    (meant c.args.value) c.args.overlay.now
     (sym c.in-Outside.is ∙ c.mark_of.ensures)

@@ -16,7 +16,8 @@ returns-in-Nothing g c =
     c.clash_from_left.ensures
     ∙ ap (λ given. taken c.args.out.now (said_from seen (why_left plan seen c.args.var test) given))
     (sym (remaining_is plan c.args.var (left_with plan seen c.args.var test) Nothing
-    (sym c.in-Nothing.is ∙ (c.remaining_of.ensures ∙ ap (λ a. remaining_of (left_by plan seen c.args.var a test)) c.value.ensures))))
+    (sym c.in-Nothing.is
+    ∙ (c.remaining_of.ensures ∙ ap (λ a. remaining_of (left_by plan seen c.args.var a test)) c.value.ensures))))
 
 pub returns-in-One : goal.returns-in-One
 returns-in-One g c =
@@ -26,7 +27,8 @@ returns-in-One g c =
     c.conclude_value.ensures
     ∙ ap (λ given. taken c.args.out.now (said_from seen (why_left plan seen c.args.var test) given))
     (sym (remaining_is plan c.args.var (left_with plan seen c.args.var test) (One c.in-One.grain)
-    (sym c.in-One.is ∙ (c.remaining_of.ensures ∙ ap (λ a. remaining_of (left_by plan seen c.args.var a test)) c.value.ensures))))
+    (sym c.in-One.is ∙ (c.remaining_of.ensures
+    ∙ ap (λ a. remaining_of (left_by plan seen c.args.var a test)) c.value.ensures))))
 
 pub returns-in-Several : goal.returns-in-Several
 returns-in-Several g c =
@@ -35,4 +37,5 @@ returns-in-Several g c =
     let test = g.T.Test.passes c.args.test.now in
     ap (λ given. taken c.args.out.now (said_from seen (why_left plan seen c.args.var test) given))
     (sym (remaining_is plan c.args.var (left_with plan seen c.args.var test) Several
-    (sym c.in-Several.is ∙ (c.remaining_of.ensures ∙ ap (λ a. remaining_of (left_by plan seen c.args.var a test)) c.value.ensures))))
+    (sym c.in-Several.is
+    ∙ (c.remaining_of.ensures ∙ ap (λ a. remaining_of (left_by plan seen c.args.var a test)) c.value.ensures))))

@@ -27,7 +27,8 @@ returns-else-is_inferred g c =
     let test = allows plan v c.args.restriction.now in
     let is : is_inferred c.args.rule.now v ≡ false = sym c.is_inferred.ensures ∙ c.if-is_inferred.false in
     c.say_if_none.ensures
-    ∙ (ap (λ (t : Piece → Bool). taken c.args.out.now (said_from seen (why_left plan seen v t) (clash_if (is_nothing (left_with plan seen v t)) nothing)))
+    ∙ (ap (λ (t : Piece → Bool). taken c.args.out.now
+    (said_from seen (why_left plan seen v t) (clash_if (is_nothing (left_with plan seen v t)) nothing)))
     c.allowed_of-allowed.ensures
     ∙ ap (λ b. taken c.args.out.now (said_from seen (cond b (why_confined plan seen v test) (why_left plan seen v test))
     (cond b (confined plan seen v test) (clash_if (is_nothing (left_with plan seen v test)) nothing)))) (sym is))

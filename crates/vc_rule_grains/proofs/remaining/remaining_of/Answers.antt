@@ -14,11 +14,15 @@ loop-grain-preserved g c =
     && is_grain_with c.args.plan.now c.args.var (g.T.Test.passes c.args.test.now) n in
     let now = c.loop-grain.remaining in
     walk_on (count_step p) Nothing now c.count_if-remaining.result c.loop-grain.grain c.grain_count-count.result
-    c.loop-grain.invariant (omega arith) (c.count_if-remaining.ensures ∙ ap (λ b. cond b (with_one now c.loop-grain.grain) now) c.is_left_with-counts.ensures)
+    c.loop-grain.invariant (omega arith)
+    (c.count_if-remaining.ensures
+    ∙ ap (λ b. cond b (with_one now c.loop-grain.grain) now) c.is_left_with-counts.ensures)
 
 pub returns : goal.returns
 returns g c =
     let p = λ (n : ℕ). is_left_by c.args.plan.now (g.V.View.seen c.args.view.now) c.args.var n c.args.value
     && is_grain_with c.args.plan.now c.args.var (g.T.Test.passes c.args.test.now) n in
-    walk_done (count_step p) Nothing c.loop-grain.remaining c.loop-grain.grain c.grain_count-count.result c.loop-grain.invariant (omega arith)
-    ∙ (ap (λ n. walked (count_step p) Nothing (numbers_below n)) c.grain_count-count.ensures ∙ remaining_walked p (numbers_below _))
+    walk_done (count_step p) Nothing c.loop-grain.remaining c.loop-grain.grain c.grain_count-count.result
+    c.loop-grain.invariant (omega arith)
+    ∙ (ap (λ n. walked (count_step p) Nothing (numbers_below n)) c.grain_count-count.ensures
+    ∙ remaining_walked p (numbers_below _))

@@ -10,7 +10,8 @@ use Rattle.vc_rule_grains.proofs.remaining.remaining_of.Given as goal
 abbrev pub invariant-loop-grain : goal.invariant-loop-grain
 invariant-loop-grain g l =
     Walks
-    (count_step (λ n. is_left_by l.plan (g.V.View.seen l.view) l.var n l.value && is_grain_with l.plan l.var (g.T.Test.passes l.test) n))
+    (count_step (λ n. is_left_by l.plan (g.V.View.seen l.view) l.var n l.value
+    && is_grain_with l.plan l.var (g.T.Test.passes l.test) n))
     Nothing l.remaining l.grain l.count
 
 abbrev pub decreases-loop-grain : goal.decreases-loop-grain

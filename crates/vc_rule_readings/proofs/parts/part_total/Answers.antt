@@ -20,7 +20,8 @@ with_part-sum-requires-clause-sum g c =
     let test = adds plan seen c.args.slot c.args.named in
     let part = c.loop-part.part in
     let rest = length plan.slots - part in
-    operands_as Plus (added (part - 1)) (count_if c.loop-part.sum) (added (part - 1)) (total (map added (filter test (range_with_len part rest))))
+    operands_as Plus (added (part - 1)) (count_if c.loop-part.sum) (added (part - 1))
+    (total (map added (filter test (range_with_len part rest))))
     (addition_fits plan c.requires.fit.terms seen c.requires.values holds c.args.named test (part - 1) part rest
     (omega (arith, c.requires.fit.few_slots)))
     refl c.loop-part.invariant.1
@@ -30,6 +31,8 @@ loop-part-preserved g c =
     let plan = c.args.plan.now in
     let seen = g.R.View.seen c.args.reading.now in
     let holds = g.R.Reading.holdings c.args.reading.now in
-    total_down (addend plan (full_reading plan seen holds) c.args.named) (adds plan seen c.args.slot c.args.named) c.loop-part.part
-    (length plan.slots) (count_if c.loop-part.sum) (count_if c.with_part-sum.result) (omega (arith, c.loop-part-test.true))
+    total_down (addend plan (full_reading plan seen holds) c.args.named) (adds plan seen c.args.slot c.args.named)
+    c.loop-part.part
+    (length plan.slots) (count_if c.loop-part.sum) (count_if c.with_part-sum.result)
+    (omega (arith, c.loop-part-test.true))
     c.loop-part.invariant.0 c.loop-part.invariant.1 c.with_part-sum.ensures

@@ -13,7 +13,9 @@ invariant-loop-part g l =
     let reading = full_reading l.plan seen (g.R.Reading.holdings l.reading) in
     let n = length l.plan.slots in
     (l.part ≤ n)
-    × (count_if l.sum ≡ total (map (addend l.plan reading l.named) (filter (adds l.plan seen l.slot l.named) (range_with_len l.part (n - l.part)))))
+    × (count_if l.sum ≡ total
+    (map (addend l.plan reading l.named)
+    (filter (adds l.plan seen l.slot l.named) (range_with_len l.part (n - l.part)))))
 
 abbrev pub decreases-loop-part : goal.decreases-loop-part
 decreases-loop-part g l = l.part

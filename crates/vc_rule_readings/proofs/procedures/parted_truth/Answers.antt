@@ -11,6 +11,7 @@ truth-requires-clause-computes g c =
     let plan = c.args.plan.now in
     let seen = g.R.View.seen c.args.reading.now in
     let holds = g.R.Reading.holdings c.args.reading.now in
-    condition_at_computes plan c.requires.fit.terms (parted_reading plan seen holds) (parted_bounded plan c.requires.fit seen c.requires.values holds)
+    condition_at_computes plan c.requires.fit.terms (parted_reading plan seen holds)
+    (parted_bounded plan c.requires.fit seen c.requires.values holds)
     c.args.condition c.in-Some.condition.now
     (ap (λ list. slice_get list c.args.condition) (sym c.as_slice.ensures) ∙ c.in-Some.ensures.some)

@@ -14,4 +14,5 @@ returns-clause-fits g c =
     let seen = seen_beside (g.R.View.seen c.args.stage.now) (g.M.Marks.entries c.args.written.now) in
     let holds = g.R.Reading.holdings c.args.stage.now in
     subst (λ o. ArgumentFits (number_of_value o)) (sym c.parted_value.ensures)
-    (value_fits plan c.requires.fit.terms (parted_reading plan seen holds) (parted_bounded plan c.requires.fit seen c.requires.values holds) c.args.term)
+    (value_fits plan c.requires.fit.terms (parted_reading plan seen holds)
+    (parted_bounded plan c.requires.fit seen c.requires.values holds) c.args.term)

@@ -11,4 +11,5 @@ returns g c =
     let left = values_in c.args.plan.now seen c.args.left in
     let right = values_in c.args.plan.now seen c.args.right in
     c.clash_now.ensures
-    ∙ ap clashed (c.cite_values-2.ensures ∙ (ap (λ y. cited_all y right) c.cite_values.ensures ∙ cited_append c.args.out.now left right))
+    ∙ ap clashed (c.cite_values-2.ensures
+    ∙ (ap (λ y. cited_all y right) c.cite_values.ensures ∙ cited_append c.args.out.now left right))

@@ -16,7 +16,8 @@ returns-else-is_clash-2 g c =
     let q = related_premises plan seen t.relation t.var (values_in plan seen t.other) (meant_if t.value) in
     c.say_side-else-is_clash-2-2.ensures
     ∙ (ap (λ y. taken y (side_said plan seen t)) c.say_side-else-is_clash-2.ensures
-    ∙ none_clashes seen p q (side_given plan seen s) (side_given plan seen t) (side_said plan seen s) (side_said plan seen t) c.args.out.now
+    ∙ none_clashes seen p q (side_given plan seen s) (side_given plan seen t) (side_said plan seen s)
+    (side_said plan seen t) c.args.out.now
     (from_premises plan seen s.relation s.var (values_in plan seen s.other) (meant_if s.value))
     (from_premises plan seen t.relation t.var (values_in plan seen t.other) (meant_if t.value))
     (sym c.is_clash.ensures ∙ c.if-is_clash.false) (sym c.is_clash-else-is_clash.ensures ∙ c.if-is_clash-2.false))

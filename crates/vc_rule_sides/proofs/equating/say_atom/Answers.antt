@@ -8,6 +8,8 @@ use Rattle.vc_rule_sides.proofs.equating.say_atom.Goals as goal
 pub returns-then-not-stands : goal.returns-then-not-stands
 returns-then-not-stands g c =
     let seen = g.V.View.seen c.args.view.now in
-    value_said seen (values_in c.args.plan.now seen c.args.other) c.args.out.now c.cite_values.new.out c.conclude.new.self c.keep_cited.new.self c.args.atom
+    value_said seen (values_in c.args.plan.now seen c.args.other) c.args.out.now c.cite_values.new.out
+    c.conclude.new.self c.keep_cited.new.self c.args.atom
     (sym c.stands.ensures ∙ c.if-not-stands.true) c.cite_values.ensures c.conclude.ensures
-    (c.keep_cited.ensures ∙ ap (λ n. with_cites c.conclude.new.self (take n c.conclude.new.self.cites)) c.cited_count-count.ensures)
+    (c.keep_cited.ensures
+    ∙ ap (λ n. with_cites c.conclude.new.self (take n c.conclude.new.self.cites)) c.cited_count-count.ensures)

@@ -13,6 +13,7 @@ returns-else-is_clash-2 g c =
     let t = c.args.second in
     c.say_side-else-is_clash-2-2.ensures
     ∙ (ap (λ y. taken y (equal_side_said plan seen t)) c.say_side-else-is_clash-2.ensures
-    ∙ none_clashes seen (values_in plan seen s.other) (values_in plan seen t.other) (assigned_given s.assigned) (assigned_given t.assigned)
+    ∙ none_clashes seen (values_in plan seen s.other) (values_in plan seen t.other) (assigned_given s.assigned)
+    (assigned_given t.assigned)
     (equal_side_said plan seen s) (equal_side_said plan seen t) c.args.out.now refl refl
     (sym c.is_clash.ensures ∙ c.if-is_clash.false) (sym c.is_clash-else-is_clash.ensures ∙ c.if-is_clash-2.false))

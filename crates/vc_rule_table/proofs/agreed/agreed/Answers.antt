@@ -11,8 +11,10 @@ returns-in-Some g c =
     let columns = c.args.columns.now in
     let possible = is_possible_in plan (g.V.View.seen c.args.view.now) (other_columns c.args.var columns) in
     c.if_agreed.ensures
-    ∙ (ap (value_if (agrees plan c.args.var (columns_of c.args.var columns) (filter possible c.args.rows.now)) c.args.var) c.first_cell.ensures
-    ∙ agreed_first plan c.args.var (columns_of c.args.var columns) possible c.args.rows.now c.in-Some.row.now c.in-Some.ensures.some)
+    ∙ (ap (value_if (agrees plan c.args.var (columns_of c.args.var columns) (filter possible c.args.rows.now))
+    c.args.var) c.first_cell.ensures
+    ∙ agreed_first plan c.args.var (columns_of c.args.var columns) possible c.args.rows.now c.in-Some.row.now
+    c.in-Some.ensures.some)
 
 pub returns-in-None : goal.returns-in-None
 returns-in-None g c =

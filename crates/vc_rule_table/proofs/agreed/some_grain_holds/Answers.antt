@@ -9,14 +9,16 @@ pub returns-then-grain_holds : goal.returns-then-grain_holds
 returns-then-grain_holds c =
     let grains = grains_in (Some c.args.domain.now) in
     sym (any_found (grain_holds grains c.args.value) c.loop-grain.grain (length grains)
-    (omega (arith, c.loop-grain-test.true, c.grain_count-grain-end.ensures)) (sym c.grain_holds.ensures ∙ c.if-grain_holds.true))
+    (omega (arith, c.loop-grain-test.true, c.grain_count-grain-end.ensures))
+    (sym c.grain_holds.ensures ∙ c.if-grain_holds.true))
     ∙ (c.loop-grain.invariant ∙ some_holds grains c.args.value)
 
 pub loop-grain-preserved : goal.loop-grain-preserved
 loop-grain-preserved c =
     let grains = grains_in (Some c.args.domain.now) in
     sym (any_next (grain_holds grains c.args.value) c.loop-grain.grain (length grains)
-    (omega (arith, c.loop-grain-test.true, c.grain_count-grain-end.ensures)) (sym c.grain_holds.ensures ∙ c.if-grain_holds.false))
+    (omega (arith, c.loop-grain-test.true, c.grain_count-grain-end.ensures))
+    (sym c.grain_holds.ensures ∙ c.if-grain_holds.false))
     ∙ c.loop-grain.invariant
 
 pub returns : goal.returns

@@ -9,4 +9,5 @@ use Rattle.vc_rule_table.proofs.agreed.some_grain_holds.Given as goal
 abbrev pub invariant-loop-grain : goal.invariant-loop-grain
 invariant-loop-grain l =
     let grains = grains_in (Some l.domain) in
-    list_any (grain_holds grains l.value) (range_with_len l.grain (length grains - l.grain)) ≡ list_any (grain_holds grains l.value) (numbers_below (length grains))
+    list_any (grain_holds grains l.value) (range_with_len l.grain (length grains - l.grain))
+    ≡ list_any (grain_holds grains l.value) (numbers_below (length grains))

@@ -11,7 +11,8 @@ use Rattle.vc_rule_table.proofs.cells.cite_out_among.Goals as goal
 pub loop-grain-preserved : goal.loop-grain-preserved
 loop-grain-preserved c =
     let grains = grains_in (Some c.args.domain.now) in
-    cited_number (Out c.args.var) (grain_holds grains c.args.value) c.loop-grain.out c.cite_if_holds.new.out c.loop-grain.grain (length grains)
+    cited_number (Out c.args.var) (grain_holds grains c.args.value) c.loop-grain.out c.cite_if_holds.new.out
+    c.loop-grain.grain (length grains)
     (omega (arith, c.loop-grain-test.true, c.grain_count-grain-end.ensures)) c.cite_if_holds.ensures
     ∙ c.loop-grain.invariant
 
@@ -20,5 +21,6 @@ returns c =
     let grains = grains_in (Some c.args.domain.now) in
     let test = grain_holds grains c.args.value in
     sym (ap (λ (gs : List ℕ). cited_all c.loop-grain.out (map (Out c.args.var) gs))
-    (filter_ends test c.loop-grain.grain (length grains) (omega (arith, c.loop-grain-test.false, c.grain_count-grain-end.ensures))))
+    (filter_ends test c.loop-grain.grain (length grains)
+    (omega (arith, c.loop-grain-test.false, c.grain_count-grain-end.ensures))))
     ∙ c.loop-grain.invariant

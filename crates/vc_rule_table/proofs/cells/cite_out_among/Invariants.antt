@@ -11,5 +11,6 @@ use Rattle.vc_rule_table.proofs.cells.cite_out_among.Given as goal
 abbrev pub invariant-loop-grain : goal.invariant-loop-grain
 invariant-loop-grain l =
     let grains = grains_in (Some l.domain) in
-    cited_all l.out (map (Out l.var) (filter (grain_holds grains l.value) (range_with_len l.grain (length grains - l.grain))))
+    cited_all l.out (map (Out l.var)
+    (filter (grain_holds grains l.value) (range_with_len l.grain (length grains - l.grain))))
     ≡ cited_all l.fn.out (out_among grains l.var l.value)

@@ -9,7 +9,8 @@ pub returns-then-holds_left : goal.returns-then-holds_left
 returns-then-holds_left g c =
     let grains = grains_in (Some c.args.domain.now) in
     let test = holds_left grains (g.V.View.seen c.args.view.now) c.args.var c.args.known c.args.value in
-    sym (any_found test c.loop-grain.grain (length grains) (omega (arith, c.loop-grain-test.true, c.grain_count-grain-end.ensures))
+    sym (any_found test c.loop-grain.grain (length grains)
+    (omega (arith, c.loop-grain-test.true, c.grain_count-grain-end.ensures))
     (sym c.holds_left.ensures ∙ c.if-holds_left.true))
     ∙ c.loop-grain.invariant
 
@@ -17,7 +18,8 @@ pub loop-grain-preserved : goal.loop-grain-preserved
 loop-grain-preserved g c =
     let grains = grains_in (Some c.args.domain.now) in
     let test = holds_left grains (g.V.View.seen c.args.view.now) c.args.var c.args.known c.args.value in
-    sym (any_next test c.loop-grain.grain (length grains) (omega (arith, c.loop-grain-test.true, c.grain_count-grain-end.ensures))
+    sym (any_next test c.loop-grain.grain (length grains)
+    (omega (arith, c.loop-grain-test.true, c.grain_count-grain-end.ensures))
     (sym c.holds_left.ensures ∙ c.if-holds_left.false))
     ∙ c.loop-grain.invariant
 
@@ -25,5 +27,6 @@ pub returns : goal.returns
 returns g c =
     let grains = grains_in (Some c.args.domain.now) in
     let test = holds_left grains (g.V.View.seen c.args.view.now) c.args.var c.args.known c.args.value in
-    sym (any_ends test c.loop-grain.grain (length grains) (omega (arith, c.loop-grain-test.false, c.grain_count-grain-end.ensures)))
+    sym (any_ends test c.loop-grain.grain (length grains)
+    (omega (arith, c.loop-grain-test.false, c.grain_count-grain-end.ensures)))
     ∙ c.loop-grain.invariant

@@ -14,8 +14,10 @@ loop-rest-preserved g c =
     let seen = g.V.View.seen c.args.view.now in
     let has = has_grain plan c.args.var (columns_of c.args.var columns) c.args.grain in
     let others = other_columns c.args.var columns in
-    cited_those has (row_reasons plan seen others) c.loop-rest.out c.cite_row_with.new.out c.loop-rest.rest.now c.row-item.result
+    cited_those has (row_reasons plan seen others) c.loop-rest.out c.cite_row_with.new.out c.loop-rest.rest.now
+    c.row-item.result
     c.in-len1-up.len_at_least c.row-item.is
     (c.cite_row_with.ensures
-    ∙ ap (λ (row : List Value). cited_all c.loop-rest.out (rows_reasons plan seen others (filter has (row ∷ [])))) c.as_slice.ensures)
+    ∙ ap (λ (row : List Value). cited_all c.loop-rest.out (rows_reasons plan seen others (filter has (row ∷ []))))
+    c.as_slice.ensures)
     ∙ c.loop-rest.invariant

@@ -11,7 +11,11 @@ pub returns : goal.returns
 returns g c =
     let plan = c.args.plan.now in
     let columns = c.args.columns.now in
-    let premises = rows_reasons plan (g.V.View.seen c.args.view.now) (other_columns c.args.var columns) (filter (has_grain plan c.args.var (columns_of c.args.var columns) c.args.grain) c.args.rows.now) in
-    conclusion_taken c.args.out.now c.cite_rows_with.new.out c.conclude.new.self c.keep_cited.new.self premises (Out c.args.var c.args.grain)
+    let premises
+    = rows_reasons plan (g.V.View.seen c.args.view.now) (other_columns c.args.var columns)
+    (filter (has_grain plan c.args.var (columns_of c.args.var columns) c.args.grain) c.args.rows.now) in
+    conclusion_taken c.args.out.now c.cite_rows_with.new.out c.conclude.new.self c.keep_cited.new.self premises
+    (Out c.args.var c.args.grain)
     c.cite_rows_with.ensures c.conclude.ensures
-    (c.keep_cited.ensures ∙ ap (λ (n : ℕ). with_cites c.conclude.new.self (take n c.conclude.new.self.cites)) c.cited_count-cited.ensures)
+    (c.keep_cited.ensures
+    ∙ ap (λ (n : ℕ). with_cites c.conclude.new.self (take n c.conclude.new.self.cites)) c.cited_count-cited.ensures)

@@ -13,7 +13,8 @@ loop-grain-preserved g c =
     let columns = c.args.columns.now in
     let seen = g.V.View.seen c.args.view.now in
     let possible = filter (is_possible_in plan seen (other_columns c.args.var columns)) c.args.rows.now in
-    concluded_number seen (grain_out plan seen c.args.rows.now columns c.args.var) (is_missing plan c.args.var (columns_of c.args.var columns) possible)
+    concluded_number seen (grain_out plan seen c.args.rows.now columns c.args.var)
+    (is_missing plan c.args.var (columns_of c.args.var columns) possible)
     c.loop-grain.out c.narrow_grain.new.out c.loop-grain.grain (count_of plan c.args.var)
     (omega (arith, c.loop-grain-test.true, c.count_of-grain-end.ensures)) c.narrow_grain.ensures
     ∙ c.loop-grain.invariant

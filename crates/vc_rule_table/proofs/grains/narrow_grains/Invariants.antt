@@ -14,5 +14,8 @@ invariant-loop-grain g l =
     let own = columns_of l.var l.columns in
     let possible = filter (is_possible_in l.plan seen (other_columns l.var l.columns)) l.rows in
     let conclude = grain_out l.plan seen l.rows l.columns l.var in
-    take_conclusions l.out (new_conclusions seen (map conclude (filter (is_missing l.plan l.var own possible) (range_with_len l.grain (count_of l.plan l.var - l.grain)))))
+    take_conclusions l.out
+    (new_conclusions seen
+    (map conclude (filter (is_missing l.plan l.var own possible)
+    (range_with_len l.grain (count_of l.plan l.var - l.grain)))))
     ≡ take_conclusions l.fn.out (new_conclusions seen (map conclude (missing_grains l.plan l.var own possible)))

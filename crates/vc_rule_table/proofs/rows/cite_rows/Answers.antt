@@ -8,7 +8,9 @@ use Rattle.vc_rule_table.proofs.rows.cite_rows.Goals as goal
 
 pub loop-rest-preserved : goal.loop-rest-preserved
 loop-rest-preserved g c =
-    let reasons = row_reasons c.args.plan.now (g.V.View.seen c.args.view.now) (columns_but c.args.but c.args.columns.now) in
-    cited_first reasons c.loop-rest.out c.cite_row.new.out c.loop-rest.rest.now c.row-item.result c.in-len1-up.len_at_least c.row-item.is
+    let reasons
+    = row_reasons c.args.plan.now (g.V.View.seen c.args.view.now) (columns_but c.args.but c.args.columns.now) in
+    cited_first reasons c.loop-rest.out c.cite_row.new.out c.loop-rest.rest.now c.row-item.result
+    c.in-len1-up.len_at_least c.row-item.is
     (c.cite_row.ensures ∙ ap (λ (row : List Value). cited_all c.loop-rest.out (reasons row)) c.as_slice.ensures)
     ∙ c.loop-rest.invariant

@@ -9,4 +9,5 @@ pub returns : goal.returns
 returns g c =
     none_told c.first_misfit.result c.is_none.result c.is_none.ensures
     ∙ (ap is_none c.first_misfit.ensures
-    ∙ none_found (is_possible c.args.plan.now (g.V.View.seen c.args.view.now) c.args.row.now) (columns_but c.args.but c.args.columns.now))
+    ∙ none_found (is_possible c.args.plan.now (g.V.View.seen c.args.view.now) c.args.row.now)
+    (columns_but c.args.but c.args.columns.now))

@@ -10,5 +10,6 @@ pub returns : goal.returns
 returns g c =
     c.clash_now.ensures
     ∙ (ap clashed c.cite_rows.ensures
-    ∙ ap (λ (columns : List Binding). clashed (cited_all c.args.out.now (rows_reasons c.args.plan.now (g.V.View.seen c.args.view.now) columns c.args.rows.now)))
+    ∙ ap (λ (columns : List Binding). clashed
+    (cited_all c.args.out.now (rows_reasons c.args.plan.now (g.V.View.seen c.args.view.now) columns c.args.rows.now)))
     (all_columns c.args.columns.now))

@@ -11,5 +11,6 @@ say_rows-requires g c = record { few = few_grains c.args.plan.now c.requires }
 pub returns : goal.returns
 returns g c =
     c.say_rows.ensures
-    ∙ ap (λ (rows : List (List Value)). taken c.args.out.now (rows_said c.args.plan.now (g.V.View.seen c.args.view.now) c.args.rule.now rows c.args.columns.now))
+    ∙ ap (λ (rows : List (List Value)). taken c.args.out.now
+    (rows_said c.args.plan.now (g.V.View.seen c.args.view.now) c.args.rule.now rows c.args.columns.now))
     c.rows_of.ensures

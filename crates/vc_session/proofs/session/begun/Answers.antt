@@ -6,10 +6,12 @@ use Rattle.vc_session.proofs.session.begun.Goals as goal
 
 pub evaluate-requires-clause-fit : goal.evaluate-requires-clause-fit
 evaluate-requires-clause-fit g c =
-    let users : AreUsersOf c.args.plan.now c.in_ok-users.users = subst (AreUsersOf c.args.plan.now) (sym c.in_ok-users.ensures) (none_of c.args.plan.now) in
+    let users : AreUsersOf c.args.plan.now c.in_ok-users.users
+    = subst (AreUsersOf c.args.plan.now) (sym c.in_ok-users.ensures) (none_of c.args.plan.now) in
     users.fit
 
 pub returns-clause-of : goal.returns-clause-of
 returns-clause-of g c =
-    let users : AreUsersOf c.args.plan.now c.in_ok-users.users = subst (AreUsersOf c.args.plan.now) (sym c.in_ok-users.ensures) (none_of c.args.plan.now) in
+    let users : AreUsersOf c.args.plan.now c.in_ok-users.users
+    = subst (AreUsersOf c.args.plan.now) (sym c.in_ok-users.ensures) (none_of c.args.plan.now) in
     record { users = users; stages = c.evaluate.ensures.of; evaluated = c.evaluate.ensures.evaluated }

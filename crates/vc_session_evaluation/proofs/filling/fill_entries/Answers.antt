@@ -11,7 +11,8 @@ pub loop-var-preserved : goal.loop-var-preserved
 loop-var-preserved c =
     let entries = c.args.overlay.now in
     record {
-      filled = filled_next (λ v. slice_index_or (sources_in entries) v None) c.args.sources.now.written c.loop-var.sources.written
+      filled = filled_next (λ v. slice_index_or (sources_in entries) v None) c.args.sources.now.written
+          c.loop-var.sources.written
           c.set_written.new.self.written (option_map entry_from c.source_of.result) c.loop-var.var
           (omega (arith, c.loop-var-test.true, c.len-var-end.ensures, c.requires.lengths.1))
           c.loop-var.invariant.filled
@@ -25,7 +26,8 @@ returns c =
     let entries = c.args.overlay.now in
     let size = length-map entries (option_map entry_in) in
     let whole : c.loop-var.sources.written ≡ sources_in entries =
-    filled_whole (sources_in entries) c.args.sources.now.written c.loop-var.sources.written c.loop-var.var c.loop-var.invariant.filled
+    filled_whole (sources_in entries) c.args.sources.now.written c.loop-var.sources.written c.loop-var.var
+    c.loop-var.invariant.filled
     (omega (arith, c.loop-var-test.false, c.loop-var.auto.var-end, c.len-var-end.ensures, c.requires.lengths.1))
     (omega (arith, size, c.loop-var-test.false, c.loop-var.auto.var-end, c.len-var-end.ensures, c.requires.overlay)) in
     let kept = c.loop-var.invariant.kept in

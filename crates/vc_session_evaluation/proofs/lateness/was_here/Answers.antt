@@ -20,5 +20,6 @@ returns-in-Some c =
 pub returns-in-None : goal.returns-in-None
 returns-in-None c =
     let nets = c.args.nets.now in
-    ap (λ seen. seen.here c.args.slot) (sym (seen_past said_by nets c.depth_of.result (omega (arith, c.in-None.ensures.lookup))))
+    ap (λ seen. seen.here c.args.slot)
+    (sym (seen_past said_by nets c.depth_of.result (omega (arith, c.in-None.ensures.lookup))))
     ∙ ap (λ k. (seen_at (map said_by nets) k).here c.args.slot) c.depth_of.ensures

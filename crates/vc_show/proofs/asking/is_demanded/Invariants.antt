@@ -12,4 +12,5 @@ invariant-loop-requirement g l =
     let reading = full_reading l.plan (g.R.View.seen l.reading) (g.R.Reading.holdings l.reading) in
     list_any (λ r. same_named r.at l.named && is_true (truth_at l.plan reading r.selection.condition))
     (drop l.requirement-index l.plan.requirements)
-    ≡ list_any (λ r. same_named r.at l.named && is_true (truth_at l.plan reading r.selection.condition)) l.plan.requirements
+    ≡ list_any (λ r. same_named r.at l.named && is_true (truth_at l.plan reading r.selection.condition))
+    l.plan.requirements

@@ -13,7 +13,8 @@ returns-clause-before c =
     let guards = c.args.guards.now in
     let n = c.partition_point.result in
     let point = IsPartitionPoint-from_clause (λ (x : Guard). nat_le (key x) c.args.slot) guards n
-    c.partition_point.ensures.partitioned (IsPartitionedBy-leb key guards c.args.slot (keys_rise key guards c.requires)) (λ a r f called. search rules) in
+    c.partition_point.ensures.partitioned (IsPartitionedBy-leb key guards c.args.slot (keys_rise key guards c.requires))
+    (λ a r f called. search rules) in
     most_before key guards c.args.slot n point
 
 pub returns-clause-after : goal.returns-clause-after
@@ -22,5 +23,6 @@ returns-clause-after c =
     let guards = c.args.guards.now in
     let n = c.partition_point.result in
     let point = IsPartitionPoint-from_clause (λ (x : Guard). nat_le (key x) c.args.slot) guards n
-    c.partition_point.ensures.partitioned (IsPartitionedBy-leb key guards c.args.slot (keys_rise key guards c.requires)) (λ a r f called. search rules) in
+    c.partition_point.ensures.partitioned (IsPartitionedBy-leb key guards c.args.slot (keys_rise key guards c.requires))
+    (λ a r f called. search rules) in
     above_after key guards c.args.slot n point

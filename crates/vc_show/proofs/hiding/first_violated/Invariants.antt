@@ -9,4 +9,5 @@ abbrev pub invariant-loop-guard : goal.invariant-loop-guard
 invariant-loop-guard g l =
     let seen = g.R.View.seen l.reading in
     let reading = full_reading l.plan seen (g.R.Reading.holdings l.reading) in
-    find (is_violated l.plan seen reading) (drop l.guard-index l.plan.guards) ≡ find (is_violated l.plan seen reading) l.plan.guards
+    find (is_violated l.plan seen reading) (drop l.guard-index l.plan.guards)
+    ≡ find (is_violated l.plan seen reading) l.plan.guards

@@ -14,6 +14,8 @@ returns g c =
     let plan = c.args.plan.now in
     let reading = full_reading plan (g.R.View.seen c.args.reading.now) (g.R.Reading.holdings c.args.reading.now) in
     c.some_hides_value.ensures
-    ∙ (ap (list_any (λ (guard : Guard). same_named guard.at c.args.named && covers c.args.grain guard.value && is_forbidden plan reading guard))
-    (c.guards_of.ensures ∙ ap (λ n. filter (λ (guard : Guard). slot_of_guard plan guard == n) plan.guards) c.slot_of.ensures)
+    ∙ (ap (list_any (λ (guard : Guard). same_named guard.at c.args.named && covers c.args.grain guard.value
+    && is_forbidden plan reading guard))
+    (c.guards_of.ensures
+    ∙ ap (λ n. filter (λ (guard : Guard). slot_of_guard plan guard == n) plan.guards) c.slot_of.ensures)
     ∙ value_found plan reading c.args.named c.args.grain)

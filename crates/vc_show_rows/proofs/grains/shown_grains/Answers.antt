@@ -10,7 +10,9 @@ loop-grain-preserved g c =
     let plan = c.args.plan.now in
     let seen = g.R.View.seen c.args.reading.now in
     let reading = full_reading plan seen (g.R.Reading.holdings c.args.reading.now) in (
-      walk_on (shown_grain plan seen reading c.args.var) c.loop-grain.grain c.grain_count-count.result c.loop-grain.out c.put_grain.new.out
-          (shown_grains plan seen reading c.args.var) c.loop-grain-test.true c.in_ok-put_grain.ensures c.loop-grain.invariant.0,
+      walk_on (shown_grain plan seen reading c.args.var) c.loop-grain.grain c.grain_count-count.result c.loop-grain.out
+          c.put_grain.new.out
+          (shown_grains plan seen reading c.args.var) c.loop-grain-test.true c.in_ok-put_grain.ensures
+          c.loop-grain.invariant.0,
       omega (arith, c.loop-grain-test.true),
     )

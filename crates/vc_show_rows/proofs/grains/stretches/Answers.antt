@@ -6,7 +6,8 @@ use Rattle.vc_show_rows.proofs.grains.stretches.Goals as goal
 
 pub loop-grain-preserved : goal.loop-grain-preserved
 loop-grain-preserved c = (
-  stretch_put c.args.grains.now c.loop-grain.grain c.grain.result c.loop-grain.out c.push.new.self (map Stretch c.args.grains.now)
+  stretch_put c.args.grains.now c.loop-grain.grain c.grain.result c.loop-grain.out c.push.new.self
+      (map Stretch c.args.grains.now)
       c.grain.ensures c.in_ok-push.ensures.ok c.loop-grain.invariant.0,
   omega (arith, c.loop-grain-test.true),
 )

@@ -9,5 +9,6 @@ abbrev pub invariant-loop-characteristic : goal.invariant-loop-characteristic
 invariant-loop-characteristic g l =
     let seen = g.R.View.seen l.reading in
     let reading = full_reading l.plan seen (g.R.Reading.holdings l.reading) in
-    l.out ++ flat_map (λ c. row_if l.plan seen reading (named_of l.plan l.slot c)) (drop l.characteristic-index (class_of l.plan l.slot))
+    l.out ++ flat_map (λ c. row_if l.plan seen reading (named_of l.plan l.slot c))
+    (drop l.characteristic-index (class_of l.plan l.slot))
     ≡ rows_of l.plan seen reading l.slot

@@ -5,7 +5,8 @@ use Rattle.vc_syntax_tokens.specs.declared.token.Sign.TheVariants as signs
 use Rattle.vc_syntax.proofs.constraints.operands.Given as goal
 
 abbrev pub invariant-loop-after : goal.invariant-loop-after
-invariant-loop-after l = chained (sign signs.Comma) append (single terms.operand) l.operands l.rest ≡ listed signs.Comma terms.operand l.tokens
+invariant-loop-after l = chained (sign signs.Comma) append (single terms.operand) l.operands l.rest
+    ≡ listed signs.Comma terms.operand l.tokens
 
 abbrev pub decreases-loop-after : goal.decreases-loop-after
 decreases-loop-after l = length l.rest

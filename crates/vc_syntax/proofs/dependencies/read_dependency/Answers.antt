@@ -7,7 +7,8 @@ use Rattle.vc_syntax.proofs.SpelledLaws.{answers_spell, answers_tell, spelled_is
 use Rattle.vc_syntax.proofs.dependencies.read_dependency.Goals as goal
 
 pub returns-clause-found : goal.returns-clause-found
-returns-clause-found c = answers_spell dependency_of c.args.kind c.args.text.now c.read_judged.result c.read_judged.ensures
+returns-clause-found c =
+    answers_spell dependency_of c.args.kind c.args.text.now c.read_judged.result c.read_judged.ensures
 
 pub returns-clause-only : goal.returns-clause-only
 returns-clause-only c = λ tree p.
@@ -15,7 +16,9 @@ returns-clause-only c = λ tree p.
     subst P (spelled_is_found c.args.kind c.args.text.now tree p) c.read_judged.ensures
 
 pub returns-clause-told : goal.returns-clause-told
-returns-clause-told c = λ fault place e. answers_tell dependency_of c.args.kind c.args.text.now c.read_judged.result c.read_judged.ensures fault place e
+returns-clause-told c =
+    λ fault place e. answers_tell dependency_of c.args.kind c.args.text.now c.read_judged.result c.read_judged.ensures
+    fault place e
 
 pub returns-clause-fault : goal.returns-clause-fault
 returns-clause-fault c = λ fault place p.

@@ -10,4 +10,5 @@ use Rattle.vc_syntax.proofs.dependencies.read_judged.Goals as goal
 pub returns : goal.returns
 returns c =
     let P : Result Dependency SyntaxFault → Type 0 = λ r. Answers dependency_of c.judge.result r in
-    subst P (sym (judged_told c.args.kind (tokens_of c.args.text.now) (Ok c.as_slice.result.now) (c.in_ok-tokens.ensures ∙ ap Ok (sym c.as_slice.ensures)))) c.judge.ensures
+    subst P (sym (judged_told c.args.kind (tokens_of c.args.text.now) (Ok c.as_slice.result.now)
+    (c.in_ok-tokens.ensures ∙ ap Ok (sym c.as_slice.ensures)))) c.judge.ensures

@@ -11,5 +11,7 @@ use Rattle.vc_syntax.proofs.dependencies.read_judged_term.Goals as goal
 
 pub returns : goal.returns
 returns c =
-    let P : Result Dependency SyntaxFault → Type 0 = λ r. Answers (λ t. trees.Counts (term_of t.value)) c.judge_term.result r in
-    subst P (sym (judged_told kinds.Term (tokens_of c.args.text.now) (Ok c.as_slice.result.now) (c.in_ok-all.ensures ∙ ap Ok (sym c.as_slice.ensures)))) c.judge_term.ensures
+    let P : Result Dependency SyntaxFault → Type 0
+    = λ r. Answers (λ t. trees.Counts (term_of t.value)) c.judge_term.result r in
+    subst P (sym (judged_told kinds.Term (tokens_of c.args.text.now) (Ok c.as_slice.result.now)
+    (c.in_ok-all.ensures ∙ ap Ok (sym c.as_slice.ensures)))) c.judge_term.ensures

@@ -10,11 +10,13 @@ use Rattle.vc_syntax.proofs.dependencies.read_term.Goals as goal
 
 pub returns-clause-found : goal.returns-clause-found
 returns-clause-found c =
-    answers_spell (λ t. trees.Counts (term_of t.value)) kinds.Term c.args.text.now c.read_judged_term.result c.read_judged_term.ensures
+    answers_spell (λ t. trees.Counts (term_of t.value)) kinds.Term c.args.text.now c.read_judged_term.result
+    c.read_judged_term.ensures
 
 pub returns-clause-only : goal.returns-clause-only
 returns-clause-only c = λ term p.
-    let P : Result Dependency SyntaxFault → Type 0 = λ r. Answers (λ t. trees.Counts (term_of t.value)) c.read_judged_term.result r in
+    let P : Result Dependency SyntaxFault → Type 0
+    = λ r. Answers (λ t. trees.Counts (term_of t.value)) c.read_judged_term.result r in
     subst P (spelled_is_found kinds.Term c.args.text.now (trees.Counts term) p) c.read_judged_term.ensures
 
 pub returns-clause-told : goal.returns-clause-told
@@ -24,5 +26,6 @@ returns-clause-told c = λ fault place e.
 
 pub returns-clause-fault : goal.returns-clause-fault
 returns-clause-fault c = λ fault place p.
-    let P : Result Dependency SyntaxFault → Type 0 = λ r. Answers (λ t. trees.Counts (term_of t.value)) c.read_judged_term.result r in
+    let P : Result Dependency SyntaxFault → Type 0
+    = λ r. Answers (λ t. trees.Counts (term_of t.value)) c.read_judged_term.result r in
     subst P (fault_is_found kinds.Term c.args.text.now fault place p) c.read_judged_term.ensures

@@ -7,10 +7,15 @@ use Rattle.vc_syntax.proofs.StatementSoundness.{binding_shortens}
 use Rattle.vc_syntax.proofs.statements.bindings.Goals as goal
 
 pub loop-after-smaller : goal.loop-after-smaller
-loop-after-smaller c = listed_shorter signs.Comma (reads.binding c.args.left) (binding_shortens c.args.left) c.loop-after.rest.now c.in-Some.after.now c.in_ok-next.after.now
+loop-after-smaller c =
+    listed_shorter signs.Comma (reads.binding c.args.left) (binding_shortens c.args.left) c.loop-after.rest.now
+    c.in-Some.after.now c.in_ok-next.after.now
     (binding_of c.in_ok-next.next) (sym c.in-Some.ensures) c.in_ok-next.ensures
 
 pub loop-after-preserved : goal.loop-after-preserved
-loop-after-preserved c = listed_turn_seen binding_of signs.Comma (reads.binding c.args.left) (binding_shortens c.args.left) c.loop-after.bindings c.push-in-Some.new.self
-    c.loop-after.rest.now c.in-Some.after.now c.in_ok-next.after.now c.in_ok-next.next _ c.in-Some.ensures c.in_ok-next.ensures c.in_ok-push-2.ensures.ok
+loop-after-preserved c =
+    listed_turn_seen binding_of signs.Comma (reads.binding c.args.left) (binding_shortens c.args.left)
+    c.loop-after.bindings c.push-in-Some.new.self
+    c.loop-after.rest.now c.in-Some.after.now c.in_ok-next.after.now c.in_ok-next.next _ c.in-Some.ensures
+    c.in_ok-next.ensures c.in_ok-push-2.ensures.ok
     c.loop-after.invariant

@@ -6,7 +6,9 @@ use Rattle.vc_syntax_tokens.specs.declared.token.Sign.TheVariants as signs
 use Rattle.vc_syntax.proofs.statements.bindings.Given as goal
 
 abbrev pub invariant-loop-after : goal.invariant-loop-after
-invariant-loop-after l = chained (sign signs.Comma) append (single (reads.binding l.left)) (map binding_of l.bindings) l.rest ≡ listed signs.Comma (reads.binding l.left) l.tokens
+invariant-loop-after l =
+    chained (sign signs.Comma) append (single (reads.binding l.left)) (map binding_of l.bindings) l.rest
+    ≡ listed signs.Comma (reads.binding l.left) l.tokens
 
 abbrev pub decreases-loop-after : goal.decreases-loop-after
 decreases-loop-after l = length l.rest

@@ -5,7 +5,8 @@ use Rattle.vc_syntax_print.specs.ConstraintLexemes.{alias_lexemes}
 use Rattle.vc_syntax_print.proofs.constraints.put_aliases_behind.Given as goal
 
 abbrev pub invariant-loop-rest : goal.invariant-loop-rest
-invariant-loop-rest l = l.out ++ each_behind signs.Semicolon alias_lexemes l.rest ≡ l.fn.out ++ each_behind signs.Semicolon alias_lexemes l.aliases
+invariant-loop-rest l = l.out ++ each_behind signs.Semicolon alias_lexemes l.rest
+    ≡ l.fn.out ++ each_behind signs.Semicolon alias_lexemes l.aliases
 
 abbrev pub decreases-loop-rest : goal.decreases-loop-rest
 decreases-loop-rest l = length l.rest

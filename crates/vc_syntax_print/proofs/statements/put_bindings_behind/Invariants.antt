@@ -6,7 +6,8 @@ use Rattle.vc_syntax_terms.specs.Trees.{binding_of}
 use Rattle.vc_syntax_print.proofs.statements.put_bindings_behind.Given as goal
 
 abbrev pub invariant-loop-rest : goal.invariant-loop-rest
-invariant-loop-rest l = l.out ++ each_behind signs.Comma binding_lexemes (map binding_of l.rest) ≡ l.fn.out ++ each_behind signs.Comma binding_lexemes (map binding_of l.bindings)
+invariant-loop-rest l = l.out ++ each_behind signs.Comma binding_lexemes (map binding_of l.rest)
+    ≡ l.fn.out ++ each_behind signs.Comma binding_lexemes (map binding_of l.bindings)
 
 abbrev pub decreases-loop-rest : goal.decreases-loop-rest
 decreases-loop-rest l = length l.rest

@@ -6,7 +6,8 @@ use Rattle.vc_syntax_terms.specs.Trees.{restriction_of}
 use Rattle.vc_syntax_print.proofs.statements.put_restrictions_behind.Given as goal
 
 abbrev pub invariant-loop-rest : goal.invariant-loop-rest
-invariant-loop-rest l = l.out ++ each_behind signs.Comma restriction_lexemes (map restriction_of l.rest) ≡ l.fn.out ++ each_behind signs.Comma restriction_lexemes (map restriction_of l.restrictions)
+invariant-loop-rest l = l.out ++ each_behind signs.Comma restriction_lexemes (map restriction_of l.rest)
+    ≡ l.fn.out ++ each_behind signs.Comma restriction_lexemes (map restriction_of l.restrictions)
 
 abbrev pub decreases-loop-rest : goal.decreases-loop-rest
 decreases-loop-rest l = length l.rest

@@ -6,7 +6,8 @@ use Rattle.vc_syntax_terms.specs.Trees.{statement_of}
 use Rattle.vc_syntax_print.proofs.statements.put_statements_behind.Given as goal
 
 abbrev pub invariant-loop-rest : goal.invariant-loop-rest
-invariant-loop-rest l = l.out ++ each_behind signs.Comma statement_lexemes (map statement_of l.rest) ≡ l.fn.out ++ each_behind signs.Comma statement_lexemes (map statement_of l.statements)
+invariant-loop-rest l = l.out ++ each_behind signs.Comma statement_lexemes (map statement_of l.rest)
+    ≡ l.fn.out ++ each_behind signs.Comma statement_lexemes (map statement_of l.statements)
 
 abbrev pub decreases-loop-rest : goal.decreases-loop-rest
 decreases-loop-rest l = length l.rest

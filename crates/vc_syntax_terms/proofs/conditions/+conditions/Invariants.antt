@@ -25,14 +25,16 @@ decreases-negation_below l = 5 * l.left + 4
 
 abbrev pub invariant-conjunction-loop-after : goal.invariant-conjunction-loop-after
 invariant-conjunction-loop-after l =
-    chained (word words.And) reads.both (reads.negation l.left) (condition_of l.condition.value) l.rest ≡ reads.conjunction l.left l.tokens
+    chained (word words.And) reads.both (reads.negation l.left) (condition_of l.condition.value) l.rest
+    ≡ reads.conjunction l.left l.tokens
 
 abbrev pub decreases-conjunction-loop-after : goal.decreases-conjunction-loop-after
 decreases-conjunction-loop-after l = length l.rest
 
 abbrev pub invariant-condition-loop-after : goal.invariant-condition-loop-after
 invariant-condition-loop-after l =
-    chained (word words.Or) reads.any (reads.conjunction l.left) (condition_of l.condition.value) l.rest ≡ reads.condition l.left l.tokens
+    chained (word words.Or) reads.any (reads.conjunction l.left) (condition_of l.condition.value) l.rest
+    ≡ reads.condition l.left l.tokens
 
 abbrev pub decreases-condition-loop-after : goal.decreases-condition-loop-after
 decreases-condition-loop-after l = length l.rest

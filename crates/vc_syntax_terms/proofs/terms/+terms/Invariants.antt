@@ -19,7 +19,8 @@ decreases-sum l = 4 * l.left + 2
 
 abbrev pub invariant-product-loop-operator : goal.invariant-product-loop-operator
 invariant-product-loop-operator l =
-    chained reads.product_operator join (reads.factor l.left) (term_of l.term.value) l.rest ≡ reads.product l.left l.tokens
+    chained reads.product_operator join (reads.factor l.left) (term_of l.term.value) l.rest
+    ≡ reads.product l.left l.tokens
 
 abbrev pub decreases-product-loop-operator : goal.decreases-product-loop-operator
 decreases-product-loop-operator l = length l.rest

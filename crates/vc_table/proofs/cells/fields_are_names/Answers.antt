@@ -14,8 +14,11 @@ returns-in_default c =
     let field = c.in-Some.field.now in
     let so_far : are_names (drop i columns) (drop i fields) ≡ are_names columns fields = c.loop-index.invariant in
     let here = names_step (drop i columns) (drop (i + 1) columns) (drop i fields) (drop (i + 1) fields) column field
-    (drop_at columns i column c.loop-index-test.true c.index-columns-index.is) (field_drop fields i field (sym c.in-Some.ensures.value)) in
-    let other : same_ignoring_case column.name field ≡ false = sym (ap (λ name. same_ignoring_case name field) c.bytes.ensures) ∙ sym c.equals_ignoring_case.ensures ∙ c.if-equals_ignoring_case.false in
+    (drop_at columns i column c.loop-index-test.true c.index-columns-index.is)
+    (field_drop fields i field (sym c.in-Some.ensures.value)) in
+    let other : same_ignoring_case column.name field ≡ false
+    = sym (ap (λ name. same_ignoring_case name field) c.bytes.ensures) ∙ sym c.equals_ignoring_case.ensures
+    ∙ c.if-equals_ignoring_case.false in
     sym (sym so_far ∙ here ∙ ap (λ b. b && are_names (drop (i + 1) columns) (drop (i + 1) fields)) other)
 
 pub returns-in_default-2 : goal.returns-in_default-2
@@ -26,7 +29,8 @@ returns-in_default-2 c =
     let column = c.index-columns-index.result in
     let so_far : are_names (drop i columns) (drop i fields) ≡ are_names columns fields = c.loop-index.invariant in
     let missing = rw c.in_default.is at c.get.ensures.value in
-    sym (sym so_far ∙ names_none (drop i columns) (drop (i + 1) columns) (drop i fields) column (drop_at columns i column c.loop-index-test.true c.index-columns-index.is) (field_none fields i (sym missing)))
+    sym (sym so_far ∙ names_none (drop i columns) (drop (i + 1) columns) (drop i fields) column
+    (drop_at columns i column c.loop-index-test.true c.index-columns-index.is) (field_none fields i (sym missing)))
 
 pub loop-index-preserved : goal.loop-index-preserved
 loop-index-preserved c =
@@ -37,6 +41,9 @@ loop-index-preserved c =
     let field = c.in-Some.field.now in
     let so_far : are_names (drop i columns) (drop i fields) ≡ are_names columns fields = c.loop-index.invariant in
     let here = names_step (drop i columns) (drop (i + 1) columns) (drop i fields) (drop (i + 1) fields) column field
-    (drop_at columns i column c.loop-index-test.true c.index-columns-index.is) (field_drop fields i field (sym c.in-Some.ensures.value)) in
-    let same : same_ignoring_case column.name field ≡ true = sym (ap (λ name. same_ignoring_case name field) c.bytes.ensures) ∙ sym c.equals_ignoring_case.ensures ∙ c.if-equals_ignoring_case.true in
+    (drop_at columns i column c.loop-index-test.true c.index-columns-index.is)
+    (field_drop fields i field (sym c.in-Some.ensures.value)) in
+    let same : same_ignoring_case column.name field ≡ true
+    = sym (ap (λ name. same_ignoring_case name field) c.bytes.ensures) ∙ sym c.equals_ignoring_case.ensures
+    ∙ c.if-equals_ignoring_case.true in
     sym (here ∙ ap (λ b. b && are_names (drop (i + 1) columns) (drop (i + 1) fields)) same) ∙ so_far

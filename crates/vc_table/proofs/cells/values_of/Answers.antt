@@ -12,8 +12,12 @@ returns-in_default c =
     let fields = fields_of c.args.row.now in
     let column = c.index-columns-index.result in
     let found = c.loop-index.cells.items in
-    let so_far : option_map (λ more. found ++ more) (values_of (drop i columns) (drop i fields)) ≡ values_of columns fields = c.loop-index.invariant in
-    let none = values_none (drop i columns) (drop (i + 1) columns) (drop i fields) column (drop_at columns i column c.loop-index-test.true c.index-columns-index.is) (field_none fields i (sym c.in_default.ensures.value)) in
+    let so_far : option_map (λ more. found ++ more) (values_of (drop i columns) (drop i fields))
+    ≡ values_of columns fields = c.loop-index.invariant in
+    let none
+    = values_none (drop i columns) (drop (i + 1) columns) (drop i fields) column
+    (drop_at columns i column c.loop-index-test.true c.index-columns-index.is)
+    (field_none fields i (sym c.in_default.ensures.value)) in
     sym (sym so_far ∙ ap (option_map (λ more. found ++ more)) none)
 
 pub returns-in_default-value_of : goal.returns-in_default-value_of
@@ -24,11 +28,16 @@ returns-in_default-value_of c =
     let column = c.index-columns-index.result in
     let field = c.in-Some.field.now in
     let found = c.loop-index.cells.items in
-    let so_far : option_map (λ more. found ++ more) (values_of (drop i columns) (drop i fields)) ≡ values_of columns fields = c.loop-index.invariant in
+    let so_far : option_map (λ more. found ++ more) (values_of (drop i columns) (drop i fields))
+    ≡ values_of columns fields = c.loop-index.invariant in
     let here = values_step (drop i columns) (drop (i + 1) columns) (drop i fields) (drop (i + 1) fields) column field
-    (drop_at columns i column c.loop-index-test.true c.index-columns-index.is) (field_drop fields i field (sym c.in-Some.ensures.value)) in
+    (drop_at columns i column c.loop-index-test.true c.index-columns-index.is)
+    (field_drop fields i field (sym c.in-Some.ensures.value)) in
     let none : value_of column field ≡ None = sym c.value_of.ensures ∙ c.in_default-value_of.is in
-    sym (sym so_far ∙ ap (option_map (λ more. found ++ more)) (here ∙ ap (option_and_then (λ value. option_map (λ values. value ∷ values) (values_of (drop (i + 1) columns) (drop (i + 1) fields)))) none))
+    sym (sym so_far ∙ ap (option_map (λ more. found ++ more))
+    (here ∙ ap (option_and_then
+    (λ value. option_map (λ values. value ∷ values) (values_of (drop (i + 1) columns) (drop (i + 1) fields))))
+    none))
 
 pub loop-index-preserved : goal.loop-index-preserved
 loop-index-preserved c =
@@ -40,9 +49,11 @@ loop-index-preserved c =
     let found = c.loop-index.cells.items in
     let more = values_of (drop (i + 1) columns) (drop (i + 1) fields) in
     let value = c.in-Some-value_of.value in
-    let so_far : option_map (λ more. found ++ more) (values_of (drop i columns) (drop i fields)) ≡ values_of columns fields = c.loop-index.invariant in
+    let so_far : option_map (λ more. found ++ more) (values_of (drop i columns) (drop i fields))
+    ≡ values_of columns fields = c.loop-index.invariant in
     let here = values_step (drop i columns) (drop (i + 1) columns) (drop i fields) (drop (i + 1) fields) column field
-    (drop_at columns i column c.loop-index-test.true c.index-columns-index.is) (field_drop fields i field (sym c.in-Some.ensures.value)) in
+    (drop_at columns i column c.loop-index-test.true c.index-columns-index.is)
+    (field_drop fields i field (sym c.in-Some.ensures.value)) in
     let is : value_of column field ≡ Some value = sym c.value_of.ensures ∙ c.in-Some-value_of.is in
     let step = here ∙ ap (option_and_then (λ value. option_map (λ values. value ∷ values) more)) is in
     ap (λ found. option_map (λ rest. found ++ rest) more) c.in_ok-push.ensures.items

@@ -13,5 +13,6 @@ invariant-loop-row l = record {
   config : l.row-iterator.rdr.config ≡ default_config;
   few : length l.rows.items ≤ l.most;
   reached : (rest : List ℕ) × (source_of (λ s. Some s.now) l.row-iterator.rdr ≡ Some rest)
-      × Reached default_config st.StartRecord (strip_bom l.fn.text) (map fields_of l.rows.items) l.row-iterator.rdr.state rest;
+      × Reached default_config st.StartRecord (strip_bom l.fn.text) (map fields_of l.rows.items)
+      l.row-iterator.rdr.state rest;
 }

@@ -5,6 +5,7 @@ use Rattle.vc_table.proofs.table.read_rows.Given as goal
 
 abbrev pub invariant-loop-index : goal.invariant-loop-index
 invariant-loop-index l = record {
-  so_far : rows_from l.columns (l.index + 2) l.rows (map fields_of (drop l.index l.records)) ≡ rows_from l.columns 2 [] (map fields_of l.records);
+  so_far : rows_from l.columns (l.index + 2) l.rows (map fields_of (drop l.index l.records))
+      ≡ rows_from l.columns 2 [] (map fields_of l.records);
   keys : has_keys l.columns ≡ true → l.keys ≡ map (λ row. key_of l.columns row.cells) l.rows;
 }

@@ -14,9 +14,11 @@ loop-leaf-preserved c =
     let before = value_of c.loop-leaf.met in
     record {
       met = λ name.
-          met_more name_seen leaves i leaf name (before name) (value_of c.add.new.self name) true c.loop-leaf-test.true c.leaf-item.is
+          met_more name_seen leaves i leaf name (before name) (value_of c.add.new.self name) true c.loop-leaf-test.true
+          c.leaf-item.is
           (c.loop-leaf.invariant.met name)
-          (c.in_ok-add.ensures name ∙ ap (λ n. option_or (before name) (if bytes_eq n name then Some true else None)) c.bytes-name.ensures);
+          (c.in_ok-add.ensures name
+          ∙ ap (λ n. option_or (before name) (if bytes_eq n name then Some true else None)) c.bytes-name.ensures);
       none =
           still_once name_seen leaves i leaf c.loop-leaf-test.true c.leaf-item.is c.loop-leaf.invariant.none
           (sym (c.loop-leaf.invariant.met (name_seen leaf)) ∙ ap (λ n. is_some (before n)) (sym c.bytes-name.ensures)

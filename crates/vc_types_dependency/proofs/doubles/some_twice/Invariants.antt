@@ -8,6 +8,7 @@ use Rattle.vc_types_dependency.proofs.doubles.some_twice.Given as goal
 
 abbrev pub invariant-loop-leaf : goal.invariant-loop-leaf
 invariant-loop-leaf l = record {
-  met : (name : List ℕ) → is_some (value_of l.met name) ≡ list_any (λ n. bytes_eq n name) (names_seen (take l.leaf-index l.leaves));
+  met : (name : List ℕ)
+      → is_some (value_of l.met name) ≡ list_any (λ n. bytes_eq n name) (names_seen (take l.leaf-index l.leaves));
   none : some_twice (names_seen (take l.leaf-index l.leaves)) ≡ false;
 }

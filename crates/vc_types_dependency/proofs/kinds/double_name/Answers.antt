@@ -10,14 +10,18 @@ pub returns-then-declared : goal.returns-then-declared
 returns-then-declared c =
     let found = c.args.found.now in
     or_then c.in_ok-declared.declared c.in_ok-named.named c.if-declared.true
-    ∙ double_is (setting_in found) (tree_in found) c.objects_in.result.now (calls_seen found.parts.now.calls) c.in_ok-declared.declared c.in_ok-named.named
+    ∙ double_is (setting_in found) (tree_in found) c.objects_in.result.now (calls_seen found.parts.now.calls)
+    c.in_ok-declared.declared c.in_ok-named.named
     c.requires.variables c.in_ok-declared.ensures c.objects_in.ensures
-    (c.in_ok-named.ensures ∙ ap (λ calls. list_any names_column_twice (calls_seen calls)) c.as_slice.ensures) c.requires.parts.calls
+    (c.in_ok-named.ensures ∙ ap (λ calls. list_any names_column_twice (calls_seen calls)) c.as_slice.ensures)
+    c.requires.parts.calls
 
 pub returns-else-declared : goal.returns-else-declared
 returns-else-declared c =
     let found = c.args.found.now in
     or_else c.in_ok-declared.declared c.in_ok-named.named c.if-declared.false
-    ∙ double_is (setting_in found) (tree_in found) c.objects_in.result.now (calls_seen found.parts.now.calls) c.in_ok-declared.declared c.in_ok-named.named
+    ∙ double_is (setting_in found) (tree_in found) c.objects_in.result.now (calls_seen found.parts.now.calls)
+    c.in_ok-declared.declared c.in_ok-named.named
     c.requires.variables c.in_ok-declared.ensures c.objects_in.ensures
-    (c.in_ok-named.ensures ∙ ap (λ calls. list_any names_column_twice (calls_seen calls)) c.as_slice.ensures) c.requires.parts.calls
+    (c.in_ok-named.ensures ∙ ap (λ calls. list_any names_column_twice (calls_seen calls)) c.as_slice.ensures)
+    c.requires.parts.calls

@@ -10,5 +10,6 @@ use Rattle.vc_types_dependency.proofs.kinds.operand_lacks_parent.Goals as goal
 pub returns : goal.returns
 returns c =
     let found = c.args.found.now in
-    c.some_lacks_parent.ensures ∙ ap (list_any (λ u. lacks_parent u.meaning)) (c.as_slice.ensures ∙ c.requires.leaves.uses)
+    c.some_lacks_parent.ensures
+    ∙ ap (list_any (λ u. lacks_parent u.meaning)) (c.as_slice.ensures ∙ c.requires.leaves.uses)
     ∙ any_map (λ u. lacks_parent u.meaning) (met (setting_in found)) (uses_in (tree_in found))

@@ -10,5 +10,6 @@ use Rattle.vc_types_dependency.proofs.kinds.other_variable.Goals as goal
 pub returns : goal.returns
 returns c =
     let found = c.args.found.now in
-    c.some_other_variable.ensures ∙ ap (list_any (λ u. is_other_variable u.meaning)) (c.as_slice.ensures ∙ c.requires.leaves.uses)
+    c.some_other_variable.ensures
+    ∙ ap (list_any (λ u. is_other_variable u.meaning)) (c.as_slice.ensures ∙ c.requires.leaves.uses)
     ∙ any_map (λ u. is_other_variable u.meaning) (met (setting_in found)) (uses_in (tree_in found))

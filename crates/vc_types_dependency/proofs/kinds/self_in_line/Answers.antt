@@ -10,5 +10,6 @@ use Rattle.vc_types_dependency.proofs.kinds.self_in_line.Goals as goal
 pub returns : goal.returns
 returns c =
     let found = c.args.found.now in
-    c.some_self_in_line.ensures ∙ ap (list_any (λ u. is_self_in_line u.meaning)) (c.as_slice.ensures ∙ c.requires.leaves.uses)
+    c.some_self_in_line.ensures
+    ∙ ap (list_any (λ u. is_self_in_line u.meaning)) (c.as_slice.ensures ∙ c.requires.leaves.uses)
     ∙ any_map (λ u. is_self_in_line u.meaning) (met (setting_in found)) (uses_in (tree_in found))

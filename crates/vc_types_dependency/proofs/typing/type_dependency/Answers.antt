@@ -8,7 +8,8 @@ pub returns-clause-typed : goal.returns-clause-typed
 returns-clause-typed c =
     let model = c.args.names.now.model.now in
     let place = c.args.place.now in
-    let P : Dependency → Type 0 = λ t. IfOk c.type_tree.result (λ typed. (fault_of model place t ≡ None) × IsTyped model place t typed) in
+    let P : Dependency → Type 0
+    = λ t. IfOk c.type_tree.result (λ typed. (fault_of model place t ≡ None) × IsTyped model place t typed) in
     subst P c.borrowed.ensures c.type_tree.ensures.typed
 
 pub returns-clause-bad : goal.returns-clause-bad

@@ -7,5 +7,6 @@ use Rattle.vc_types_faults.proofs.columns.binds_some_other.Given as goal
 
 abbrev pub invariant-loop-binding : goal.invariant-loop-binding
 invariant-loop-binding l =
-    list_any (λ b. is_other (bound_column (seen l.setting) (table_call_of l.call) b)) (map binding_of (drop l.binding-index l.bindings))
+    list_any (λ b. is_other (bound_column (seen l.setting) (table_call_of l.call) b))
+    (map binding_of (drop l.binding-index l.bindings))
     ≡ list_any (λ b. is_other (bound_column (seen l.setting) (table_call_of l.call) b)) (map binding_of l.bindings)

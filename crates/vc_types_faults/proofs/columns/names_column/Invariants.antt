@@ -8,5 +8,7 @@ use Rattle.vc_types_faults.proofs.columns.names_column.Given as goal
 
 abbrev pub invariant-loop-binding : goal.invariant-loop-binding
 invariant-loop-binding l =
-    list_any (λ b. is_number l.column.characteristic (characteristic_named (seen l.setting).model b.column.name)) (map binding_of (drop l.binding-index l.bindings))
-    ≡ list_any (λ b. is_number l.column.characteristic (characteristic_named (seen l.setting).model b.column.name)) (map binding_of l.bindings)
+    list_any (λ b. is_number l.column.characteristic (characteristic_named (seen l.setting).model b.column.name))
+    (map binding_of (drop l.binding-index l.bindings))
+    ≡ list_any (λ b. is_number l.column.characteristic (characteristic_named (seen l.setting).model b.column.name))
+    (map binding_of l.bindings)

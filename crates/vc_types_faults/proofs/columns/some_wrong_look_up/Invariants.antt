@@ -8,5 +8,7 @@ use Rattle.vc_types_faults.proofs.columns.some_wrong_look_up.Given as goal
 
 abbrev pub invariant-loop-call : goal.invariant-loop-call
 invariant-loop-call l =
-    list_any (λ call. looks_up_wrongly (seen l.setting) call (table_named (seen l.setting).model call.table.name)) (calls_seen (drop l.call-index l.calls))
-    ≡ list_any (λ call. looks_up_wrongly (seen l.setting) call (table_named (seen l.setting).model call.table.name)) (calls_seen l.calls)
+    list_any (λ call. looks_up_wrongly (seen l.setting) call (table_named (seen l.setting).model call.table.name))
+    (calls_seen (drop l.call-index l.calls))
+    ≡ list_any (λ call. looks_up_wrongly (seen l.setting) call (table_named (seen l.setting).model call.table.name))
+    (calls_seen l.calls)

@@ -6,5 +6,7 @@ use Rattle.vc_types_faults.proofs.names.some_item_has.Given as goal
 
 abbrev pub invariant-loop-item : goal.invariant-loop-item
 invariant-loop-item l =
-    list_any (λ class. is_some (member_in (slice_get (l.names.model.now).classes class) l.characteristic)) (filter_map (component_class l.names.model.now) (drop l.item-index l.items))
-    ≡ list_any (λ class. is_some (member_in (slice_get (l.names.model.now).classes class) l.characteristic)) (filter_map (component_class l.names.model.now) l.items)
+    list_any (λ class. is_some (member_in (slice_get (l.names.model.now).classes class) l.characteristic))
+    (filter_map (component_class l.names.model.now) (drop l.item-index l.items))
+    ≡ list_any (λ class. is_some (member_in (slice_get (l.names.model.now).classes class) l.characteristic))
+    (filter_map (component_class l.names.model.now) l.items)

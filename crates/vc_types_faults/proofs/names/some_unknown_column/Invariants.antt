@@ -7,5 +7,6 @@ use Rattle.vc_types_faults.proofs.names.some_unknown_column.Given as goal
 
 abbrev pub invariant-loop-binding : goal.invariant-loop-binding
 invariant-loop-binding l =
-    list_any (is_unknown_column (seen l.setting) (table_call_of l.call)) (map binding_of (drop l.binding-index l.bindings))
+    list_any (is_unknown_column (seen l.setting) (table_call_of l.call))
+    (map binding_of (drop l.binding-index l.bindings))
     ≡ list_any (is_unknown_column (seen l.setting) (table_call_of l.call)) (map binding_of l.bindings)

@@ -7,5 +7,6 @@ use Rattle.vc_types_faults.proofs.places.some_restriction_asks_part.Given as goa
 
 abbrev pub invariant-loop-restriction : goal.invariant-loop-restriction
 invariant-loop-restriction l =
-    list_any asks_part (flat_map condition_of_restriction (map restriction_of (drop l.restriction-index l.restrictions)))
+    list_any asks_part (flat_map condition_of_restriction
+    (map restriction_of (drop l.restriction-index l.restrictions)))
     ≡ list_any asks_part (flat_map condition_of_restriction (map restriction_of l.restrictions))

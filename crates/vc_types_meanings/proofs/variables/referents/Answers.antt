@@ -6,7 +6,9 @@ use Rattle.vc_types_meanings.proofs.variables.referents.Goals as goal
 
 pub loop-object-preserved : goal.loop-object-preserved
 loop-object-preserved c = λ name.
-    next_added (variables_of_object c.args.names.now.model.now) c.args.objects.now c.loop-object.object-index c.object-item.result name
-    (value_of c.loop-object.variables name) (value_of c.add_object.new.variables name) c.loop-object-test.true c.object-item.is
+    next_added (variables_of_object c.args.names.now.model.now) c.args.objects.now c.loop-object.object-index
+    c.object-item.result name
+    (value_of c.loop-object.variables name) (value_of c.add_object.new.variables name) c.loop-object-test.true
+    c.object-item.is
     (c.in_ok-add_object.ensures name)
     ∙ c.loop-object.invariant name

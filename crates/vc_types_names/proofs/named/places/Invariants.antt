@@ -5,4 +5,5 @@ use Rattle.vc_types_names.specs.FirstNames.{value_of}
 use Rattle.vc_types_names.proofs.named.places.Given as goal
 
 abbrev pub invariant-loop-number : goal.invariant-loop-number
-invariant-loop-number g l = (name : List ℕ) → value_of l.index name ≡ position (λ x. bytes_eq (g.T.Named.name_of x) name) (take l.number l.list)
+invariant-loop-number g l = (name : List ℕ)
+    → value_of l.index name ≡ position (λ x. bytes_eq (g.T.Named.name_of x) name) (take l.number l.list)

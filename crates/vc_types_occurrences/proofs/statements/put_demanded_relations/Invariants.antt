@@ -6,5 +6,6 @@ use Rattle.vc_types_occurrences.proofs.statements.put_demanded_relations.Given a
 
 abbrev pub invariant-loop-restriction : goal.invariant-loop-restriction
 invariant-loop-restriction l =
-    relations_seen l.out ++ flat_map (λ r. relation_of_demand r.demand) (map restriction_of (drop l.restriction-index l.restrictions))
+    relations_seen l.out
+    ++ flat_map (λ r. relation_of_demand r.demand) (map restriction_of (drop l.restriction-index l.restrictions))
     ≡ relations_seen l.fn.out ++ flat_map (λ r. relation_of_demand r.demand) (map restriction_of l.restrictions)

@@ -6,5 +6,6 @@ use Rattle.vc_types_occurrences.proofs.statements.put_restriction_conditions.Giv
 
 abbrev pub invariant-loop-restriction : goal.invariant-loop-restriction
 invariant-loop-restriction l =
-    conditions_seen l.out ++ flat_map condition_of_restriction (map restriction_of (drop l.restriction-index l.restrictions))
+    conditions_seen l.out
+    ++ flat_map condition_of_restriction (map restriction_of (drop l.restriction-index l.restrictions))
     ≡ conditions_seen l.fn.out ++ flat_map condition_of_restriction (map restriction_of l.restrictions)

@@ -7,5 +7,6 @@ use Rattle.vc_types_occurrences.proofs.uses.put_all_specified.Given as goal
 
 abbrev pub invariant-loop-condition : goal.invariant-loop-condition
 invariant-loop-condition l =
-    l.out ++ all_met (seen l.setting) (map as_set (flat_map specified_in (conditions_seen (drop l.condition-index l.conditions))))
+    l.out ++ all_met (seen l.setting)
+    (map as_set (flat_map specified_in (conditions_seen (drop l.condition-index l.conditions))))
     ≡ l.fn.out ++ all_met (seen l.setting) (map as_set (flat_map specified_in (conditions_seen l.conditions)))

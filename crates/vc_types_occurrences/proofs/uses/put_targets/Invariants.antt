@@ -7,5 +7,8 @@ use Rattle.vc_types_occurrences.proofs.uses.put_targets.Given as goal
 
 abbrev pub invariant-loop-statement : goal.invariant-loop-statement
 invariant-loop-statement l =
-    l.out ++ all_met (seen l.setting) (map as_value (flat_map (λ statement. target_of statement.action) (map statement_of (drop l.statement-index l.statements))))
-    ≡ l.fn.out ++ all_met (seen l.setting) (map as_value (flat_map (λ statement. target_of statement.action) (map statement_of l.statements)))
+    l.out ++ all_met (seen l.setting)
+    (map as_value (flat_map (λ statement. target_of statement.action)
+    (map statement_of (drop l.statement-index l.statements))))
+    ≡ l.fn.out ++ all_met (seen l.setting)
+    (map as_value (flat_map (λ statement. target_of statement.action) (map statement_of l.statements)))

@@ -5,4 +5,5 @@ use Rattle.vc_value.proofs.DigitLemmas.{significant_all}
 use Rattle.vc_value.proofs.decimal.millionths_of.Goals as goal
 
 pub number_of-requires-clause-digits : goal.number_of-requires-clause-digits
-number_of-requires-clause-digits c = ap (list_all is_ascii_digit) c.significant.ensures ∙ significant_all is_ascii_digit c.args.whole.now c.requires.whole
+number_of-requires-clause-digits c = ap (list_all is_ascii_digit) c.significant.ensures
+    ∙ significant_all is_ascii_digit c.args.whole.now c.requires.whole

@@ -12,6 +12,7 @@ returns c =
     let names = map (λ k. k.items) keys in
     ap (map (λ k. k.items)) c.in_ok-insert_full.ensures.keys
     ∙ insert-map (λ k. k.items) (list_any (λ k. pointwise nat_eq key.items k.items) keys) keys key
-    ∙ ap (λ there. if there then names else names ++ key.items ∷ []) (sym (list_any-map (λ k. k.items) (pointwise nat_eq key.items) keys))
+    ∙ ap (λ there. if there then names else names ++ key.items ∷ [])
+    (sym (list_any-map (λ k. k.items) (pointwise nat_eq key.items) keys))
     ∙ ap (λ names. with_name names key.items) c.self.view_is
     ∙ ap (with_name c.args.self.now) c.in_ok-key.ensures.items

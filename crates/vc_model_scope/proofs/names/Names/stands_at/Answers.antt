@@ -19,9 +19,13 @@ returns-in-Some c = λ same.
     let slice = c.as_slice.result.now in
     let found = c.in-Some.ensures.lookup in
     let at : slice_get keys place ≡ Some there =
-    ap (λ ks. slice_get ks place) (sym c.as_slice.ensures.keys) ∙ slice_get_read slice (length slice) place there refl found.3.0 found.1 in
-    let is : there.items ≡ name = sym c.as_slice-in-Some.ensures.value ∙ same_text c.as_slice-in-Some.result.now name (sym same ∙ c.eq.ensures) in
+    ap (λ ks. slice_get ks place) (sym c.as_slice.ensures.keys)
+    ∙ slice_get_read slice (length slice) place there refl found.3.0 found.1 in
+    let is : there.items ≡ name
+    = sym c.as_slice-in-Some.ensures.value
+    ∙ same_text c.as_slice-in-Some.result.now name (sym same ∙ c.eq.ensures) in
     ap (λ names. place_of names name) (sym c.self.view_is)
     ∙ (position-map bytes (pointwise nat_eq name) keys
     ∙ (ap (λ n. position (λ k. pointwise nat_eq n k.items) keys) (sym is)
-    ∙ position-IsDistinct (λ x y. pointwise nat_eq x.items y.items) (on_texts_equal bytes) keys place there c.as_slice.ensures.unique at))
+    ∙ position-IsDistinct (λ x y. pointwise nat_eq x.items y.items) (on_texts_equal bytes) keys place there
+    c.as_slice.ensures.unique at))

@@ -12,8 +12,11 @@ invariant_of-self c =
     let s = c.self.inside in
     let below : c.args.number < s.stack.room = omega (arith, c.if-number-room.true, c.room.ensures) in
     let new : has nat_eq s.stack.items c.args.number ≡ false
-    = ap (λ (list : Filled ℕ). has nat_eq list.items c.args.number) c.self.view_is ∙ (sym c.has.ensures ∙ c.if-not-has.true) in
-    let both = is_pushed s.flags c.set.new.self s.stack c.push.new.self c.args.number c.self.invariant below new c.set.ensures
+    = ap (λ (list : Filled ℕ). has nat_eq list.items c.args.number) c.self.view_is
+    ∙ (sym c.has.ensures ∙ c.if-not-has.true) in
+    let both
+    = is_pushed s.flags c.set.new.self s.stack c.push.new.self c.args.number c.self.invariant below new
+    c.set.ensures
     c.push.ensures in
     both.0
 
@@ -22,7 +25,10 @@ returns-then-not-has c =
     let s = c.self.inside in
     let below : c.args.number < s.stack.room = omega (arith, c.if-number-room.true, c.room.ensures) in
     let new : has nat_eq s.stack.items c.args.number ≡ false
-    = ap (λ (list : Filled ℕ). has nat_eq list.items c.args.number) c.self.view_is ∙ (sym c.has.ensures ∙ c.if-not-has.true) in
-    let both = is_pushed s.flags c.set.new.self s.stack c.push.new.self c.args.number c.self.invariant below new c.set.ensures
+    = ap (λ (list : Filled ℕ). has nat_eq list.items c.args.number) c.self.view_is
+    ∙ (sym c.has.ensures ∙ c.if-not-has.true) in
+    let both
+    = is_pushed s.flags c.set.new.self s.stack c.push.new.self c.args.number c.self.invariant below new
+    c.set.ensures
     c.push.ensures in
     both.1 ∙ ap (λ list. pushed list c.args.number) c.self.view_is

@@ -17,9 +17,11 @@ returns-in_ok-push-clause-counts c =
     (search rules) in
     let kept : c.push.new.self ≡ map (column_counts plan) c.insert_full.new.self.keys
     = c.in_ok-push.ensures.ok
-    ∙ (kept_more plan c.args.column columns c.self.inside.counts c.in_ok-count_column.field-0 before c.in_ok-count_column.ensures
+    ∙ (kept_more plan c.args.column columns c.self.inside.counts c.in_ok-count_column.field-0 before
+    c.in_ok-count_column.ensures
     ∙ ap (map (column_counts plan)) (sym grown)) in
-    stored_counts plan c.args.column stored.0 c.insert_full.new.self.keys c.push.new.self c.in_ok-place.place kept stored.1
+    stored_counts plan c.args.column stored.0 c.insert_full.new.self.keys c.push.new.self c.in_ok-place.place kept
+    stored.1
     (same_column c.args.column stored.0 stored.2)
   where
     same : Column → Bool
@@ -32,5 +34,6 @@ returns-else-is_new-clause-counts c =
     let plan = c.args.plan.now in
     let stored = c.in_ok-place.ensures.stored in
     let kept : c.self.inside.counts ≡ map (column_counts plan) c.insert_full.new.self.keys = search rules in
-    stored_counts plan c.args.column stored.0 c.insert_full.new.self.keys c.self.inside.counts c.in_ok-place.place kept stored.1
+    stored_counts plan c.args.column stored.0 c.insert_full.new.self.keys c.self.inside.counts c.in_ok-place.place kept
+    stored.1
     (same_column c.args.column stored.0 stored.2)

@@ -1,7 +1,8 @@
 -- The step comes at the end, its premises into the cells of its place.
 use Rattle.std.proofs.Common.{◌≡◌, ◌∙◌, ◌^◌, ◌<◌, ap, arith, length, sym}
 use Rattle.vc_net_places.specs.Places.{Index, place_in}
-use Rattle.vc_net_log.proofs.PushLaws.{cells_suffice, free, outs_small, places_small, premises_small, stays_kept, step_comes}
+use Rattle.vc_net_log.proofs.PushLaws.{cells_suffice, free, outs_small, places_small, premises_small, stays_kept}
+use Rattle.vc_net_log.proofs.PushLaws.{step_comes}
 use Rattle.vc_net_log.proofs.log.Log.push.Goals as goal
 
 pub write_places-requires-clause-room : goal.write_places-requires-clause-room

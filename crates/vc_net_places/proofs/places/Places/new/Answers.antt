@@ -9,7 +9,8 @@ use Rattle.vc_net_places.proofs.places.Places.new.Goals as goal
 pub overflow_cast-len : goal.overflow_cast-len
 overflow_cast-len c =
     let s : IsSmall c.args.plan.now c.loop-var.var (2 ^ 32)
-    = small c.args.plan.now c.loop-var.var (2 ^ 32) (omega (arith, c.loop-var-test.true, c.len-var-end.ensures)) c.requires in
+    = small c.args.plan.now c.loop-var.var (2 ^ 32) (omega (arith, c.loop-var-test.true, c.len-var-end.ensures))
+    c.requires in
     let is : c.len.result ≡ first_place c.args.plan.now c.loop-var.var
     = c.len.ensures ∙ (ap length c.loop-var.invariant.1 ∙ things_length c.args.plan.now c.loop-var.var) in
     omega (arith, s.first, is)
@@ -17,13 +18,15 @@ overflow_cast-len c =
 pub overflow_cast-var : goal.overflow_cast-var
 overflow_cast-var c =
     let s : IsSmall c.args.plan.now c.loop-var.var (2 ^ 32)
-    = small c.args.plan.now c.loop-var.var (2 ^ 32) (omega (arith, c.loop-var-test.true, c.len-var-end.ensures)) c.requires in
+    = small c.args.plan.now c.loop-var.var (2 ^ 32) (omega (arith, c.loop-var-test.true, c.len-var-end.ensures))
+    c.requires in
     omega (arith, s.var)
 
 pub append_var-requires : goal.append_var-requires
 append_var-requires c =
     let s : IsSmall c.args.plan.now c.loop-var.var (2 ^ 32)
-    = small c.args.plan.now c.loop-var.var (2 ^ 32) (omega (arith, c.loop-var-test.true, c.len-var-end.ensures)) c.requires in
+    = small c.args.plan.now c.loop-var.var (2 ^ 32) (omega (arith, c.loop-var-test.true, c.len-var-end.ensures))
+    c.requires in
     s.count
 
 pub loop-var-preserved : goal.loop-var-preserved
@@ -35,7 +38,8 @@ loop-var-preserved c =
     = c.len.ensures ∙ (ap length c.loop-var.invariant.1 ∙ things_length plan var) in (
       pushed.ok
           ∙ (ap (λ xs. xs ++ c.len.result ∷ []) c.loop-var.invariant.0
-          ∙ (ap (λ n. map (first_place plan) (numbers_below var) ++ n ∷ []) is ∙ sym (mapped_next (first_place plan) var))),
+          ∙ (ap (λ n. map (first_place plan) (numbers_below var) ++ n ∷ []) is
+          ∙ sym (mapped_next (first_place plan) var))),
       c.in_ok-append_var.ensures
           ∙ (ap (λ xs. xs ++ things_of_var plan var) c.loop-var.invariant.1 ∙ sym (things_next plan var)),
     )

@@ -11,5 +11,6 @@ invariant_of-result c =
     let index : Index = c.in_ok-places.places in
     let counted : length index.things ≡ atom_count c.args.plan.now
     = ap (λ (i : Index). length i.things) c.in_ok-places.ensures ∙ things_are_counted c.args.plan.now in
-    nothing_numbered index c.in_ok-numbers.numbers c.in_ok-facts.facts c.count-count.result (omega (arith, counted, c.requires))
+    nothing_numbered index c.in_ok-numbers.numbers c.in_ok-facts.facts c.count-count.result
+    (omega (arith, counted, c.requires))
     c.count-count.ensures c.in_ok-numbers.ensures c.in_ok-facts.ensures

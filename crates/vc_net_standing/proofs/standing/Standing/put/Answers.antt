@@ -28,7 +28,8 @@ invariant_of-self c =
     let set = c.set.ensures
     ∙ (ap (λ p. slice_set s.numbers p c.len.result) c.place_of-place.ensures
     ∙ ap (slice_set s.numbers (place_in s.places c.args.fact.atom)) c.len.ensures) in
-    (comes s.places s.numbers s.facts c.self.invariant c.args.fact free c.set.new.self c.push.new.self set c.push.ensures).0
+    (comes s.places s.numbers s.facts c.self.invariant c.args.fact free c.set.new.self c.push.new.self set
+    c.push.ensures).0
 
 pub returns : goal.returns
 returns c =
@@ -37,6 +38,8 @@ returns c =
     let set = c.set.ensures
     ∙ (ap (λ p. slice_set s.numbers p c.len.result) c.place_of-place.ensures
     ∙ ap (slice_set s.numbers (place_in s.places c.args.fact.atom)) c.len.ensures) in
-    let both = comes s.places s.numbers s.facts c.self.invariant c.args.fact free c.set.new.self c.push.new.self set c.push.ensures in
+    let both
+    = comes s.places s.numbers s.facts c.self.invariant c.args.fact free c.set.new.self c.push.new.self set
+    c.push.ensures in
     ap (λ (facts : List Fact). record { index = s.places; facts = facts }) both.1
     ∙ ap (λ stood. with_fact stood c.args.fact) c.self.view_is

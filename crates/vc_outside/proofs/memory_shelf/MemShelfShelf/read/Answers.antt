@@ -10,6 +10,8 @@ returns-clause-bytes c =
     let rest = left_at files place.file place.at in
     let left_is : c.left_of.result.now ≡ rest = search rules in
     let told : c.args.self.now.left ≡ Some rest = search rules in
-    let read = taken_front (content_at files place.file) place.at c.copy_front-count.result c.args.buffer.now c.copy_front-count.new.buffer
+    let read
+    = taken_front (content_at files place.file) place.at c.copy_front-count.result c.args.buffer.now
+    c.copy_front-count.new.buffer
     (search rules) (search rules) (search rules) in
     (ap (λ l. unwrap_or l []) told ∙ read.0, read.1)

@@ -10,7 +10,8 @@ evaluate-requires-clause-fit g c =
     let of : IsSessionOf plan (record { users = c.self.inside.users; stages = c.self.inside.stages }) =
     subst (IsSessionOf plan) (sym c.self.view_is) c.requires.of in
     let users : AreUsersOf plan c.take_value.new.users =
-    subst (AreUsersOf plan) (sym c.take_value.ensures) (taken_value_of plan c.self.inside.users c.args.named c.args.value of.users) in
+    subst (AreUsersOf plan) (sym c.take_value.ensures)
+    (taken_value_of plan c.self.inside.users c.args.named c.args.value of.users) in
     users.fit
 
 pub returns-clause-of : goal.returns-clause-of
@@ -19,5 +20,6 @@ returns-clause-of g c =
     let of : IsSessionOf plan (record { users = c.self.inside.users; stages = c.self.inside.stages }) =
     subst (IsSessionOf plan) (sym c.self.view_is) c.requires.of in
     let users : AreUsersOf plan c.take_value.new.users =
-    subst (AreUsersOf plan) (sym c.take_value.ensures) (taken_value_of plan c.self.inside.users c.args.named c.args.value of.users) in
+    subst (AreUsersOf plan) (sym c.take_value.ensures)
+    (taken_value_of plan c.self.inside.users c.args.named c.args.value of.users) in
     record { users = users; stages = c.evaluate.ensures.of; evaluated = c.evaluate.ensures.evaluated }

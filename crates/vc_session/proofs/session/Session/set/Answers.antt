@@ -10,7 +10,8 @@ evaluate-requires-clause-fit g c =
     let of : IsSessionOf plan (record { users = c.self.inside.users; stages = c.self.inside.stages }) =
     subst (IsSessionOf plan) (sym c.self.view_is) c.requires.of in
     let users : AreUsersOf plan c.give_alone.new.users =
-    subst (AreUsersOf plan) (sym c.give_alone.ensures) (given_alone_of plan c.self.inside.users c.args.named c.args.value of.users
+    subst (AreUsersOf plan) (sym c.give_alone.ensures)
+    (given_alone_of plan c.self.inside.users c.args.named c.args.value of.users
     (may_give plan c.args.self.now c.args.named c.args.value (sym c.fault.ensures ∙ c.in-None.is))) in
     users.fit
 
@@ -20,6 +21,7 @@ returns-in-None-clause-of g c =
     let of : IsSessionOf plan (record { users = c.self.inside.users; stages = c.self.inside.stages }) =
     subst (IsSessionOf plan) (sym c.self.view_is) c.requires.of in
     let users : AreUsersOf plan c.give_alone.new.users =
-    subst (AreUsersOf plan) (sym c.give_alone.ensures) (given_alone_of plan c.self.inside.users c.args.named c.args.value of.users
+    subst (AreUsersOf plan) (sym c.give_alone.ensures)
+    (given_alone_of plan c.self.inside.users c.args.named c.args.value of.users
     (may_give plan c.args.self.now c.args.named c.args.value (sym c.fault.ensures ∙ c.in-None.is))) in
     record { users = users; stages = c.evaluate.ensures.of; evaluated = c.evaluate.ensures.evaluated }

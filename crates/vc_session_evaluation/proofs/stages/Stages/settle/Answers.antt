@@ -11,5 +11,6 @@ fill-requires-clause-vars g c = vars_fit c.args.plan.now c.requires.valid
 
 pub returns : goal.returns
 returns g c =
-    settled_at c.args.plan.now (users_of c.args.users.now) c.args.stage c.args.self.now _ c.settle.new.net c.settle.result
+    settled_at c.args.plan.now (users_of c.args.users.now) c.args.stage c.args.self.now _ c.settle.new.net
+    c.settle.result
     c.requires.of c.requires.users c.settle.ensures.of refl c.fill.ensures c.settle.ensures.settled refl refl refl

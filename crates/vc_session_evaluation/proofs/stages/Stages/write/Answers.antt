@@ -12,7 +12,9 @@ returns c =
     let net = c.index.result.now in
     let many = ap (λ s. length s.nets.items) c.flag_before.ensures in
     let found : slice_get nets c.args.stage ≡ Some net =
-    slice_get_read nets (length nets) c.args.stage net refl (omega (arith, many, c.requires.of.many, c.requires.last, c.requires.there)) c.index.ensures in
-    wrote c.args.plan.now (users_of c.args.users.now) c.args.stage (c.args.stage + 1) c.args.self.now c.flag_before.new.self _ net
+    slice_get_read nets (length nets) c.args.stage net refl
+    (omega (arith, many, c.requires.of.many, c.requires.last, c.requires.there)) c.index.ensures in
+    wrote c.args.plan.now (users_of c.args.users.now) c.args.stage (c.args.stage + 1) c.args.self.now
+    c.flag_before.new.self _ net
     c.as_slice.result.now c.requires.of c.flag_before.ensures refl found c.as_slice.ensures refl refl refl refl
     c.run_stage.ensures.is c.run_stage.ensures.lie

@@ -14,4 +14,6 @@ derived (Num a) (Num b) = refl
 
 pub returns-clause-fresh : goal.returns-clause-fresh
 returns-clause-fresh c =
-    c.in_ok-fresh.ensures.added ∙ ap not (among_lists (λ key. key.items) ghosts.eq derived c.args.key.items c.self.inside.met.keys ∙ ap (is_among c.args.key.items) c.self.view_is)
+    c.in_ok-fresh.ensures.added
+    ∙ ap not (among_lists (λ key. key.items) ghosts.eq derived c.args.key.items c.self.inside.met.keys
+    ∙ ap (is_among c.args.key.items) c.self.view_is)

@@ -12,9 +12,13 @@ returns-in_ok-insert c =
     let entry = c.args.entry.now in
     let copied : key.items ≡ entry.text = c.in_ok-key.ensures.items ∙ c.bytes-text.ensures in
     let unknown : c.find.result ≡ None = no_number c.find.result c.if-is_none.ensures in
-    let absent = lookup_number (λ text. text.items) key.items pairs ∙ ap (λ entries. text_number entries key.items) c.self.view_is
+    let absent
+    = lookup_number (λ text. text.items) key.items pairs
+    ∙ ap (λ entries. text_number entries key.items) c.self.view_is
     ∙ ap (text_number c.args.self.now) c.in_ok-key.ensures.items ∙ sym c.find.ensures ∙ unknown in
-    let grown = c.in_ok-insert.ensures.entries ∙ insert_entry-new (λ x y. pointwise nat_eq x.items y.items) c.self.inside.numbers key entry.number absent in
+    let grown
+    = c.in_ok-insert.ensures.entries
+    ∙ insert_entry-new (λ x y. pointwise nat_eq x.items y.items) c.self.inside.numbers key entry.number absent in
     λ text. ap (λ pairs. text_number (entries_of (λ text. text.items) pairs) text) grown
     ∙ ap (λ entries. text_number entries text) (entries_more (λ text. text.items) pairs key entry copied)
     ∙ ap (λ entries. text_number (entries ++ entry ∷ []) text) c.self.view_is

@@ -11,14 +11,23 @@ invariant_of-self c =
     let at = c.args.at.millionths in
     let is = c.in_ok-parts.ensures ∙ ap (flat_map (parts_of unit at)) c.deref.ensures.value in (
       ap is_ascending is ∙ cut_ascending unit at c.self.inside.grains.items c.unit_of.ensures.some c.self.invariant.0,
-      omega (arith, ap length is, cut_length unit at c.self.inside.grains.items c.unit_of.ensures.some c.self.invariant.0, c.requires, ap length c.self.view_is),
+      omega (
+        arith,
+        ap length is,
+        cut_length unit at c.self.inside.grains.items c.unit_of.ensures.some
+            c.self.invariant.0,
+        c.requires,
+        ap length c.self.view_is,
+      ),
     )
 
 pub returns-clause-apart : goal.returns-clause-apart
-returns-clause-apart c = ap (list_all (is_apart c.args.at)) c.in_ok-parts.ensures ∙ cut_parts c.unit_of.result c.args.at c.deref.result.now c.unit_of.ensures.some
+returns-clause-apart c = ap (list_all (is_apart c.args.at)) c.in_ok-parts.ensures
+    ∙ cut_parts c.unit_of.result c.args.at c.deref.result.now c.unit_of.ensures.some
 
 pub returns-clause-kept : goal.returns-clause-kept
 returns-clause-kept c = λ n whole.
     ap (hold n) c.in_ok-parts.ensures
-    ∙ cut_keeps n c.unit_of.result c.args.at.millionths c.deref.result.now c.unit_of.ensures.some (ap (λ unit. is_multiple unit n.millionths) c.unit_of.ensures.unit ∙ whole)
+    ∙ cut_keeps n c.unit_of.result c.args.at.millionths c.deref.result.now c.unit_of.ensures.some
+    (ap (λ unit. is_multiple unit n.millionths) c.unit_of.ensures.unit ∙ whole)
     ∙ ap (hold n) (c.deref.ensures.value ∙ c.self.view_is)

@@ -1,0 +1,10 @@
+pub mod ActionSorts
+pub mod ColumnSorts
+pub mod ConditionSorts
+pub mod DemandSorts
+pub mod PartLaws
+pub mod SiteLaws
+pub mod SumTrees
+pub mod SummedLaws
+pub mod TermSorts
+pub mod TypedLaws

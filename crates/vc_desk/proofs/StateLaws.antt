@@ -1,0 +1,211 @@
+-- What is kept of the open sessions, as a finite map by their names.
+use Rattle.std.proofs.Common.{◌≡◌, ℕ, suc, ◌+◌, ◌-◌, ◌<◌, ◌≤◌, Bool, true, false, cond, ◌&&◌, List, [], ◌∷◌, length}
+use Rattle.std.proofs.Common.{map}
+use Rattle.std.proofs.Common.{refl, sym, ap, ◌∙◌, subst, arith, T}
+use Rattle.std.specs.Prelude.{Option, None, Some, IfSome, is_some}
+use Rattle.std.specs.Cmp.Lexicographic.{slice_cmp, nat_list_cmp_total}
+use Rattle.std.specs.FinMap.{contains_key, empty, entries, entries-from_sorted, entries_sorted, find, from_entries}
+use Rattle.std.specs.FinMap.{from_sorted, get, get-empty, get-entries, get-from_entries, get-from_sorted, get-insert}
+use Rattle.std.specs.FinMap.{get-remove, insert, is_sorted, len, len-empty, len-entries, len-insert, len-remove}
+use Rattle.std.specs.FinMap.{remove}
+use Rattle.std.specs.FinMap.Entries.{below_all}
+use Rattle.std.specs.Option.{option_map}
+use Rattle.std.specs.Ordering.{is_lt, nat_cmp}
+use Rattle.vc_plan.specs.declared.plans.Plan.{Plan}
+use Rattle.vc_plan_users.specs.Choosing.{Chosen}
+use Rattle.vc_session.specs.Sessions.{IsSessionOf, Opened}
+use Rattle.vc_desk.specs.Desks.{AreSessionsOf, chosen_entry, state_of}
+use Rattle.vc_desk.specs.States.{ByName, State, chosen_in, open_count, start_state, with_session, without_session}
+use Rattle.vc_desk.proofs.NameLaws.{is_name, name_is, same_answers}
+
+abbrev users_in : Option Opened → Option Chosen
+users_in found = option_map (λ session. session.users) found
+
+-- what is chosen in a session that is found
+found_chosen : (q : List ℕ) (sessions : List (List ℕ × Opened))
+    → find (slice_cmp nat_cmp) q (map chosen_entry sessions) ≡ users_in (find (slice_cmp nat_cmp) q sessions)
+found_chosen q [] = refl
+found_chosen q (entry ∷ sessions) = by (is_name q entry.0) (found_chosen q sessions)
+  where
+    by : (b : Bool) → find (slice_cmp nat_cmp) q (map chosen_entry sessions)
+        ≡ users_in (find (slice_cmp nat_cmp) q sessions)
+        → cond b (Some entry.1.users) (find (slice_cmp nat_cmp) q (map chosen_entry sessions))
+        ≡ users_in (cond b (Some entry.1) (find (slice_cmp nat_cmp) q sessions))
+    by true rest = refl
+    by false rest = rest
+
+pub chosen_of : (sessions : ByName Opened) (q : List ℕ) → chosen_in (state_of sessions) q ≡ users_in (get sessions q)
+chosen_of sessions q =
+    get-from_entries nat_list_cmp_total (map chosen_entry (entries sessions)) q
+    ∙ found_chosen q (entries sessions)
+    ∙ ap users_in (sym (get-entries sessions q))
+
+-- two states that answer alike
+same_states : (m n : State) → ((q : List ℕ) → chosen_in m q ≡ chosen_in n q) → m ≡ n
+same_states m n same = ap (λ sessions. record { sessions = sessions }) (same_answers m.sessions n.sessions same)
+
+users_cond : (b : Bool) (new other : Option Opened)
+    → users_in (cond b new other) ≡ cond b (users_in new) (users_in other)
+users_cond true new other = refl
+users_cond false new other = refl
+
+pub state_none : state_of empty ≡ start_state
+state_none = same_states (state_of empty) start_state (λ q.
+    chosen_of empty q ∙ ap users_in (get-empty (slice_cmp nat_cmp) q) ∙ sym (get-empty (slice_cmp nat_cmp) q))
+
+pub state_put : (sessions : ByName Opened) (name : List ℕ) (new : Opened)
+    → state_of (insert sessions name new) ≡ with_session (state_of sessions) name new.users
+state_put sessions name new =
+    same_states (state_of (insert sessions name new)) (with_session (state_of sessions) name new.users) (λ q.
+    chosen_of (insert sessions name new) q
+    ∙ ap users_in (get-insert nat_list_cmp_total sessions name new q)
+    ∙ users_cond (is_name q name) (Some new) (get sessions q)
+    ∙ ap (cond (is_name q name) (Some new.users)) (sym (chosen_of sessions q))
+    ∙ sym (get-insert nat_list_cmp_total (state_of sessions).sessions name new.users q))
+
+pub state_removed : (sessions : ByName Opened) (name : List ℕ)
+    → state_of (remove sessions name) ≡ without_session (state_of sessions) name
+state_removed sessions name =
+    same_states (state_of (remove sessions name)) (without_session (state_of sessions) name) (λ q.
+    chosen_of (remove sessions name) q
+    ∙ ap users_in (get-remove nat_list_cmp_total sessions name q)
+    ∙ users_cond (is_name q name) None (get sessions q)
+    ∙ ap (cond (is_name q name) none) (sym (chosen_of sessions q))
+    ∙ sym (get-remove nat_list_cmp_total (state_of sessions).sessions name q))
+  where
+    none : Option Chosen
+    none = None
+
+-- another session in the place of one in which the same is chosen
+pub state_kept : (sessions : ByName Opened) (name : List ℕ) (old new : Opened) → get sessions name ≡ Some old
+    → new.users ≡ old.users → state_of (insert sessions name new) ≡ state_of sessions
+state_kept sessions name old new there same =
+    state_put sessions name new
+    ∙ same_states (with_session (state_of sessions) name new.users) (state_of sessions) (λ q.
+    get-insert nat_list_cmp_total (state_of sessions).sessions name new.users q ∙ by q (is_name q name) refl)
+  where
+    by : (q : List ℕ) (b : Bool) → is_name q name ≡ b
+        → cond b (Some new.users) (chosen_in (state_of sessions) q) ≡ chosen_in (state_of sessions) q
+    by q true e =
+        ap Some same
+        ∙ sym (ap (chosen_in (state_of sessions)) (name_is q name e) ∙ chosen_of sessions name ∙ ap users_in there)
+    by q false e = refl
+
+-- as many are open in the state; the entries ascend by the same names
+below_chosen : (name : List ℕ) (sessions : List (List ℕ × Opened))
+    → below_all (slice_cmp nat_cmp) name (map chosen_entry sessions) ≡ below_all (slice_cmp nat_cmp) name sessions
+below_chosen name [] = refl
+below_chosen name (entry ∷ sessions) =
+    ap (λ b. is_lt (slice_cmp nat_cmp name entry.0) && b) (below_chosen name sessions)
+
+sorted_chosen : (sessions : List (List ℕ × Opened))
+    → is_sorted (slice_cmp nat_cmp) (map chosen_entry sessions) ≡ is_sorted (slice_cmp nat_cmp) sessions
+sorted_chosen [] = refl
+sorted_chosen (entry ∷ sessions) =
+    ap (λ b. b && is_sorted (slice_cmp nat_cmp) (map chosen_entry sessions)) (below_chosen entry.0 sessions)
+    ∙ ap (λ b. below_all (slice_cmp nat_cmp) entry.0 sessions && b) (sorted_chosen sessions)
+
+length_sorted : {X : Type 0} (list : List (List ℕ × X)) → T (is_sorted (slice_cmp nat_cmp) list)
+    → len (from_entries {R = slice_cmp nat_cmp} list) ≡ length list
+length_sorted list sorted =
+    ap len (same_answers (from_entries list) (from_sorted list) (λ q.
+    get-from_entries nat_list_cmp_total list q ∙ sym (get-from_sorted (slice_cmp nat_cmp) list q sorted)))
+    ∙ len-entries (from_sorted {R = slice_cmp nat_cmp} list)
+    ∙ ap length (entries-from_sorted (slice_cmp nat_cmp) list sorted)
+
+count_chosen : (sessions : List (List ℕ × Opened)) → length (map chosen_entry sessions) ≡ length sessions
+count_chosen [] = refl
+count_chosen (entry ∷ sessions) = ap suc (count_chosen sessions)
+
+pub count_is : (sessions : ByName Opened) → open_count (state_of sessions) ≡ len sessions
+count_is sessions =
+    length_sorted (map chosen_entry (entries sessions))
+    (subst T (sym (sorted_chosen (entries sessions))) (entries_sorted sessions))
+    ∙ count_chosen (entries sessions)
+    ∙ sym (len-entries sessions)
+
+-- sessions of the plan stay such
+abbrev nobody : Option Opened
+nobody = None
+
+pub is_none_at : {X : Type 0} (o : Option X) → is_some o ≡ false → o ≡ None
+is_none_at None e = refl
+is_none_at (Some x) e = absurd (cc)
+
+-- nothing is taken out where there is nothing
+pub removed_none : (sessions : ByName Opened) (name : List ℕ) → is_some (get sessions name) ≡ false
+    → remove sessions name ≡ sessions
+removed_none sessions name none = same_answers (remove sessions name) sessions (λ q.
+    get-remove nat_list_cmp_total sessions name q ∙ by q (is_name q name) refl)
+  where
+    by : (q : List ℕ) (b : Bool) → is_name q name ≡ b → cond b nobody (get sessions q) ≡ get sessions q
+    by q true e = sym (ap (get sessions) (name_is q name e) ∙ is_none_at (get sessions name) none)
+    by q false e = refl
+
+pub no_sessions : (plan : Plan) → AreSessionsOf plan empty
+no_sessions plan = record {
+  each = λ name. subst (λ (found : Option Opened). IfSome found (IsSessionOf plan))
+      (sym (get-empty (slice_cmp nat_cmp) name)) tt;
+  few = (let none = len-empty (slice_cmp nat_cmp) Opened in omega (arith, none));
+}
+
+module _ (plan : Plan) (sessions : ByName Opened) (of : AreSessionsOf plan sessions) where
+  abbrev IsOf : Option Opened → Type 0
+  IsOf found = IfSome found (IsSessionOf plan)
+
+  with_one : (b : Bool) (new : Opened) (other : Option Opened) → IsSessionOf plan new → IsOf other
+      → IsOf (cond b (Some new) other)
+  with_one true new other is rest = is
+  with_one false new other is rest = rest
+
+  without_one : (b : Bool) (other : Option Opened) → IsOf other → IsOf (cond b nobody other)
+  without_one true other rest = tt
+  without_one false other rest = rest
+
+  each_put : (name : List ℕ) (new : Opened) → IsSessionOf plan new → (q : List ℕ)
+      → IsOf (get (insert sessions name new) q)
+  each_put name new is q =
+      subst IsOf (sym (get-insert nat_list_cmp_total sessions name new q))
+      (with_one (is_name q name) new (get sessions q) is (of.each q))
+
+  -- one more, where there is room
+  pub opened_sessions : (name : List ℕ) (new : Opened) → IsSessionOf plan new → len sessions < 32
+      → AreSessionsOf plan (insert sessions name new)
+  opened_sessions name new is room = record {
+    each = each_put name new is;
+    few = by (contains_key sessions name) (len-insert nat_list_cmp_total sessions name new);
+  }
+    where
+      by : (b : Bool) → len (insert sessions name new) ≡ cond b (len sessions) (len sessions + 1)
+          → len (insert sessions name new) ≤ 32
+      by true e = omega (arith, e, room)
+      by false e = omega (arith, e, room)
+
+  -- another in the place of one
+  pub changed_sessions : (name : List ℕ) (old new : Opened) → get sessions name ≡ Some old → IsSessionOf plan new
+      → AreSessionsOf plan (insert sessions name new)
+  changed_sessions name old new there is = record {
+    each = each_put name new is;
+    few = (
+        let same : len (insert sessions name new) ≡ len sessions =
+        len-insert nat_list_cmp_total sessions name new
+        ∙ ap (λ (o : Option Opened). cond (is_some o) (len sessions) (len sessions + 1)) there in
+        omega (arith, same, of.few)
+        );
+  }
+
+  -- one fewer
+  pub closed_sessions : (name : List ℕ) → AreSessionsOf plan (remove sessions name)
+  closed_sessions name = record {
+    each = λ q. subst IsOf (sym (get-remove nat_list_cmp_total sessions name q))
+        (without_one (is_name q name) (get sessions q) (of.each q));
+    few = by (contains_key sessions name) (len-remove nat_list_cmp_total sessions name);
+  }
+    where
+      by : (b : Bool) → len (remove sessions name) ≡ cond b (len sessions - 1) (len sessions)
+          → len (remove sessions name) ≤ 32
+      by true e = let few = of.few in omega (arith, e, few)
+      by false e = let few = of.few in omega (arith, e, few)
+
+  pub one_of : (name : List ℕ) (found : Opened) → get sessions name ≡ Some found → IsSessionOf plan found
+  one_of name found there = subst IsOf there (of.each name)

@@ -1,0 +1,59 @@
+-- A desk of a plan, and what it keeps.
+use Rattle.std.specs.Prelude.{◌≡◌, ◌≤◌, ℕ, List, map, Vec, IfSome, Result, Ok, Err}
+use Rattle.std.specs.FinMap.{entries, from_entries, get, insert, len}
+use Rattle.vc_plan.specs.declared.plans.Plan.{Plan}
+use Rattle.vc_plan.specs.declared.shown.Status.{Status}
+use Rattle.vc_plan.specs.Valid.{IsValid}
+use Rattle.vc_plan_reasons.specs.Blaming.{IsStatus}
+use Rattle.vc_plan_users.specs.Choosing.{Chosen, none_chosen, users_of}
+use Rattle.vc_session.specs.Sessions.{IsSessionOf, Opened}
+use Rattle.vc_wire_replies.specs.declared.reply.Refusal.{Refusal}
+use Rattle.vc_wire_replies.specs.declared.reply.Reply.{Reply}
+use Rattle.vc_wire_replies.specs.declared.reply.Reply.TheVariants.{Done, Refused}
+use Rattle.vc_desk.specs.States.{ByName, State}
+use Rattle.vc_desk.specs.declared.sessions.TheConstants.{SESSION_LIMIT}
+
+-- a plan, and the open sessions
+pub record Kept : Type 0 where
+  pub plan : Plan
+  pub sessions : ByName Opened
+
+-- an entry by the bytes of its key
+abbrev pub named_entry : {X Z : Type 0} → Vec ℕ Z × X → List ℕ × X
+named_entry entry = (entry.0.items, entry.1)
+
+-- what the user chose in each, by its name
+abbrev pub chosen_entry : List ℕ × Opened → List ℕ × Chosen
+chosen_entry entry = (entry.0, entry.1.users)
+
+abbrev pub state_of : ByName Opened → State
+state_of sessions = record { sessions = from_entries (map chosen_entry (entries sessions)) }
+
+-- sessions of the plan, no more than may be open
+pub record AreSessionsOf (plan : Plan) (sessions : ByName Opened) : Type 0 where
+  pub each : (name : List ℕ) → IfSome (get sessions name) (IsSessionOf plan)
+  pub few : len sessions ≤ SESSION_LIMIT
+
+pub record IsDesk (desk : Kept) : Type 0 where
+  pub valid : IsValid desk.plan
+  pub sessions : AreSessionsOf desk.plan desk.sessions
+
+-- what an edit of a session did: what is chosen is what the edit makes of it, or it is refused and nothing changes
+abbrev pub Edited : Chosen → Result Chosen Refusal → Chosen → Result Unit Refusal → Type 0
+Edited old after new (Ok done) = after ≡ Ok new
+Edited old after new (Err refusal) = (after ≡ Err refusal) × (new ≡ old)
+
+-- what is replied to an edit after which this is chosen
+abbrev pub RepliesTo : Plan → Chosen → Result Unit Refusal → Reply → Type 0
+RepliesTo plan chosen (Ok done) reply = (status : Status) × IsStatus plan (users_of chosen) status
+    × (reply ≡ Done status)
+RepliesTo plan chosen (Err refusal) reply = reply ≡ Refused refusal
+
+-- a session of this name with nothing chosen beside the others, and how it stands
+pub record Opens (plan : Plan) (old : ByName Opened) (name : List ℕ) (new : ByName Opened) (status : Status) :
+    Type 0 where
+  pub session : Opened
+  pub of : IsSessionOf plan session
+  pub none : session.users ≡ none_chosen plan
+  pub put : new ≡ insert old name session
+  pub stands : IsStatus plan (users_of session.users) status

@@ -1,0 +1,6 @@
+pub mod Answers
+pub mod Desks
+pub mod Edits
+pub mod Reasons
+pub mod States
+pub mod Telling

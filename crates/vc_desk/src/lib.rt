@@ -1,0 +1,11 @@
+//! The desk: open sessions of a plan by their names, and what is answered to a request.
+#![tactic(auto)]
+
+pub mod desk;
+pub mod edits;
+pub mod reasons;
+pub mod sessions;
+pub mod telling;
+pub mod words;
+
+pub use desk::Desk;

@@ -1,0 +1,206 @@
+//! The open sessions by their names, and what is answered to a request about one of them.
+
+ghost use Rattle.std.specs.Prelude.{◌≡◌, ◌<◌, ◌≤◌, nat_lt, not, IfOk, OnErr, IfSome};
+ghost use Rattle.std.specs.FinMap.{empty, get, len};
+ghost use Rattle.std.specs.Option.{option_copied};
+ghost use Rattle.vc_plan.specs.Valid.{IsValid};
+ghost use Rattle.vc_session.specs.Sessions.{IsSessionOf};
+ghost use Rattle.vc_desk.specs.Answers.{Closes, EditsSession, Starts, TellsSession};
+ghost use Rattle.vc_desk.specs.Desks.{AreSessionsOf, Opens, RepliesTo, state_of};
+ghost use Rattle.vc_desk.specs.Edits.{after_edit};
+ghost use Rattle.vc_desk.specs.States.{chosen_in};
+ghost use Rattle.vc_desk.specs.Telling.{text_told, told_as};
+
+use crate::edits::{Edit, apply};
+use crate::reasons::{Question, answer};
+use crate::telling::{Told, tell};
+use std::alloc::{AllocError, Global};
+use std::collections::BTreeMap;
+use std::marker::Model;
+use std::sync::ledger::Ledger;
+use vc_desk_shown::status;
+use vc_plan::{Plan, Status};
+use vc_session::Session;
+use vc_value::Word;
+use vc_value_steps::Steps;
+use vc_wire_replies::{Refusal, Reply};
+
+/// As many sessions may be open at once.
+pub const SESSION_LIMIT: usize = 32;
+
+/// The open sessions, which a contract sees as a finite map from their names.
+#[derive(Drop)]
+pub struct Sessions {
+    by_name: BTreeMap<Vec<u8>, Session>,
+}
+
+impl Model for Sessions {
+    ghost use Rattle.std.specs.Coded.{codes};
+    ghost use Rattle.std.specs.Prelude.{map};
+    ghost use Rattle.std.specs.FinMap.{code, from_entries};
+    ghost use Rattle.vc_session.specs.Sessions.{Opened};
+    ghost use Rattle.vc_desk.specs.Desks.{named_entry};
+    ghost use Rattle.vc_desk.specs.States.{ByName};
+
+    ghost Value = { ByName Opened };
+
+    ghost coded = { Prim.hlevel (codes, code) };
+
+    ghost view = { λ s. from_entries (map named_entry s.by_name.entries) };
+}
+
+fn refused(refusal: Refusal) -> Reply
+    ensures { result ≡ Reply.Refused refusal }
+{
+    Reply::Refused { refusal }
+}
+
+// What is replied to an edit: how the session stands then, or why it is refused.
+fn reply_to_edit(plan: &Plan, session: &Session, edited: Result<(), Refusal>) -> Reply
+    requires valid { IsValid plan.now }
+    requires of { IsSessionOf plan.now session.now }
+    ensures { RepliesTo plan.now session.now.users edited result }
+{
+    match edited {
+        Ok(()) => Reply::Done {
+            status: status(plan, session),
+        },
+        Err(refusal) => refused(refusal),
+    }
+}
+
+impl Sessions {
+    ghost use Rattle.std.specs.Prelude.{◌≡◌, ◌≤◌, ◌<◌, nat_lt, not, IfOk, OnErr, IfSome};
+    ghost use Rattle.std.specs.FinMap.{empty, get, len};
+    ghost use Rattle.std.specs.Option.{option_copied};
+    ghost use Rattle.vc_plan.specs.Valid.{IsValid};
+    ghost use Rattle.vc_desk.specs.Answers.{Closes, EditsSession, Starts, TellsSession};
+    ghost use Rattle.vc_desk.specs.Desks.{AreSessionsOf, Opens, state_of};
+    ghost use Rattle.vc_desk.specs.Edits.{after_edit};
+    ghost use Rattle.vc_desk.specs.Reasons.{AsksSession, asked_by};
+    ghost use Rattle.vc_desk.specs.States.{chosen_in};
+    ghost use Rattle.vc_desk.specs.Telling.{text_told, told_as};
+
+    /// None is open.
+    pub fn new(alloc: Global) -> Sessions
+        ensures { result ≡ empty }
+    {
+        Sessions {
+            by_name: BTreeMap::new(alloc),
+        }
+    }
+
+    fn count(&self) -> usize
+        ensures { result ≡ len self.now }
+    {
+        self.by_name.len()
+    }
+
+    fn find(&self, name: &Word) -> Option<&Session>
+        ensures { option_copied result ≡ get self.now name.now }
+    {
+        self.by_name.get(name.bytes())
+    }
+
+    // A session of this name with nothing chosen, and how it stands. Without memory there is none.
+    fn begin(&mut self, alloc: Global, plan: &Plan, name: &Word) -> Result<Status, AllocError>
+        requires { IsValid plan.now }
+        ensures opened { IfOk result (Opens plan.now self.old name.now self.new) }
+        ensures as_before { OnErr result (self.new ≡ self.old) }
+    {
+        let key = Vec::from_slice(alloc, name.bytes())?;
+        let session = Session::start(alloc, plan)?;
+        let status = status(plan, &session);
+        self.by_name.insert(key, session)?;
+        Ok(status)
+    }
+
+    /// Opens a session of this name.
+    pub fn open(&mut self, alloc: Global, plan: &Plan, name: &Word) -> Reply
+        requires valid { IsValid plan.now }
+        requires of { AreSessionsOf plan.now self.old }
+        ensures starts { Starts plan.now (state_of self.old) name.now result (state_of self.new) }
+        ensures of { AreSessionsOf plan.now self.new }
+    {
+        if self.find(name).is_some() {
+            return refused(Refusal::NameTaken);
+        }
+        if self.count() >= SESSION_LIMIT {
+            return refused(Refusal::TooManySessions);
+        }
+        match self.begin(alloc, plan, name) {
+            Ok(status) => Reply::Done { status },
+            Err(_) => refused(Refusal::OutOfMemory),
+        }
+    }
+
+    /// Closes the session of this name.
+    pub fn close(&mut self, plan: &Plan, name: &Word) -> Reply
+        requires of { AreSessionsOf plan.now self.old }
+        ensures closes { Closes (state_of self.old) name.now (chosen_in (state_of self.old) name.now) result
+            (state_of self.new) }
+        ensures of { AreSessionsOf plan.now self.new }
+    {
+        // So many, as their names ascend: one session alone has the name.
+        let _count = self.by_name.len();
+        let removed = self.by_name.remove(name.bytes());
+        let found = removed.is_some();
+        drop(removed);
+        if found {
+            Reply::Closed
+        } else {
+            refused(Refusal::NoSession)
+        }
+    }
+
+    /// Edits the session of this name. It takes no memory.
+    pub fn edit<L: Ledger>(
+        &mut self,
+        plan: &Plan,
+        name: &Word,
+        instance: u32,
+        characteristic: &Word,
+        which: Edit<'_>,
+        steps: &mut Steps<L>,
+    ) -> Reply
+        requires valid { IsValid plan.now }
+        requires of { AreSessionsOf plan.now self.old }
+        ensures edits { EditsSession plan.now (state_of self.old) name.now
+            (after_edit which.entry plan.now instance characteristic.now)
+            (chosen_in (state_of self.old) name.now) result (state_of self.new) }
+        ensures of { AreSessionsOf plan.now self.new }
+    {
+        match self.by_name.get_mut(name.bytes()) {
+            Some(session) => {
+                let edited = apply(plan, session, instance, characteristic, which, steps);
+                reply_to_edit(plan, session, edited)
+            }
+            None => refused(Refusal::NoSession),
+        }
+    }
+
+    /// Tells of the session of this name.
+    pub fn tell(&self, alloc: Global, plan: &Plan, name: &Word, what: Told) -> Reply
+        requires valid { IsValid plan.now }
+        requires of { AreSessionsOf plan.now self.now }
+        ensures { TellsSession plan.now (told_as what) (text_told what)
+            (chosen_in (state_of self.now) name.now) result }
+    {
+        match self.find(name) {
+            Some(session) => tell(alloc, plan, session, what),
+            None => refused(Refusal::NoSession),
+        }
+    }
+
+    /// Answers a question about the session of this name.
+    pub fn explain(&self, alloc: Global, plan: &Plan, name: &Word, question: Question<'_>) -> Reply
+        requires valid { IsValid plan.now }
+        requires of { AreSessionsOf plan.now self.now }
+        ensures { AsksSession plan.now (asked_by question.entry) (chosen_in (state_of self.now) name.now) result }
+    {
+        match self.find(name) {
+            Some(session) => answer(alloc, plan, session, question),
+            None => refused(Refusal::NoSession),
+        }
+    }
+}

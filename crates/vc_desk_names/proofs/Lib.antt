@@ -1,0 +1,2 @@
+pub mod MeantLaws
+pub mod MeantRows

@@ -1,0 +1,24 @@
+-- The lines are those of what the evaluation reaches.
+use Rattle.std.proofs.Common.{◌∙◌, ap}
+use Rattle.vc_plan_users.specs.Choosing.{users_of}
+use Rattle.vc_bill.specs.Texts.{routing_text}
+use Rattle.vc_bill.proofs.FittingLaws.{valid_plans_bill}
+use Rattle.vc_desk_shown.specs.Shown.{routing_shown}
+use Rattle.vc_desk_shown.proofs.ShownLaws.{routes, if_ok_same, settled_sessions_reach}
+use Rattle.vc_desk_shown.proofs.bills.settled_routing.Goals as goal
+
+pub operations-requires-clause-fit : goal.operations-requires-clause-fit
+operations-requires-clause-fit c = valid_plans_bill c.args.plan.now c.requires.valid
+
+pub operations-requires-clause-values : goal.operations-requires-clause-values
+operations-requires-clause-values c =
+    (settled_sessions_reach c.args.plan.now c.args.session.now c.requires.valid c.requires.of c.requires.settled).lies
+
+pub returns : goal.returns
+returns c =
+    if_ok_same c.print_routing.result (routing_text c.args.plan.now c.as_slice.result.now)
+    (routing_shown c.args.plan.now (users_of c.args.session.now.users))
+    (ap (routing_text c.args.plan.now)
+    (c.as_slice.ensures ∙ c.in_ok-lines.ensures
+    ∙ routes c.args.plan.now c.args.session.now c.requires.of c.requires.valid c.requires.settled))
+    c.print_routing.ensures

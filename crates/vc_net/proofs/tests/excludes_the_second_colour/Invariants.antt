@@ -1,5 +1,0 @@
--- The ledger is the blank's.
-use Rattle.vc_net.proofs.tests.excludes_the_second_colour.Given as goal
-
-abbrev pub ghosts-told_of_lamp : goal.ghosts-told_of_lamp
-ghosts-told_of_lamp g a = record { name = a.blank.name; parts = a.blank.parts }

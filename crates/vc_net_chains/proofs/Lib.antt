@@ -1,0 +1,4 @@
+pub mod LastLaws
+pub mod LeftLaws
+pub mod MarkLaws
+pub mod MatchLaws

@@ -1,0 +1,14 @@
+-- The marks so far, with those to come, are all.
+use Rattle.std.proofs.Common.{◌≡◌, length, map}
+use Rattle.vc_net_log.specs.Numbers.{number_by_place, premises_of}
+use Rattle.vc_net_chains.specs.Marking.{marked_each}
+use Rattle.vc_net_chains.proofs.marks.mark_premises.Given as goal
+
+abbrev pub invariant-loop-rest : goal.invariant-loop-rest
+invariant-loop-rest l =
+    (marked_each l.step (map (number_by_place l.log) l.rest) l.flags
+    ≡ marked_each l.step (premises_of l.log.steps l.step) l.fn.flags)
+    × (length l.flags ≡ length l.fn.flags)
+
+abbrev pub decreases-loop-rest : goal.decreases-loop-rest
+decreases-loop-rest l = length l.rest

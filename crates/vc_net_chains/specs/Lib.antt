@@ -1,0 +1,4 @@
+pub mod Explaining
+pub mod Leaving
+pub mod Marking
+pub mod Telling

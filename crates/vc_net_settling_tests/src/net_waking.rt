@@ -1,0 +1,200 @@
+//! Two variables and two rules, one of which waits for a value of the other's variable.
+
+ghost use Rattle.std.specs.Prelude.{◌≡◌, ◌^◌, ◌<◌, false, [], ◌∷◌, length, IfOk};
+ghost use Rattle.vc_value.specs.declared.table_header.Domain.TheVariants.{Texts};
+ghost use Rattle.vc_plan.specs.Domains.{atom_count};
+
+use std::alloc::{AllocError, Global};
+use std::test::Fail;
+use vc_net_agenda::{Agenda, Giver};
+use vc_net_places::Places;
+use vc_net_readers::Readers;
+use vc_net_waking::laws::{beginners_suffice, others_wait_on, woken_wait};
+use vc_net_waking::{begin, untriggered, wake};
+use vc_plan::{Atom, Condition, Kind, Plan, Relation, Rule, Slot, Term, Var, View};
+use vc_value::{Domain, Listed, Value, Word};
+
+// The first variable has its second text.
+#[derive(Drop)]
+struct SecondText;
+
+impl View for SecondText {
+    ghost use Rattle.std.specs.Prelude.{false, ◌==◌, if◌then◌else◌, None, Some};
+    ghost use Rattle.vc_value.specs.declared.value.Value.TheVariants.{Text};
+
+    ghost seen = { λ s. record {
+      here = λ i. i == 0;
+      out = λ v g. false;
+      value = λ v. if v == 0 then Some (Text 1) else None;
+    } };
+
+    fn here(&self, slot: u32) -> bool {
+        slot == 0
+    }
+
+    fn out(&self, _var: u32, _grain: u32) -> bool {
+        false
+    }
+
+    fn value(&self, var: u32) -> Option<Value> {
+        if var == 0 { Some(Value::Text(1)) } else { None }
+    }
+}
+
+fn domains(alloc: Global) -> Result<Listed<Domain>, AllocError>
+    ensures { IfOk result (λ domains. domains ≡ Texts (0 ∷ 1 ∷ []) ∷ []) }
+{
+    let mut texts = Listed::new(alloc);
+    texts.push(0)?;
+    texts.push(1)?;
+    let mut domains = Listed::new(alloc);
+    domains.push(Domain::Texts(texts))?;
+    Ok(domains)
+}
+
+fn variables(alloc: Global) -> Result<Listed<Var>, AllocError>
+    ensures { IfOk result (λ vars. vars ≡ record { slot = 0; characteristic = 0; domain = 0; restrictable = false }
+        ∷ record { slot = 0; characteristic = 0; domain = 0; restrictable = false } ∷ []) }
+{
+    let var = Var {
+        slot: 0,
+        characteristic: 0,
+        domain: 0,
+        restrictable: false,
+    };
+    let mut vars = Listed::new(alloc);
+    vars.push(var)?;
+    vars.push(var)?;
+    Ok(vars)
+}
+
+fn conditions(alloc: Global) -> Result<Listed<Condition>, AllocError> {
+    let mut conditions = Listed::new(alloc);
+    conditions.push(Condition::Always)?;
+    conditions.push(Condition::Compared(
+        Relation::Equal,
+        Term::Read(0),
+        Term::Literal(Value::Text(1)),
+    ))?;
+    Ok(conditions)
+}
+
+fn last(alloc: Global, condition: u32, var: u32) -> Rule {
+    Rule {
+        dependency: None,
+        number: 0,
+        slots: Listed::new(alloc),
+        condition,
+        inferred: Listed::new(alloc),
+        kind: Kind::Last(var),
+    }
+}
+
+fn rules(alloc: Global) -> Result<Listed<Rule>, AllocError>
+    ensures { IfOk result (λ rules. length rules ≡ 2) }
+{
+    let mut rules = Listed::new(alloc);
+    rules.push(last(alloc, 1, 1))?;
+    rules.push(last(alloc, 0, 0))?;
+    Ok(rules)
+}
+
+fn plan_of_two(alloc: Global) -> Result<Plan, AllocError>
+    ensures counted { IfOk result (λ plan. atom_count plan < 2 ^ 32) }
+    ensures rules { IfOk result (λ plan. length plan.rules ≡ 2) }
+    ensures vars { IfOk result (λ plan. length plan.vars ≡ 2) }
+{
+    let mut slots = Listed::new(alloc);
+    slots.push(Slot {
+        parent: None,
+        depth: 0,
+        object: 0,
+        line: 0,
+    })?;
+    Ok(Plan {
+        name: Word::from_bytes(alloc, b"LAMP")?,
+        version: 1,
+        texts: Listed::new(alloc),
+        dependencies: Listed::new(alloc),
+        characteristics: Listed::new(alloc),
+        objects: Listed::new(alloc),
+        domains: domains(alloc)?,
+        tables: Listed::new(alloc),
+        slots,
+        vars: variables(alloc)?,
+        sets: Listed::new(alloc),
+        conditions: conditions(alloc)?,
+        terms: Listed::new(alloc),
+        rules: rules(alloc)?,
+        procedures: Listed::new(alloc),
+        lines: Listed::new(alloc),
+        operations: Listed::new(alloc),
+        guards: Listed::new(alloc),
+        requirements: Listed::new(alloc),
+    })
+}
+
+fn who_begins(alloc: Global, plan: &Plan) -> Result<Agenda, AllocError>
+    requires rules { length plan.now.rules < 2 ^ 32 }
+    requires vars { length plan.now.vars < 2 ^ 32 }
+{
+    let mut agenda = Agenda::new(alloc, plan)?;
+    let rules = untriggered(alloc, plan)?;
+    begin(plan, rules.as_slice(), &mut agenda);
+    drop(rules);
+    Ok(agenda)
+}
+
+fn who_is_woken(alloc: Global, plan: &Plan, atom: Atom) -> Result<Agenda, AllocError>
+    requires few { atom_count plan.now < 2 ^ 32 }
+    requires rules { length plan.now.rules < 2 ^ 32 }
+    requires vars { length plan.now.vars < 2 ^ 32 }
+{
+    let places = Places::new(alloc, plan)?;
+    let readers = Readers::new(alloc, plan, &places)?;
+    let mut agenda = Agenda::new(alloc, plan)?;
+    wake(plan, &readers, &places, &SecondText, atom, &mut agenda);
+    drop(readers);
+    drop(places);
+    Ok(agenda)
+}
+
+fn begin_with_two(alloc: Global) -> Result<Agenda, AllocError> {
+    let plan = plan_of_two(alloc)?;
+    let agenda = who_begins(alloc, &plan);
+    drop(plan);
+    agenda
+}
+
+fn wake_in_two(alloc: Global, atom: Atom) -> Result<Agenda, AllocError> {
+    let plan = plan_of_two(alloc)?;
+    let agenda = who_is_woken(alloc, &plan, atom);
+    drop(plan);
+    agenda
+}
+
+#[test]
+fn a_rule_that_waits_does_not_begin(rt: HostRuntime) -> Result<(), Fail> {
+    let mut agenda = begin_with_two(rt.alloc())?;
+    assert_eq!(rt; agenda.pop(), Some(Giver::Entry(1)));
+    assert_eq!(rt; agenda.pop(), Some(Giver::User(1)));
+    assert_eq!(rt; agenda.pop(), Some(Giver::Entry(0)));
+    assert_eq!(rt; agenda.pop(), Some(Giver::User(0)));
+    assert_eq!(rt; agenda.pop(), Some(Giver::Rule(1)));
+    assert_eq!(rt; agenda.pop(), None);
+    others_wait_on();
+    woken_wait();
+    beginners_suffice();
+    Ok(())
+}
+
+#[test]
+fn a_value_wakes_who_waits_for_it(rt: HostRuntime) -> Result<(), Fail> {
+    let mut agenda = wake_in_two(rt.alloc(), Atom::Is(0, Value::Text(1)))?;
+    assert_eq!(rt; agenda.pop(), Some(Giver::Entry(0)));
+    assert_eq!(rt; agenda.pop(), Some(Giver::User(0)));
+    assert_eq!(rt; agenda.pop(), Some(Giver::Rule(0)));
+    assert_eq!(rt; agenda.pop(), Some(Giver::Rule(1)));
+    assert_eq!(rt; agenda.pop(), None);
+    Ok(())
+}

@@ -1,7 +1,0 @@
-use Rattle.vc_proc.proofs.TestLemmas.{texts_can_run}
-use Rattle.vc_proc.proofs.tests.plan_of_one.Goals as goal
-
-pub returns : goal.returns
-returns c =
-    texts_can_run _ c.in_ok-texts.ensures c.in_ok-domains.ensures c.in_ok-slots.ensures c.in_ok-vars.ensures c.in_ok-conditions.ensures
-    c.in_ok-terms.ensures c.in_ok-procedures.ensures

@@ -1,5 +1,0 @@
--- The ledger is the blank's.
-use Rattle.vc_session.proofs.tests.evaluates_after_each_edit.Given as goal
-
-abbrev pub ghosts-session_of : goal.ghosts-session_of
-ghosts-session_of g a = record { name = a.blank.name; parts = a.blank.parts }

@@ -1,9 +1,0 @@
--- The lamp's plan is valid.
-use Rattle.vc_plan_lamp.proofs.LampLaws.{lamp_is_valid}
-use Rattle.vc_session.proofs.tests.session_of.Goals as goal
-
-pub start-requires : goal.start-requires
-start-requires g c = lamp_is_valid c.args.plan.now c.requires.plan
-
-pub edits-done-requires-clause-valid : goal.edits-done-requires-clause-valid
-edits-done-requires-clause-valid g c = lamp_is_valid c.args.plan.now c.requires.plan

@@ -1,5 +1,0 @@
--- The ledger is the blank's.
-use Rattle.vc_session_evaluation.proofs.tests.settles_each_stage.Given as goal
-
-abbrev pub ghosts-evaluated : goal.ghosts-evaluated
-ghosts-evaluated g a = record { name = a.blank.name; parts = a.blank.parts }

@@ -1,0 +1,9 @@
+//! What is shown of an evaluation: status, rows and bill.
+#![tactic(auto)]
+
+#[cfg(test)]
+mod bill;
+#[cfg(test)]
+mod show;
+#[cfg(test)]
+mod show_rows;

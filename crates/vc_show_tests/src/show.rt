@@ -1,0 +1,248 @@
+//! A variable without a value and a set of two texts, at readings that differ in the user's texts alone. The set's
+//! first precondition is unknown; the second guards text 1 and is false. The variable is asked for where the set has
+//! a text.
+
+ghost use Rattle.std.specs.Prelude.{◌≡◌, ◌∷◌, [], false, length, IfOk, None, Some};
+ghost use Rattle.vc_value.specs.declared.table_header.Domain.TheVariants.{Texts};
+ghost use Rattle.vc_value.specs.declared.value.Value.TheVariants.{Text};
+ghost use Rattle.vc_plan.specs.declared.conditions.Condition.TheVariants.{Compared, Filled, Specified};
+ghost use Rattle.vc_plan.specs.declared.conditions.Piece.TheVariants.{OneText};
+ghost use Rattle.vc_plan.specs.declared.conditions.Relation.TheVariants.{Equal};
+ghost use Rattle.vc_plan.specs.declared.plans.Named.TheVariants.{Set};
+ghost use Rattle.vc_plan.specs.declared.terms.Term.TheVariants.{Literal, Read};
+ghost use Rattle.vc_show.specs.Fitting.{ShownFits};
+
+use std::alloc::Global;
+use std::process::Abort;
+use std::test::Fail;
+use vc_plan::{
+    Condition, Culprit, Guard, Named, Piece, Plan, Reading, Relation, Requirement, Selection,
+    Status, Term, TextSet, Var, View,
+};
+use vc_show::{hidden, hidden_value, required, status_of};
+use vc_value::{Domain, Listed, Value, Word};
+
+// Says that all slots are here, that no variable has a value, and which text each set has.
+#[derive(Drop)]
+struct Chosen {
+    text: u32,
+}
+
+impl View for Chosen {
+    ghost use Rattle.std.specs.Prelude.{true, false, None};
+
+    ghost seen = { λ s. record { here = λ i. true; out = λ v g. false; value = λ v. None } };
+
+    fn here(&self, _slot: u32) -> bool {
+        true
+    }
+
+    fn out(&self, _var: u32, _grain: u32) -> bool {
+        false
+    }
+
+    fn value(&self, _var: u32) -> Option<Value> {
+        None
+    }
+}
+
+impl Reading for Chosen {
+    ghost use Rattle.std.specs.Prelude.{◌==◌};
+
+    ghost holdings = { λ s set text. text == s.text };
+
+    fn holds(&self, _set: u32, text: u32) -> bool {
+        text == self.text
+    }
+}
+
+fn domains<R: Abort>(rt: &R, alloc: Global) -> Listed<Domain>
+    ensures { result ≡ Texts (0 ∷ 1 ∷ []) ∷ [] }
+{
+    let mut texts = Listed::new(alloc);
+    texts.push(0).expect(rt, "memory");
+    texts.push(1).expect(rt, "memory");
+    let mut domains = Listed::new(alloc);
+    domains.push(Domain::Texts(texts)).expect(rt, "memory");
+    domains
+}
+
+fn texts<R: Abort>(rt: &R, alloc: Global) -> Listed<Word>
+    ensures { length result ≡ 2 }
+{
+    let mut texts = Listed::new(alloc);
+    texts
+        .push(Word::from_bytes(alloc, b"N").expect(rt, "memory"))
+        .expect(rt, "memory");
+    texts
+        .push(Word::from_bytes(alloc, b"H").expect(rt, "memory"))
+        .expect(rt, "memory");
+    texts
+}
+
+fn variables<R: Abort>(rt: &R, alloc: Global) -> Listed<Var>
+    ensures { result ≡ record { slot = 0; characteristic = 0; domain = 0; restrictable = false }
+        ∷ [] }
+{
+    let mut vars = Listed::new(alloc);
+    vars.push(Var {
+        slot: 0,
+        characteristic: 0,
+        domain: 0,
+        restrictable: false,
+    })
+    .expect(rt, "memory");
+    vars
+}
+
+fn sets<R: Abort>(rt: &R, alloc: Global) -> Listed<TextSet>
+    ensures { result ≡ record { slot = 0; characteristic = 1; domain = 0 } ∷ [] }
+{
+    let mut sets = Listed::new(alloc);
+    sets.push(TextSet {
+        slot: 0,
+        characteristic: 1,
+        domain: 0,
+    })
+    .expect(rt, "memory");
+    sets
+}
+
+// Whether the variable is text 0, whether it has a value, and whether the set has a text.
+fn conditions<R: Abort>(rt: &R, alloc: Global) -> Listed<Condition>
+    ensures { result ≡
+        Compared Equal (Read 0) (Literal (Text 0)) ∷ Specified 0 ∷ Filled 0 ∷ [] }
+{
+    let mut conditions = Listed::new(alloc);
+    conditions
+        .push(Condition::Compared(
+            Relation::Equal,
+            Term::Read(0),
+            Term::Literal(Value::Text(0)),
+        ))
+        .expect(rt, "memory");
+    conditions
+        .push(Condition::Specified(0))
+        .expect(rt, "memory");
+    conditions.push(Condition::Filled(0)).expect(rt, "memory");
+    conditions
+}
+
+fn guards<R: Abort>(rt: &R, alloc: Global) -> Listed<Guard>
+    ensures { result ≡
+        record { at = Set 0; value = None; dependency = 0; condition = 0 }
+        ∷ record { at = Set 0; value = Some (OneText 1); dependency = 1; condition = 1 } ∷ [] }
+{
+    let mut guards = Listed::new(alloc);
+    guards
+        .push(Guard {
+            at: Named::Set(0),
+            value: None,
+            dependency: 0,
+            condition: 0,
+        })
+        .expect(rt, "memory");
+    guards
+        .push(Guard {
+            at: Named::Set(0),
+            value: Some(Piece::OneText(1)),
+            dependency: 1,
+            condition: 1,
+        })
+        .expect(rt, "memory");
+    guards
+}
+
+fn requirements<R: Abort>(rt: &R, alloc: Global) -> Listed<Requirement> {
+    let mut requirements = Listed::new(alloc);
+    requirements
+        .push(Requirement {
+            at: Named::Var(0),
+            selection: Selection {
+                dependency: 2,
+                condition: 2,
+            },
+        })
+        .expect(rt, "memory");
+    requirements
+}
+
+fn plan<R: Abort>(rt: &R, alloc: Global) -> Plan
+    ensures { ShownFits result }
+{
+    Plan {
+        name: Word::from_bytes(alloc, b"PAINT").expect(rt, "memory"),
+        version: 1,
+        texts: texts(rt, alloc),
+        dependencies: Listed::new(alloc),
+        characteristics: Listed::new(alloc),
+        objects: Listed::new(alloc),
+        domains: domains(rt, alloc),
+        tables: Listed::new(alloc),
+        slots: Listed::new(alloc),
+        vars: variables(rt, alloc),
+        sets: sets(rt, alloc),
+        conditions: conditions(rt, alloc),
+        terms: Listed::new(alloc),
+        rules: Listed::new(alloc),
+        procedures: Listed::new(alloc),
+        lines: Listed::new(alloc),
+        operations: Listed::new(alloc),
+        guards: guards(rt, alloc),
+        requirements: requirements(rt, alloc),
+    }
+}
+
+// The calls by themselves, so that a test doesn't compute what they ensure.
+fn status(plan: &Plan, text: u32) -> Status
+    requires { ShownFits plan.now }
+{
+    status_of(plan, &Chosen { text })
+}
+
+fn is_hidden(plan: &Plan, text: u32) -> bool
+    requires { ShownFits plan.now }
+{
+    hidden(plan, &Chosen { text }, Named::Set(0))
+}
+
+fn is_text_hidden(plan: &Plan, number: u32) -> bool
+    requires { ShownFits plan.now }
+{
+    hidden_value(plan, &Chosen { text: 0 }, Named::Set(0), number)
+}
+
+fn is_required(plan: &Plan, text: u32) -> bool
+    requires { ShownFits plan.now }
+{
+    required(plan, &Chosen { text }, Named::Var(0))
+}
+
+#[test]
+fn tells_what_is_hidden(rt: HostRuntime) -> Result<(), Fail> {
+    let plan = plan(&rt, rt.alloc());
+    assert!(rt; !is_hidden(&plan, 0));
+    assert!(rt; !is_text_hidden(&plan, 0));
+    assert!(rt; is_text_hidden(&plan, 1));
+    assert!(rt; !is_text_hidden(&plan, 2));
+    drop(plan);
+    Ok(())
+}
+
+#[test]
+fn tells_the_status(rt: HostRuntime) -> Result<(), Fail> {
+    let plan = plan(&rt, rt.alloc());
+    assert!(rt; !is_required(&plan, 2));
+    assert!(rt; is_required(&plan, 0));
+    assert_eq!(rt; status(&plan, 2), Status::Complete);
+    assert_eq!(rt; status(&plan, 0), Status::Unfinished);
+    assert_eq!(rt;
+        status(&plan, 1),
+        Status::Contradiction(Culprit::HiddenSet {
+            dependency: 1,
+            set: 0
+        })
+    );
+    drop(plan);
+    Ok(())
+}

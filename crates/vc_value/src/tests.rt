@@ -1,4 +1,0 @@
-//! Each public call once, with ample memory.
-
-mod numbers;
-mod words;
