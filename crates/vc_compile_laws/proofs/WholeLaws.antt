@@ -73,8 +73,7 @@ valid_by plan lists slots variables domains tables ranges bills guards preorder 
       below = preorder.below;
       preorder = preorder.preorder;
       items = preorder.items;
-      line_slots = line_slots.line_slots;
-      line_selections = line_slots.line_selections;
+      line_slots = line_slots;
       classes = lists.classes;
       class_vars = classes.class_vars;
       class_sets = classes.class_sets;

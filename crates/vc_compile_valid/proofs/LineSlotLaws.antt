@@ -17,7 +17,7 @@ use Rattle.vc_model_parts.specs.declared.parts.Object as configurable
 use Rattle.vc_plan.specs.Orders.{are_in_order, is_number, same_number_if}
 use Rattle.vc_plan.specs.Domains.{numbers_below}
 use Rattle.vc_plan.specs.Ranges.{is_of, is_of_if, slot_there}
-use Rattle.vc_plan.specs.Slots.{has_its_slots, has_material, is_configurable, leaves_selections, stands_for}
+use Rattle.vc_plan.specs.Slots.{has_its_slots, has_material, is_configurable, stands_for}
 use Rattle.vc_plan.specs.declared.plans.Line.{Line}
 use Rattle.vc_plan.specs.declared.plans.Object.{Object}
 use Rattle.vc_plan.specs.declared.plans.Plan.{Plan}
@@ -509,39 +509,6 @@ slots_of_line model tables plan keeps is there l line e =
             absurd (let object = sym (ap object_in has)
             ∙ object_is model bill.p bill.k bill.above bill.item bill.at bill.listed n s at h in cc)
 
--- the selection conditions of a configurable line stand in the rules of its slot
-abbrev Leaves : Model → ItemDraft → Type 0
-Leaves model draft =
-    (not (list_any (λ object. same_bytes object.material draft.word) model.objects) || (length draft.choices == 0))
-    ≡ true
-
-line_leaves : (model : Model) (layout : Layout) (i : ℕ) (slot : Slot) (item : BillItem) → layout ≡ layout_of model
-    → is_plain model.objects item.component ≡ true → Leaves model (line_at layout i slot item)
-line_leaves model layout i slot item of plain = by item.component plain (site_of item)
-  where
-    site_of : BillItem → Site
-    site_of item = site_at layout i slot (at.Line (shown.is_configurable item.component))
-
-    by : (x : Component) → is_plain model.objects x ≡ true → (site : Site)
-        → (not (list_any (λ object. same_bytes object.material (material_of layout.model x)) model.objects)
-        || (length (line_choices layout site x item.uses) == 0)) ≡ true
-    by (components.Object o) h site =
-        or_right (not (list_any (λ object. same_bytes object.material (material_of layout.model (components.Object o)))
-        model.objects)) true refl
-    by (components.Plain material) h site =
-        or_left (not (list_any (λ object. same_bytes object.material material) model.objects))
-        (length (line_choices layout site (components.Plain material) item.uses) == 0) h
-
-all_leave : (model : Model) → KeepsParts model → Each (Leaves model) (line_drafts (layout_of model))
-all_leave model keeps =
-    each_by_slot (Leaves model) (lines_of_slot model) 0 (slots_of model) (λ k slot e.
-    each_mapped (Leaves model) (line_at (layout_of model) (0 + k) slot) (bill_of model slot.object)
-    (each_more (λ item. is_plain model.objects item.component ≡ true)
-    (λ item. Leaves model (line_at (layout_of model) (0 + k) slot item))
-    (λ item h. line_leaves model (layout_of model) (0 + k) slot item refl h) (bill_of model slot.object)
-    (each_tested (λ item. is_plain model.objects item.component) (bill_of model slot.object)
-    (bill_pass model (λ item. is_plain model.objects item.component) keeps.plain slot.object))))
-
 pub numbered_made : {D X : Type 0} (brings : Brings D) (make : ℕ → ℕ → D → X) (Q : D → Type 0) (P : X → Type 0)
     → ((c t : ℕ) (d : D) → Q d → P (make c t d)) → (c t : ℕ) (drafts : List D) → Each Q drafts
     → Each P (numbered brings make c t drafts)
@@ -552,30 +519,13 @@ numbered_made brings make Q P of c t (d ∷ drafts) h = (
       drafts h.1,
 )
 
-selection_count : (c : ℕ) (choices : List Choice) → length (selections_from c choices) ≡ length choices
-selection_count c [] = refl
-selection_count c (x ∷ choices) = ap suc (selection_count (suc c) choices)
-
 pub has_line_slots : (model : Model) (tables : List VariantTable) (plan : Plan) → KeepsParts model
     → IsPlanOf model tables plan
     → list_all (slot_there plan) plan.slots ≡ true → HasLineSlots plan
 has_line_slots model tables plan keeps is there =
-    let drafts = drafts_of (layout_of model) in
-    record {
-      line_slots = each_passes (λ l. l < 0 + length plan.lines) (λ l. has_its_slots plan l (slice_get plan.lines l))
-          (λ l below. of_line l (slice_get plan.lines l) refl)
-          (numbers_below (length plan.lines)) (below_count 0 (length plan.lines));
-      line_selections = each_passes (λ x. leaves_selections plan x ≡ true) (leaves_selections plan) (λ x h. h)
-          plan.lines
-          (subst (Each (λ x. leaves_selections plan x ≡ true)) (sym is.lines)
-          (numbered_made item_brings line_from (Leaves model) (λ x. leaves_selections plan x ≡ true)
-          (λ c t d h. ap (λ n. not (list_any (λ object. same_bytes object.material d.word) plan.objects) || (n == 0))
-          (selection_count c d.choices)
-          ∙ ap (λ b. not b || (length d.choices == 0))
-          (ap (list_any (λ object. same_bytes object.material d.word)) is.objects
-          ∙ materials_same model d.word 0 model.objects) ∙ h)
-          (lines_begin drafts) (line_terms_begin drafts) drafts.lines (all_leave model keeps)));
-    }
+    each_passes (λ l. l < 0 + length plan.lines) (λ l. has_its_slots plan l (slice_get plan.lines l))
+    (λ l below. of_line l (slice_get plan.lines l) refl)
+    (numbers_below (length plan.lines)) (below_count 0 (length plan.lines))
   where
     of_line : (l : ℕ) (o : Option Line) → slice_get plan.lines l ≡ o → has_its_slots plan l o ≡ true
     of_line l None e = refl

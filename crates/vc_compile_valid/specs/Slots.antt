@@ -4,7 +4,7 @@ use Rattle.std.specs.List.{list_all}
 use Rattle.vc_plan.specs.Alike.{have_one_bill, have_one_routing}
 use Rattle.vc_plan.specs.Domains.{numbers_below}
 use Rattle.vc_plan.specs.Orders.{are_in_order}
-use Rattle.vc_plan.specs.Slots.{follows_in_preorder, has_its_slots, is_below, is_item_before, leaves_selections}
+use Rattle.vc_plan.specs.Slots.{follows_in_preorder, has_its_slots, is_below, is_item_before}
 use Rattle.vc_plan.specs.Valid.{each_slot}
 use Rattle.vc_plan.specs.declared.plans.Plan.{Plan}
 
@@ -13,10 +13,9 @@ pub record HasPreorder (plan : Plan) : Type 0 where
   pub preorder : each_slot plan (follows_in_preorder plan) ≡ true
   pub items : are_in_order is_item_before plan.slots ≡ true
 
-pub record HasLineSlots (plan : Plan) : Type 0 where
-  pub line_slots : list_all (λ l. has_its_slots plan l (slice_get plan.lines l)) (numbers_below (length plan.lines))
-      ≡ true
-  pub line_selections : list_all (leaves_selections plan) plan.lines ≡ true
+abbrev pub HasLineSlots : Plan → Type 0
+HasLineSlots plan =
+    list_all (λ l. has_its_slots plan l (slice_get plan.lines l)) (numbers_below (length plan.lines)) ≡ true
 
 pub record HasOneBill (plan : Plan) : Type 0 where
   pub one_bill : each_slot plan (λ i. each_slot plan (have_one_bill plan i)) ≡ true

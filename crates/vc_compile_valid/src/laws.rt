@@ -21,8 +21,7 @@ pub fn plans_have_preorder()
     ensures { PlansKeep (λ model plan. HasPreorder plan) }
 {}
 
-/// A line that has an object has one slot, of that object, and its selection conditions stand in rules; another line
-/// has none.
+/// A line that has an object has one slot, of that object, and another line none.
 pub fn plans_have_line_slots()
     ensures { PlansKeep (λ model plan. KeepsParts model → list_all (slot_there plan) plan.slots ≡ true
         → HasLineSlots plan) }

@@ -58,10 +58,6 @@ abbrev pub has_material : List ℕ → Option Object → Bool
 has_material material None = false
 has_material material (Some object) = same_bytes object.material material
 
--- the selection conditions of a configurable line stand in the rules of its slot, and not beside it
-abbrev pub leaves_selections : Plan → bill.Line → Bool
-leaves_selections plan line = not (is_configurable plan line) || (length line.selections == 0)
-
 -- a configurable line has one slot, and another line none
 abbrev pub has_its_slots : Plan → ℕ → Option bill.Line → Bool
 has_its_slots plan l None = true

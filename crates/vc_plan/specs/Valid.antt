@@ -25,7 +25,6 @@ use Rattle.vc_plan.specs.ProcedureRanges.{procedure_there}
 use Rattle.vc_plan.specs.BillRanges.{line_there, operation_there, guard_there, requirement_there}
 use Rattle.vc_plan.specs.Orders.{are_apart, are_in_order}
 use Rattle.vc_plan.specs.Slots.{is_root, is_below, follows_in_preorder, is_item_before, has_its_slots}
-use Rattle.vc_plan.specs.Slots.{leaves_selections}
 use Rattle.vc_plan.specs.RuleShapes.{stays_at_its_slots, is_numbered, has_one_last, has_its_lines, are_one_rule}
 use Rattle.vc_plan.specs.RuleShapes.{are_one_line, are_with_and_without, asks_by_right, columns_once, is_not_among}
 use Rattle.vc_plan.specs.LookUps.{writes_own, action_proper, keys_apart, trigger_listed, guard_listed}
@@ -105,7 +104,6 @@ pub record IsValid (plan : Plan) : Type 0 where
   pub items : are_in_order is_item_before plan.slots ≡ true
   pub line_slots : list_all (λ l. has_its_slots plan l (slice_get plan.lines l)) (numbers_below (length plan.lines))
       ≡ true
-  pub line_selections : list_all (leaves_selections plan) plan.lines ≡ true
   -- classes have a characteristic once; variables and sets are those of the slots' classes, by slot and class order
   pub classes : list_all (λ object. are_apart (λ c d. c == d) object.characteristics) plan.objects ≡ true
   pub class_vars : each_slot plan (has_its_vars plan) ≡ true

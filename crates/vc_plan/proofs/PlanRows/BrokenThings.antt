@@ -148,12 +148,6 @@ slot_for_a_seal : Breaks (codes "line_slots")
     (record whole_machine { lines = piece_line 10 (codes "SEAL") 0 [] ∷ [] })
 slot_for_a_seal = refl
 
--- a component's selection condition beside its line
-selection_at_component : Breaks (codes "line_selections")
-    (record whole_machine
-    { lines = piece_line 10 (codes "DRIVE") 0 (record { dependency = 0; condition = 1 } ∷ []) ∷ [] })
-selection_at_component = refl
-
 -- classes
 twice_in_class : Breaks (codes "classes")
     (record whole_ring { objects = object (codes "RING") (0 ∷ 1 ∷ 2 ∷ []) ∷ object (codes "OTHER") (1 ∷ 1 ∷ []) ∷ [] })
