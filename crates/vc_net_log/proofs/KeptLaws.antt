@@ -14,7 +14,7 @@ same_facts stood begins counts cells [] = refl
 same_facts stood begins counts cells (fact ∷ facts) =
     ap (λ xs. fact ∷ xs) (same_facts stood begins counts cells facts)
 
-same_atoms : (stood : Stood) (begins counts cells : List ℕ) (facts : List Fact)
+pub same_atoms : (stood : Stood) (begins counts cells : List ℕ) (facts : List Fact)
     → concluded (map (step_kept stood begins counts cells) facts) ≡ atoms_of facts
 same_atoms stood begins counts cells [] = refl
 same_atoms stood begins counts cells (fact ∷ facts) =

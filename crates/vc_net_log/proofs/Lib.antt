@@ -1,6 +1,8 @@
 pub mod ComingLaws
 pub mod HoldLaws
+pub mod KeepLaws
 pub mod KeptLaws
+pub mod LeftLaws
 pub mod LogLaws
 pub mod LogRows
 pub mod NewLaws
@@ -9,4 +11,6 @@ pub mod OutLaws
 pub mod PremiseLaws
 pub mod PushLaws
 pub mod ScanLaws
+pub mod StayLaws
+pub mod StayRows
 pub mod WritingLaws

@@ -18,7 +18,7 @@ use Rattle.vc_net_standing.specs.Standing.{atoms_of, places_of}
 use Rattle.vc_net_log.specs.Keeping.{number_at, number_if}
 
 -- the first that passes, where one does
-first_inside : {X : Type 0} (p : X → Bool) (xs : List X) → list_any p xs ≡ true → position_or_len p xs < length xs
+pub first_inside : {X : Type 0} (p : X → Bool) (xs : List X) → list_any p xs ≡ true → position_or_len p xs < length xs
 first_inside p [] h = absurd (cc)
 first_inside p (x ∷ xs) h = by (p x) h (first_inside p xs)
   where

@@ -1,5 +1,7 @@
 pub mod Coming
+pub mod Going
 pub mod Keeping
 pub mod Laws
 pub mod Logs
 pub mod Numbers
+pub mod Staying

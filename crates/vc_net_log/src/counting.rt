@@ -1,6 +1,7 @@
 //! How many grains of each variable are out.
 
-ghost use Rattle.std.specs.Prelude.{◌≡◌, ◌+◌, ◌^◌, ◌<◌, ℕ, [], length, slice_index_or};
+ghost use Rattle.std.specs.Prelude.{◌≡◌, ◌+◌, ◌++◌, ◌^◌, ◌<◌, ℕ, List, length, slice_index_or};
+ghost use Rattle.vc_plan.specs.declared.atoms.Atom.{Atom};
 ghost use Rattle.vc_net_standing.specs.Standing.{atoms_of};
 ghost use Rattle.vc_net_log.specs.Keeping.{IsCounted, lowered_at, raised_at};
 
@@ -35,10 +36,10 @@ fn count_one_less(atom: Atom, outs: &mut Listed<u32>)
     }
 }
 
-/// Counts facts no more that are all that is counted.
-pub fn count_all_less(facts: &[Fact], outs: &mut Listed<u32>)
-    requires { IsCounted (atoms_of facts.now) outs.old }
-    ensures counted { IsCounted [] outs.new }
+/// Counts facts no more.
+pub fn count_less(facts: &[Fact], outs: &mut Listed<u32>)
+    ensures counted { (others : List Atom) → IsCounted (others ++ atoms_of facts.now) outs.old
+        → IsCounted others outs.new }
     ensures long { length outs.new ≡ length outs.old }
 {
     let mut rest = facts;

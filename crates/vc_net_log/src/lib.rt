@@ -4,6 +4,7 @@
 pub mod cells;
 pub mod coming;
 pub mod counting;
+pub mod keeping;
 pub mod laws;
 pub mod log;
 pub mod steps;

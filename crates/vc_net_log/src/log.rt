@@ -2,13 +2,16 @@
 
 use crate::cells::{premises_at, write_places};
 use crate::coming::{may_come_here, may_come_is, may_come_out};
-use crate::counting::{count_all_less, count_one_more};
+use crate::counting::{count_less, count_one_more};
+use crate::keeping::{facts_from, first_gone, put_back};
 use crate::steps::{number_at, steps_of};
 use std::alloc::{AllocError, Global};
 use std::marker::Model;
 use vc_net_places::Cells;
 use vc_net_standing::{Fact, Standing, zeros};
 use vc_plan::{Atom, Plan, Step, View};
+use vc_plan_sources::Sources;
+use vc_rule_yield::Bounded;
 use vc_value::{Listed, Value};
 
 /// The steps that a net has concluded, in the order in which they came: what stands, and from which premises. No step
@@ -49,6 +52,10 @@ impl Log {
     ghost use Rattle.vc_net_log.specs.Coming.{are_by_slot};
     ghost use Rattle.vc_net_log.specs.Logs.{facts_of, nothing_logged, room_at, seen_by, set_of, stood_of, with_step};
     ghost use Rattle.vc_net_log.specs.Numbers.{number_by_place, premises_of};
+    ghost use Rattle.vc_net_log.specs.Going.{WereTaken, with_steps};
+    ghost use Rattle.vc_base.specs.Chains.{cites_earlier};
+    ghost use Rattle.vc_plan_reasons.specs.Checking.{step_form};
+    ghost use Rattle.vc_plan_reasons.specs.Keeping.{kept_of};
 
     /// The log without steps, with so many cells for the premises of each place.
     pub fn new(alloc: Global, plan: &Plan, bounds: &[u32]) -> Result<Log, AllocError>
@@ -167,11 +174,37 @@ impl Log {
         self.standing.put(fact);
     }
 
+    /// Lets those steps go whose source differs, and those that need one of them. The others stay, in their order. The
+    /// facts from the first that goes on are left in the buffer.
+    pub fn keep(&mut self, old: &Sources, new: &Sources, taken: &mut Bounded<Fact>)
+        requires room { length self.old.steps ≤ taken.old.room }
+        requires earlier { cites_earlier step_form 1 self.old.steps ≡ true }
+        ensures kept { self.new ≡ with_steps self.old (kept_of old.now new.now self.old.steps) }
+        ensures taken { WereTaken self.old.steps self.new.steps taken.new.items }
+        ensures room { taken.new.room ≡ taken.old.room }
+    {
+        let first = first_gone(self.standing.facts(), old, new);
+        taken.clear();
+        taken.extend(facts_from(self.standing.facts(), first));
+        count_less(taken.as_slice(), &mut self.outs);
+        self.standing.truncate(first);
+        put_back(
+            &mut self.standing,
+            &mut self.outs,
+            &self.cells,
+            self.counts.as_slice(),
+            self.premises.as_slice(),
+            old,
+            new,
+            taken.as_slice(),
+        );
+    }
+
     /// Lets all steps go.
     pub fn clear(&mut self)
         ensures { self.new ≡ nothing_logged self.old.index self.old.begins }
     {
-        count_all_less(self.standing.facts(), &mut self.outs);
+        count_less(self.standing.facts(), &mut self.outs);
         self.standing.clear();
     }
 
