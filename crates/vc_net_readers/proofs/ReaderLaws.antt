@@ -12,14 +12,14 @@ use Rattle.vc_base.proofs.ListLaws.{number_itself, range_has}
 use Rattle.vc_base.proofs.SetLaws.{told}
 use Rattle.vc_value.specs.declared.value.Value.{Value}
 use Rattle.vc_plan.specs.declared.atoms.Atom.{Atom}
-use Rattle.vc_plan.specs.declared.atoms.Atom.TheVariants.{Here, Out, Is}
+use Rattle.vc_plan.specs.declared.atoms.Atom.TheVariants.{Out, Is}
 use Rattle.vc_plan.specs.declared.plans.Plan.{Plan}
 use Rattle.vc_plan.specs.Bounds.{out_at}
 use Rattle.vc_plan.specs.Domains.{count_of, is_grain_with, numbers_below}
 use Rattle.vc_plan.specs.Gives.{by_rule}
 use Rattle.vc_plan.specs.Pieces.{lies_in}
 use Rattle.vc_plan.specs.Seen.{same_atom}
-use Rattle.vc_plan_reasons.specs.Things.{slot_at, var_at}
+use Rattle.vc_plan_reasons.specs.Things.{Thing, slot_at, thing_of, var_at}
 use Rattle.vc_net_laws.specs.declared.triggers.Trigger.{Trigger}
 use Rattle.vc_net_laws.specs.Triggers.{stands_in, trigger_by}
 use Rattle.vc_net_laws.specs.Waking.{giver_touches}
@@ -27,7 +27,7 @@ use Rattle.vc_net_places.specs.Places.{index_of, is_place, place_in, thing_at}
 use Rattle.vc_net_places.proofs.PlaceLaws.Numbering.{has_grain}
 use Rattle.vc_net_places.proofs.PlaceLaws.Things.{index_tells_places, index_tells_things, range_at}
 use Rattle.vc_net_readers.specs.Filing.{list_at, list_or_none}
-use Rattle.vc_net_readers.specs.Laws.{IsValuesGrain, WokenAreAsked, asked, waiting_in}
+use Rattle.vc_net_readers.specs.Laws.{IsValuesGrain, WokenAreAsked, asked, has_such, waiting_in}
 use Rattle.vc_net_readers.specs.Readers.{is_reader, readers_at, readers_of, rests_at, waits_at}
 use Rattle.vc_net_readers.specs.Waiting.{grain_with, is_own, place_in_grain, place_of_trigger, rests}
 use Rattle.vc_net_readers.proofs.TouchedLemmas.{any_kept}
@@ -147,19 +147,19 @@ var_asked plan set v r grain below there valued touches o is stands = by o is st
         ∙ waiting_found plan r v lies.0 t.value below
         (is ∙ ap (λ w. Some (record { var = w; value = t.value })) (sym same)) lies.2)
 
+-- each rule that touches a thing, and whose trigger stands, is asked
+pub touching_are_asked : (plan : Plan) (set : List Atom) (thing : Thing) (grain : Option ℕ) (r : ℕ)
+    → r < length plan.rules → has_such plan thing ≡ true → IsValuesGrain plan set thing grain
+    → giver_touches plan (by_rule r) thing ≡ true → stands_in set (trigger_by plan (by_rule r)) ≡ true
+    → has nat_eq (asked plan thing grain) r ≡ true
+touching_are_asked plan set (slot_at i) grain r below there valued touches stands =
+    slot_asked plan i r grain below there touches
+touching_are_asked plan set (var_at v) grain r below there valued touches stands =
+    var_asked plan set v r grain below there valued touches (trigger_by plan (by_rule r)) refl stands
+
 pub woken_are_asked : WokenAreAsked
-woken_are_asked plan set (Here i) grain r below there valued woken =
+woken_are_asked plan set atom grain r below there valued woken =
     let p
-    = and_parts (giver_touches plan (by_rule r) (slot_at i))
-    (stands_in (set ++ Here i ∷ []) (trigger_by plan (by_rule r))) woken in
-    slot_asked plan i r grain below there p.0
-woken_are_asked plan set (Out v g) grain r below there valued woken =
-    let p
-    = and_parts (giver_touches plan (by_rule r) (var_at v))
-    (stands_in (set ++ Out v g ∷ []) (trigger_by plan (by_rule r))) woken in
-    var_asked plan (set ++ Out v g ∷ []) v r grain below there valued p.0 (trigger_by plan (by_rule r)) refl p.1
-woken_are_asked plan set (Is v a) grain r below there valued woken =
-    let p
-    = and_parts (giver_touches plan (by_rule r) (var_at v))
-    (stands_in (set ++ Is v a ∷ []) (trigger_by plan (by_rule r))) woken in
-    var_asked plan (set ++ Is v a ∷ []) v r grain below there valued p.0 (trigger_by plan (by_rule r)) refl p.1
+    = and_parts (giver_touches plan (by_rule r) (thing_of atom))
+    (stands_in (set ++ atom ∷ []) (trigger_by plan (by_rule r))) woken in
+    touching_are_asked plan (set ++ atom ∷ []) (thing_of atom) grain r below there valued p.0 p.1

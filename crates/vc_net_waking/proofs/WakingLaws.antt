@@ -28,14 +28,14 @@ use Rattle.vc_net_laws.specs.declared.triggers.Trigger.{Trigger}
 use Rattle.vc_net_laws.specs.Triggers.{stands_in, trigger_by}
 use Rattle.vc_net_laws.specs.Waking.{giver_touches, is_woken}
 use Rattle.vc_net_laws.specs.Wakings.{givers_at}
-use Rattle.vc_net_laws.specs.Working.{same_giver, woken}
+use Rattle.vc_net_laws.specs.Working.{same_giver}
 use Rattle.vc_net_laws.proofs.NetLaws.Working.{giver_exact, giver_itself}
 use Rattle.vc_net_places.proofs.PlaceLaws.Numbering.{named_have_places}
 use Rattle.vc_net_readers.specs.Laws.{IsGrain, IsValuesGrain, asked, has_such}
 use Rattle.vc_net_readers.specs.Readers.{readers_at}
 use Rattle.vc_net_readers.specs.Waiting.{grain_with}
 use Rattle.vc_net_readers.proofs.AskedLaws.{asked_are_few}
-use Rattle.vc_net_readers.proofs.ReaderLaws.{grain_there, woken_are_asked}
+use Rattle.vc_net_readers.proofs.ReaderLaws.{grain_there, touching_are_asked}
 use Rattle.vc_net_readers.proofs.TouchedLemmas.{any_kept}
 use Rattle.vc_net_waking.specs.Laws.{WakingIsFew, WokenWait}
 use Rattle.vc_net_waking.specs.Waking.{grain_at, grain_held, is_met, is_slot, is_var_of, met_rules, sources_at}
@@ -101,7 +101,7 @@ entry_below plan v h =
     ]
 
 -- what an atom's thing needs to be there
-thing_there : (plan : Plan) (atom : Atom) → is_named plan atom ≡ true → has_such plan (thing_of atom) ≡ true
+pub thing_there : (plan : Plan) (atom : Atom) → is_named plan atom ≡ true → has_such plan (thing_of atom) ≡ true
 thing_there plan (Here i) h = named_have_places plan (Here i) h
 thing_there plan (Out v g) h =
     (and_parts (nat_lt v (length plan.vars)) (nat_lt g _) (named_have_places plan (Out v g) h)).0
@@ -231,49 +231,41 @@ source_asked plan (var_at w) v giver below touches h =
     let same : w ≡ v = eqb-true w v (sym (touching_var plan w v) ∙ touches) in
     subst (λ m. has same_giver (sources_of m) giver ≡ true) (sym same) h
 
--- all who are woken are among those who come on the agenda
-woken_come : (plan : Plan) (set : List Atom) (atom : Atom) (giver : Giver) → is_clear plan (set ++ atom ∷ []) ≡ true
-    → has same_giver (givers_of plan) giver ≡ true → is_woken plan set atom giver ≡ true
-    → has same_giver (waking plan (seen_of (set ++ atom ∷ [])) (thing_of atom)) giver ≡ true
-woken_come plan set atom giver clear there woken = by giver there woken
+-- all who touch a thing, and whose trigger stands, are among those who come on the agenda
+pub touching_come : (plan : Plan) (set : List Atom) (thing : Thing) (giver : Giver) → is_clear plan set ≡ true
+    → has_such plan thing ≡ true → has same_giver (givers_of plan) giver ≡ true
+    → giver_touches plan giver thing ≡ true → stands_in set (trigger_by plan giver) ≡ true
+    → has same_giver (waking plan (seen_of set) thing) giver ≡ true
+touching_come plan set thing giver clear such there touches stands = by giver there touches stands
   where
-    whole : List Atom
-    whole = set ++ atom ∷ []
-
     rules : List Giver
-    rules = met_rules plan (seen_of whole) (asked plan (thing_of atom) (grain_at plan (seen_of whole) (thing_of atom)))
+    rules = met_rules plan (seen_of set) (asked plan thing (grain_at plan (seen_of set) thing))
 
-    named : is_named plan atom ≡ true
-    named =
-        (facts plan whole clear).named atom
-        (has_back same_atom atom_exact atom_itself set (atom ∷ []) atom
-        (has_first same_atom atom_exact atom_itself atom []))
-
-    touching : (g : Giver) → is_woken plan set atom g ≡ true
-        → (giver_touches plan g (thing_of atom) ≡ true) × (stands_in whole (trigger_by plan g) ≡ true)
-    touching g w = and_parts (giver_touches plan g (thing_of atom)) (stands_in whole (trigger_by plan g)) w
-
-    by : (g : Giver) → has same_giver (givers_of plan) g ≡ true → is_woken plan set atom g ≡ true
-        → has same_giver (rules ++ sources_at plan (thing_of atom)) g ≡ true
-    by (by_rule r) t w =
-        has_front same_giver giver_exact giver_itself rules (sources_at plan (thing_of atom)) (by_rule r)
-        (rule_met plan (seen_of whole) (asked plan (thing_of atom) (grain_at plan (seen_of whole) (thing_of atom))) r
-        (woken_are_asked plan set atom (grain_at plan (seen_of whole) (thing_of atom)) r (rule_below plan r t)
-        (thing_there plan atom named) (values_grain plan whole (thing_of atom) clear) w)
-        (stands_met plan whole (trigger_by plan (by_rule r)) clear (touching (by_rule r) w).1))
-    by (by_user v) t w =
-        has_back same_giver giver_exact giver_itself rules (sources_at plan (thing_of atom)) (by_user v)
-        (source_asked plan (thing_of atom) v (by_user v) (user_below plan v t) (touching (by_user v) w).0 (user_in v))
-    by (by_entry v) t w =
-        has_back same_giver giver_exact giver_itself rules (sources_at plan (thing_of atom)) (by_entry v)
-        (source_asked plan (thing_of atom) v (by_entry v) (entry_below plan v t) (touching (by_entry v) w).0
-        (entry_in v))
+    by : (g : Giver) → has same_giver (givers_of plan) g ≡ true → giver_touches plan g thing ≡ true
+        → stands_in set (trigger_by plan g) ≡ true → has same_giver (rules ++ sources_at plan thing) g ≡ true
+    by (by_rule r) t w k =
+        has_front same_giver giver_exact giver_itself rules (sources_at plan thing) (by_rule r)
+        (rule_met plan (seen_of set) (asked plan thing (grain_at plan (seen_of set) thing)) r
+        (touching_are_asked plan set thing (grain_at plan (seen_of set) thing) r (rule_below plan r t)
+        such (values_grain plan set thing clear) w k)
+        (stands_met plan set (trigger_by plan (by_rule r)) clear k))
+    by (by_user v) t w k =
+        has_back same_giver giver_exact giver_itself rules (sources_at plan thing) (by_user v)
+        (source_asked plan thing v (by_user v) (user_below plan v t) w (user_in v))
+    by (by_entry v) t w k =
+        has_back same_giver giver_exact giver_itself rules (sources_at plan thing) (by_entry v)
+        (source_asked plan thing v (by_entry v) (entry_below plan v t) w (entry_in v))
 
 pub woken_wait : WokenWait
 woken_wait plan set atom agenda sizes clear giver h =
+    let whole = set ++ atom ∷ [] in
+    let named = (facts plan whole clear).named atom
+    (has_back same_atom atom_exact atom_itself set (atom ∷ []) atom
+    (has_first same_atom atom_exact atom_itself atom [])) in
     let p = has_filter same_giver giver_exact giver_itself (is_woken plan set atom) (givers_of plan) giver h in
-    each_waits plan agenda (waking plan (seen_of (set ++ atom ∷ [])) (thing_of atom)) giver sizes
-    (woken_come plan set atom giver clear p.0 p.1) p.0
+    let woken = and_parts (giver_touches plan giver (thing_of atom)) (stands_in whole (trigger_by plan giver)) p.1 in
+    each_waits plan agenda (waking plan (seen_of whole) (thing_of atom)) giver sizes
+    (touching_come plan whole (thing_of atom) giver clear (thing_there plan atom named) p.0 woken.0 woken.1) p.0
 
 -- no more come than touch the thing
 count_map : (p : Giver → Bool) (f : ℕ → Giver) (ns : List ℕ)
