@@ -1,5 +1,5 @@
 -- What breaks a net refutes its sources: a fact that can't come, and a clash.
-use Rattle.std.proofs.Common.{◌≡◌, ◌+◌, ◌≤◌, Bool, true, false, cond, List, [], ◌∷◌, ◌++◌, length, refl, sym, ◌∙◌}
+use Rattle.std.proofs.Common.{◌≡◌, ◌+◌, ◌≤◌, Bool, true, false, cond, List, [], ◌∷◌, ◌++◌, length, refl, sym, ◌∙◌, append-nil}
 use Rattle.std.proofs.Common.{ap, subst, arith}
 use Rattle.std.specs.Prelude.{Some, nat_le}
 use Rattle.std.proofs.lemmas.Bool.{le-leb}
@@ -124,7 +124,7 @@ module _ (plan : Plan) (sources : Sources) (work : Work) (giver : Giver) (atom :
       (culprit_for plan (facts ++ fact ∷ []) (colliding_with plan facts atom))) premises_kept
       ∙ ap (clash_from (work.log.steps ++ step ∷ []) (colliding_with plan facts atom)) found.is
 
-  pub fact_breaks : IsBrokenOff plan sources giver (broken_by_fact plan work fact premises)
+  pub fact_breaks : IsBrokenOff plan sources giver work (broken_by_fact plan work fact premises)
   fact_breaks = record {
     going = record {
       of = record {
@@ -137,10 +137,12 @@ module _ (plan : Plan) (sources : Sources) (work : Work) (giver : Giver) (atom :
             (arith, same, all);
         collisions = going.of.collisions;
         clashes = going.of.clashes;
+        taken = going.of.taken;
       };
       accepted = going.accepted;
       working = going.working;
     };
+    grown = ([], sym (append-nil work.log.steps));
     giver_there = may.giver_there;
     breaks = unclear_breaks plan sources (set_of work.log) atom going.working.sound may.forced unclear;
     blames = (
@@ -174,7 +176,7 @@ module _ (plan : Plan) (sources : Sources) (work : Work) (giver : Giver) (premis
       let all = going.of.clashes in
       omega (arith, few, all))
 
-  pub clash_breaks_off : IsBrokenOff plan sources giver (broken_by_clash work (culprit_giving sources giver) premises)
+  pub clash_breaks_off : IsBrokenOff plan sources giver work (broken_by_clash work (culprit_giving sources giver) premises)
   clash_breaks_off =
       let same = room_stays work.breaker.premises premises in record {
         going = record {
@@ -187,10 +189,12 @@ module _ (plan : Plan) (sources : Sources) (work : Work) (giver : Giver) (premis
             reasons = going.of.reasons;
             collisions = let all = going.of.collisions in omega (arith, same, all);
             clashes = let all = going.of.clashes in omega (arith, same, all);
+            taken = going.of.taken;
           };
           accepted = going.accepted;
           working = going.working;
         };
+        grown = ([], sym (append-nil work.log.steps));
         giver_there = in_plan plan giver (clashing_in plan sources giver (set_of work.log) clashes);
         breaks = clash_breaks plan sources (set_of work.log) giver going.working.sound clashes;
         blames =

@@ -32,6 +32,7 @@ use Rattle.vc_net_waking.specs.Beginning.{beginners}
 use Rattle.vc_net.specs.Breaking.{clash_from, steps_with}
 use Rattle.vc_net.specs.Going.{HasCome, HasGoneOn, IsBrokenOff, IsGoing, MayCome, WasFound, turns_of}
 use Rattle.vc_net.specs.Ending.{EndsAs, IsSettled}
+use Rattle.vc_net.specs.Renewing.{BeginsWith}
 use Rattle.vc_net.specs.declared.work.Work.{Work}
 use Rattle.vc_net.specs.Working.{IsWorkOf, asking_next, restarted, with_giver}
 use Rattle.vc_net.proofs.GoingLaws.{found_may_come, found_new, may_still_come}
@@ -103,6 +104,24 @@ module _ (plan : Plan) (sources : Sources) (giver : Giver) (start now : Work) (a
           ∙ found_new plan sources start giver all zero conclusion valid going was first)
       asked (suc n) waits next = come.wait_on giver waits
 
+-- steps that come behind others come behind those before them
+pub begins_on : (first second third : List Step) → BeginsWith first second → BeginsWith second third
+    → BeginsWith first third
+begins_on first second third h k =
+    (h.0 ++ k.0, k.1 ∙ (ap (λ steps. steps ++ k.0) h.1 ∙ append_assoc first h.0 k.0))
+
+-- where a turn breaks off, what came in it before still came
+pub turn_breaks_off : (plan : Plan) (sources : Sources) (giver : Giver) (start now new : Work) (place : ℕ)
+    → IsTurning plan sources giver start now place → IsBrokenOff plan sources giver now new
+    → IsBrokenOff plan sources giver start new
+turn_breaks_off plan sources giver start now new place turning off = record {
+  going = off.going;
+  grown = begins_on start.log.steps now.log.steps new.log.steps (turning.more, turning.grown) off.grown;
+  giver_there = off.giver_there;
+  breaks = off.breaks;
+  blames = off.blames;
+}
+
 -- who waits needn't stand beside the agenda
 within_one : (givers : List Giver) (giver : Giver) → has same_giver givers giver ≡ true
     → Within same_giver (givers ++ giver ∷ []) givers
@@ -132,6 +151,7 @@ pub turn_ends : (plan : Plan) (sources : Sources) (giver : Giver) (start now : W
     → HasGoneOn plan sources start now
 turn_ends plan sources giver start now all was turning = record {
   going = nobody_beside plan sources now turning.going.of turning.going.accepted (by all was turning.so_far);
+  grown = (turning.more, turning.grown);
   fewer = turning.fewer;
   calm = turning.calm;
 }
@@ -165,6 +185,7 @@ giver_taken plan sources old new giver e going =
         reasons = was.of.reasons;
         collisions = was.of.collisions;
         clashes = was.of.clashes;
+        taken = was.of.taken;
       };
       accepted = was.accepted;
       working = subst (λ givers. IsWorking plan sources givers (set_of new.log))
@@ -193,6 +214,7 @@ work_restarts plan sources work valid of =
       reasons = of.reasons;
       collisions = of.collisions;
       clashes = of.clashes;
+      taken = of.taken;
     }) refl (beginners_suffice plan sources work.agenda of.sizes (base_clear plan valid))
 
 -- where nobody has more to say the log is whole
@@ -225,8 +247,8 @@ work_is_done plan sources work going calm nobody = record {
 }
 
 -- or where something contradicts: then the giver at hand is asked again
-module _ (plan : Plan) (sources : Sources) (work : Work) (giver : Giver)
-    (off : IsBrokenOff plan sources giver work) where
+module _ (plan : Plan) (sources : Sources) (start work : Work) (giver : Giver)
+    (off : IsBrokenOff plan sources giver start work) where
   still : IsWorkOf plan (with_giver work giver)
   still =
       let sizes = sizes_stay work.agenda (giver ∷ []) in record {
@@ -238,6 +260,7 @@ module _ (plan : Plan) (sources : Sources) (work : Work) (giver : Giver)
         reasons = off.going.of.reasons;
         collisions = off.going.of.collisions;
         clashes = off.going.of.clashes;
+        taken = off.going.of.taken;
       }
 
   waits : has same_giver (added work.agenda giver).givers giver ≡ true

@@ -215,6 +215,7 @@ module _ (plan : Plan) (sources : Sources) (work : Work) (giver : Giver) (atom :
           reasons = going.of.reasons;
           collisions = going.of.collisions;
           clashes = going.of.clashes;
+          taken = going.of.taken;
         }
 
     pub comes : is_clear plan (set_of work.log ++ atom ∷ []) ≡ true → says (seen_by work.log) atom ≡ false

@@ -5,3 +5,5 @@ pub mod GoingLaws
 pub mod LeadLaws
 pub mod NumberLaws
 pub mod PlanFacts
+pub mod RenewLaws
+pub mod RenewRows

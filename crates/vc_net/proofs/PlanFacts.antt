@@ -21,10 +21,11 @@ use Rattle.vc_plan.proofs.PlanLaws.Facts.{clear_from, not_exhausted_past}
 use Rattle.vc_plan_blame.proofs.BlameLaws.Unclear.{some_grain}
 use Rattle.vc_net_log.specs.Coming.{are_by_slot}
 use Rattle.vc_net_places.specs.Cells.{bounds_of, own_bound, total}
-use Rattle.vc_net_places.specs.Places.{number_of, place_for}
+use Rattle.vc_net_places.specs.Places.{index_of, number_of, place_for}
 use Rattle.std.proofs.lemmas.Bool.{and_parts, cases_lt, false_from_ne_true, lt-ltb, leb-true}
 use Rattle.vc_net_places.proofs.PlaceLaws.Cells.{bounds_are_by_place, cells_suffice}
 use Rattle.vc_net_places.proofs.PlaceLaws.Numbering.{named_have_places}
+use Rattle.vc_net_places.proofs.PlaceLaws.Things.{things_are_counted}
 use Rattle.std.proofs.lemmas.List.Sums.{sum_by-cons}
 
 -- numbers of 32 bits tell all atoms, variables and rules
@@ -102,6 +103,10 @@ module _ (plan : Plan) (valid : IsValid plan) where
       | inr past ↦ not_exhausted_past plan (seen_of base) v past
     ];
   })
+
+-- a plan has a place for each atom that it counts
+pub places_counted : (plan : Plan) → length (index_of plan).things ≡ atom_count plan
+places_counted plan = things_are_counted plan
 
 -- what each call needs of a valid plan
 pub ruleset fitting = (atoms_fit, rules_fit, vars_fit, vars_ordered, cells_fit)

@@ -25,6 +25,7 @@ use Rattle.vc_net_sources.specs.Asking.{found_from, origin_of}
 use Rattle.vc_net.specs.declared.turn.Turn.{Turn}
 use Rattle.vc_net.specs.declared.turn.Turn.TheVariants as turns
 use Rattle.vc_net.specs.Breaking.{clash_in}
+use Rattle.vc_net.specs.Renewing.{BeginsWith}
 use Rattle.vc_net.specs.declared.work.Work.{Work}
 use Rattle.vc_net.specs.Working.{IsWorkOf}
 
@@ -65,9 +66,10 @@ pub record HasCome (plan : Plan) (sources : Sources) (giver : Giver) (atom : Ato
   pub wait_on : Within same_giver old.agenda.givers new.agenda.givers
   pub waits : says (seen_by old.log) atom ≡ false → has same_giver new.agenda.givers giver ≡ true
 
--- something contradicts: settling is broken, and what is kept of it refutes the sources
-pub record IsBrokenOff (plan : Plan) (sources : Sources) (giver : Giver) (new : Work) : Type 0 where
+-- something contradicts, perhaps after steps that came: settling is broken, and what is kept of it refutes the sources
+pub record IsBrokenOff (plan : Plan) (sources : Sources) (giver : Giver) (old new : Work) : Type 0 where
   pub going : IsGoing plan sources new (giver ∷ [])
+  pub grown : BeginsWith old.log.steps new.log.steps
   pub giver_there : has same_giver (givers_of plan) giver ≡ true
   pub breaks : settlement_of plan sources ≡ broken
   pub blames : Blames plan sources (clash_in new.log.steps new.breaker)
@@ -75,15 +77,16 @@ pub record IsBrokenOff (plan : Plan) (sources : Sources) (giver : Giver) (new : 
 -- how it ends to conclude an atom
 abbrev pub Concludes : Plan → Sources → Giver → Atom → Work → Work → Turn → Type 0
 Concludes plan sources giver atom old new turns.Done = HasCome plan sources giver atom old new
-Concludes plan sources giver atom old new turns.Broken = IsBrokenOff plan sources giver new
+Concludes plan sources giver atom old new turns.Broken = IsBrokenOff plan sources giver old new
 
 -- the work goes on without the giver at hand: what it says stands, or it is asked again
 pub record HasGoneOn (plan : Plan) (sources : Sources) (old new : Work) : Type 0 where
   pub going : IsGoing plan sources new []
+  pub grown : BeginsWith old.log.steps new.log.steps
   pub fewer : turns_of plan new ≤ turns_of plan old
   pub calm : new.breaker ≡ old.breaker
 
 -- how a turn ends
 abbrev pub Ends : Plan → Sources → Giver → Work → Work → Turn → Type 0
 Ends plan sources giver old new turns.Done = HasGoneOn plan sources old new
-Ends plan sources giver old new turns.Broken = IsBrokenOff plan sources giver new
+Ends plan sources giver old new turns.Broken = IsBrokenOff plan sources giver old new

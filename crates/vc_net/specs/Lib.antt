@@ -2,4 +2,5 @@ pub mod Breaking
 pub mod Ending
 pub mod Going
 pub mod Nets
+pub mod Renewing
 pub mod Working

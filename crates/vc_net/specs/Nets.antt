@@ -1,5 +1,5 @@
 -- A net: its sources, what it works on, and how settling ended.
-use Rattle.std.specs.Prelude.{◌≡◌, length, Option, None, Some}
+use Rattle.std.specs.Prelude.{◌≡◌, [], length, Option, None, Some}
 use Rattle.vc_plan.specs.declared.atoms.Culprit.{Culprit}
 use Rattle.vc_plan.specs.declared.atoms.Outcome.{Outcome}
 use Rattle.vc_plan.specs.declared.atoms.Outcome.TheVariants as outcomes
@@ -8,7 +8,7 @@ use Rattle.vc_plan.specs.Sources.{Sources}
 use Rattle.vc_rule.specs.Rooms.{rooms_of}
 use Rattle.vc_rule_yield.specs.Yielding.{Rooms}
 use Rattle.vc_net.specs.declared.work.Work.{Work}
-use Rattle.vc_net.specs.Working.{IsWorkOf}
+use Rattle.vc_net.specs.Going.{IsGoing}
 
 -- the sources, what is worked on, and how much room there is for what a giver says
 pub record Netted : Type 0 where
@@ -20,9 +20,9 @@ pub record Netted : Type 0 where
 abbrev pub AreFor : Plan → Sources → Type 0
 AreFor plan sources = (length sources.user ≡ length plan.vars) × (length sources.written ≡ length plan.vars)
 
--- what doesn't change is the plan's
+-- what doesn't change is the plan's, and the work has gone on with the net's sources
 pub record IsNetOf (plan : Plan) (net : Netted) : Type 0 where
-  pub work : IsWorkOf plan net.work
+  pub going : IsGoing plan net.sources net.work []
   pub rooms : net.rooms ≡ rooms_of plan
   pub sources : AreFor plan net.sources
 

@@ -4,6 +4,7 @@ use Rattle.vc_plan.specs.declared.atoms.Atom.{Atom}
 use Rattle.vc_plan.specs.declared.atoms.Culprit.{Culprit}
 use Rattle.vc_plan.specs.declared.plans.Plan.{Plan}
 use Rattle.vc_plan.specs.Bounds.{greatest}
+use Rattle.vc_plan.specs.Domains.{atom_count}
 use Rattle.vc_plan.specs.Gives.{Giver}
 use Rattle.vc_plan_reasons.specs.Things.{thing_of}
 use Rattle.vc_net_agenda.specs.Agendas.{Awaited, added, with_next}
@@ -31,6 +32,7 @@ pub record IsWorkOf (plan : Plan) (work : Work) : Type 0 where
   pub reasons : greatest (λ n. n) (bounds_of plan) ≤ work.breaker.reasons.room
   pub collisions : collision_bound plan ≤ work.breaker.premises.room
   pub clashes : clash_cells plan ≤ work.breaker.premises.room
+  pub taken : atom_count plan ≤ work.taken.room
 
 -- the same with another agenda, or another that broke it
 abbrev pub with_agenda : Work → Awaited → Work
@@ -40,6 +42,7 @@ with_agenda work agenda = record {
   readers = work.readers;
   untriggered = work.untriggered;
   breaker = work.breaker;
+  taken = work.taken;
 }
 
 abbrev pub with_breaker : Work → Breaker → Work
@@ -49,6 +52,7 @@ with_breaker work breaker = record {
   readers = work.readers;
   untriggered = work.untriggered;
   breaker = breaker;
+  taken = work.taken;
 }
 
 -- with the giver as the next, or as one who waits
@@ -74,6 +78,7 @@ woken_by plan work log atom = record {
   readers = work.readers;
   untriggered = work.untriggered;
   breaker = work.breaker;
+  taken = work.taken;
 }
 
 abbrev pub with_conclusion : Plan → Work → Fact → List Atom → Work
@@ -87,4 +92,5 @@ restarted plan work = record {
   readers = work.readers;
   untriggered = work.untriggered;
   breaker = unbroken work.breaker;
+  taken = work.taken;
 }

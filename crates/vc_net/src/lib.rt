@@ -6,6 +6,7 @@ pub mod breaker;
 pub mod clashes;
 pub mod laws;
 pub mod net;
+pub mod renewing;
 pub mod settling;
 pub mod turn;
 pub mod work;

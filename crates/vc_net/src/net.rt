@@ -42,6 +42,8 @@ impl Net {
     ghost use Rattle.std.specs.Prelude.{◌≡◌, ◌^◌, ◌<◌, true, length, option_map, IfOk};
     ghost use Rattle.vc_plan.specs.Valid.{IsValid};
     ghost use Rattle.vc_plan_reasons.specs.Fitting.{sources_fit};
+    ghost use Rattle.vc_plan_reasons.specs.Keeping.{kept_of};
+    ghost use Rattle.vc_net.specs.Renewing.{BeginsWith};
     ghost use Rattle.vc_plan_reasons.specs.Trimming.{trimmed_clash};
     ghost use Rattle.vc_net_chains.specs.Telling.{chain_in};
     ghost use Rattle.vc_net.specs.Ending.{IsSettled, clash_of};
@@ -97,8 +99,9 @@ impl Net {
         clash(alloc, &self.work.log, &self.work.breaker)
     }
 
-    /// Settles the plan anew with these sources. It takes no memory. Where it is settled just the conclusions of the
-    /// log stand beside that the root is here; where it is broken a clash of the log refutes the sources.
+    /// Settles the plan with these sources. It takes no memory, and the log begins with what is kept of it: the steps
+    /// whose sources stayed as they were and that need none that is dropped. Where it is settled just the conclusions
+    /// of the log stand beside that the root is here; where it is broken a clash of the log refutes the sources.
     pub fn sync<L: Ledger>(&mut self, plan: &Plan, sources: &Sources, steps: &mut Steps<L>)
         requires valid { IsValid plan.now }
         requires of { IsNetOf plan.now self.old }
@@ -106,10 +109,12 @@ impl Net {
         requires fits { sources_fit plan.now sources.now ≡ true }
         ensures of { IsNetOf plan.now self.new }
         ensures sources { self.new.sources ≡ sources.now }
+        ensures kept { BeginsWith (kept_of self.old.sources sources.now self.old.work.log.steps)
+            self.new.work.log.steps }
         ensures settled { IsSettled plan.now sources.now self.new.work }
     {
+        self.work.renew(plan, &self.sources, sources);
         self.sources.copy_from(sources);
-        self.work.restart(plan);
         settle(plan, &self.sources, &mut self.work, &mut self.out, steps);
     }
 }
@@ -140,7 +145,8 @@ fn with_bounds(alloc: Global, plan: &Plan, bounds: &Bounds) -> Result<Net, Alloc
     ensures { IfOk result (λ net. IsNetOf plan.now net) }
 {
     let sources = Sources::new(alloc, plan)?;
-    let work = Work::new(alloc, plan, bounds)?;
+    let mut work = Work::new(alloc, plan, bounds)?;
+    work.restart(plan);
     let out = new_yield(alloc, plan)?;
     Ok(Net { sources, work, out })
 }

@@ -7,6 +7,7 @@ ghost use Rattle.vc_rule.specs.Rooms.{rooms_of};
 ghost use Rattle.vc_net_agenda.specs.Agendas.{meant};
 ghost use Rattle.vc_net.specs.Ending.{IsSettled};
 ghost use Rattle.vc_net.specs.Going.{Ends, IsGoing};
+ghost use Rattle.vc_net.specs.Renewing.{BeginsWith};
 
 use crate::turn::Turn;
 use crate::work::Work;
@@ -18,7 +19,8 @@ use vc_plan_sources::Sources;
 use vc_rule_yield::Yield;
 use vc_value_steps::Steps;
 
-/// Asks one giver after the other until nobody is left, or somebody contradicts. It takes no memory.
+/// Asks one giver after the other until nobody is left, or somebody contradicts. Steps come behind those that are
+/// there. It takes no memory.
 pub fn settle<L: Ledger>(
     plan: &Plan,
     sources: &Sources,
@@ -32,6 +34,7 @@ pub fn settle<L: Ledger>(
     requires going { IsGoing plan.now sources.now work.old [] }
     requires calm { work.old.breaker.culprit ≡ None }
     ensures rooms { out.new.rooms ≡ out.old.rooms }
+    ensures grown { BeginsWith work.old.log.steps work.new.log.steps }
     ensures settled { IsSettled plan.now sources.now work.new }
 {
     while let Some(giver) = work.agenda.pop() {

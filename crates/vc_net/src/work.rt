@@ -1,9 +1,12 @@
 //! What a net works on: what it has concluded, who is to be asked, and what broke it.
 
-ghost use Rattle.std.specs.Prelude.{◌≡◌};
+ghost use Rattle.std.specs.Prelude.{◌≡◌, IfOk};
 ghost use Rattle.vc_plan.specs.Bounds.{greatest};
+ghost use Rattle.vc_plan.specs.Domains.{atom_count};
+ghost use Rattle.vc_net_places.specs.Places.{index_of};
 
 use crate::breaker::Breaker;
+use crate::renewing::{wake_changed, wake_dropped};
 use crate::turn::Turn;
 use std::alloc::{AllocError, Global};
 use vc_net_agenda::{Agenda, Giver};
@@ -16,7 +19,7 @@ use vc_net_standing::Fact;
 use vc_net_waking::{begin, untriggered, wake};
 use vc_plan::{Atom, Plan};
 use vc_plan_sources::Sources;
-use vc_rule_yield::Yield;
+use vc_rule_yield::{Bounded, Yield};
 use vc_value::Listed;
 
 /// The log of a net, the rules and sources that are to be asked, whom atoms wake, the rules that wait for no value, and
@@ -28,16 +31,19 @@ pub struct Work {
     pub readers: Readers,
     pub untriggered: Listed<u32>,
     pub breaker: Breaker,
+    /// The facts that were taken from the log when sources changed, while they are gone through.
+    pub taken: Bounded<Fact>,
 }
 
 impl Work {
-    ghost use Rattle.std.specs.Prelude.{◌≡◌, ◌≤◌, ◌∷◌, ◌++◌, [], true, false, length, IfOk};
+    ghost use Rattle.std.specs.Prelude.{◌≡◌, ◌≤◌, ◌∷◌, ◌++◌, [], true, false, length, IfOk, None};
     ghost use Rattle.vc_base.specs.Sets.{Within};
     ghost use Rattle.vc_plan.specs.Clear.{is_clear};
     ghost use Rattle.vc_plan.specs.Seen.{same_atom, says};
     ghost use Rattle.vc_plan.specs.Valid.{IsValid};
     ghost use Rattle.vc_plan_reasons.specs.Checking.{concluded};
     ghost use Rattle.vc_plan_reasons.specs.Fitting.{sources_fit};
+    ghost use Rattle.vc_plan_reasons.specs.Keeping.{kept_of};
     ghost use Rattle.vc_net_agenda.specs.Agendas.{meant};
     ghost use Rattle.vc_net_bounds.specs.Counting.{clash_cells};
     ghost use Rattle.vc_net_log.specs.Logs.{room_at, seen_by, set_of, stood_of};
@@ -62,12 +68,14 @@ impl Work {
         let premises = collision_bound(plan).max(bounds.clash as usize);
         let reasons = greatest_of(bounds.places.as_slice()) as usize;
         let breaker = Breaker::new(alloc, reasons, premises)?;
+        let taken = room_for_facts(alloc, plan, &log)?;
         Ok(Work {
             log,
             agenda,
             readers,
             untriggered,
             breaker,
+            taken,
         })
     }
 
@@ -81,6 +89,28 @@ impl Work {
         self.log.clear();
         self.breaker.clear();
         begin(plan, self.untriggered.as_slice(), &mut self.agenda);
+    }
+
+    /// Goes on with other sources: what is kept of the log stays, and those are asked besides who may have anything to
+    /// say then.
+    #[tactic(auto, using(crate::proofs::PlanFacts::vars_fit))]
+    pub fn renew(&mut self, plan: &Plan, old: &Sources, new: &Sources)
+        requires valid { IsValid plan.now }
+        requires going { IsGoing plan.now old.now self.old [] }
+        ensures going { IsGoing plan.now new.now self.new [] }
+        ensures kept { self.new.log.steps ≡ kept_of old.now new.now self.old.log.steps }
+        ensures calm { self.new.breaker.culprit ≡ None }
+    {
+        self.breaker.clear();
+        self.log.keep(old, new, &mut self.taken);
+        wake_dropped(
+            plan,
+            &self.readers,
+            &self.log,
+            self.taken.as_slice(),
+            &mut self.agenda,
+        );
+        wake_changed(plan, old, new, &mut self.agenda);
     }
 
     /// Concludes all that was found by the giver, as far as it doesn't stand, until something contradicts.
@@ -180,6 +210,15 @@ impl Work {
             &mut self.agenda,
         );
     }
+}
+
+// Room for all facts that may be taken from a log of the plan.
+#[tactic(auto, using(crate::proofs::PlanFacts::places_counted))]
+fn room_for_facts(alloc: Global, plan: &Plan, log: &Log) -> Result<Bounded<Fact>, AllocError>
+    requires { log.now.index ≡ index_of plan.now }
+    ensures { IfOk result (λ taken. taken.room ≡ atom_count plan.now) }
+{
+    Bounded::new(alloc, log.standing().places().count())
 }
 
 // The greatest of the numbers; 0 where there is none.

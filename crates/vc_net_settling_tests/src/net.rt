@@ -1,6 +1,6 @@
 //! A lamp of two colours, of which a constraint allows the first alone: it gets that one, and the other contradicts.
 
-ghost use Rattle.std.specs.Prelude.{◌≡◌, ◌<◌, true, length, Some};
+ghost use Rattle.std.specs.Prelude.{◌≡◌, ◌<◌, true, length, IfOk, Some};
 ghost use Rattle.vc_value.specs.declared.value.Value.TheVariants.{Text};
 ghost use Rattle.vc_plan_lamp.specs.Lamp.{lamp};
 ghost use Rattle.vc_plan_reasons.specs.Fitting.{sources_fit};
@@ -18,7 +18,7 @@ use vc_plan_sources::Sources;
 use vc_value::{Listed, Value};
 use vc_value_steps::Steps;
 
-// What a net of the lamp says of its colour after it was settled with the user's.
+// What a net of the lamp says of its colour after it was settled with one colour of the user's, and then with another.
 #[derive(Clone, Copy)]
 struct Told {
     outcome: Outcome,
@@ -63,6 +63,7 @@ fn premise_count(clash: Result<Option<Clash>, AllocError>) -> Result<usize, Allo
 fn settled_with<L: Ledger>(
     alloc: Global,
     plan: &Plan,
+    former: &Sources,
     sources: &Sources,
     blank: Blank,
 ) -> Result<Told, AllocError>
@@ -70,12 +71,16 @@ fn settled_with<L: Ledger>(
     requires parts { blank.parts ≡ L.parts }
     requires some { 0 < blank.parts }
     requires plan { plan.now ≡ lamp }
+    requires former_users { length former.now.user ≡ 1 }
+    requires former_written { length former.now.written ≡ 1 }
+    requires former_fits { sources_fit lamp former.now ≡ true }
     requires users { length sources.now.user ≡ 1 }
     requires written { length sources.now.written ≡ 1 }
     requires fits { sources_fit lamp sources.now ≡ true }
 {
     let mut net = Net::new(alloc, plan)?;
     let mut steps: Steps<L> = Steps::new(blank);
+    net.sync(plan, former, &mut steps);
     net.sync(plan, sources, &mut steps);
     logs_are_short();
     nets_explain();
@@ -96,9 +101,20 @@ fn settled_with<L: Ledger>(
     })
 }
 
+// The lamp's sources with this colour of the user's.
+fn sources_of(alloc: Global, plan: &Plan, colour: u32) -> Result<Sources, AllocError>
+    requires { plan.now ≡ lamp }
+    ensures { IfOk result (λ sources. sources ≡ with_user (no_sources 1) 0 (Some (Text colour))) }
+{
+    let mut sources = Sources::new(alloc, plan)?;
+    sources.set_user(0, Some(Value::Text(colour)));
+    Ok(sources)
+}
+
 fn told_by<L: Ledger>(
     alloc: Global,
     plan: &Plan,
+    former: u32,
     colour: u32,
     blank: Blank,
 ) -> Result<Told, AllocError>
@@ -106,30 +122,38 @@ fn told_by<L: Ledger>(
     requires parts { blank.parts ≡ L.parts }
     requires some { 0 < blank.parts }
     requires plan { plan.now ≡ lamp }
+    requires former { sources_fit lamp (with_user (no_sources 1) 0 (Some (Text former))) ≡ true }
     requires listed { sources_fit lamp (with_user (no_sources 1) 0 (Some (Text colour))) ≡ true }
 {
-    let mut sources = Sources::new(alloc, plan)?;
-    sources.set_user(0, Some(Value::Text(colour)));
-    let told = settled_with::<L>(alloc, plan, &sources, blank);
+    let before = sources_of(alloc, plan, former)?;
+    let sources = sources_of(alloc, plan, colour)?;
+    let told = settled_with::<L>(alloc, plan, &before, &sources, blank);
     drop(sources);
+    drop(before);
     told
 }
 
-fn told_of_lamp<L: Ledger>(alloc: Global, colour: u32, blank: Blank) -> Result<Told, AllocError>
+fn told_of_lamp<L: Ledger>(
+    alloc: Global,
+    former: u32,
+    colour: u32,
+    blank: Blank,
+) -> Result<Told, AllocError>
     requires name { blank.name ≡ L.name }
     requires parts { blank.parts ≡ L.parts }
     requires some { 0 < blank.parts }
+    requires former { sources_fit lamp (with_user (no_sources 1) 0 (Some (Text former))) ≡ true }
     requires listed { sources_fit lamp (with_user (no_sources 1) 0 (Some (Text colour))) ≡ true }
 {
     let plan = lamp(alloc)?;
-    let told = told_by::<L>(alloc, &plan, colour, blank);
+    let told = told_by::<L>(alloc, &plan, former, colour, blank);
     drop(plan);
     told
 }
 
 #[test]
 fn excludes_the_second_colour(rt: HostRuntime) -> Result<(), Fail> {
-    let told = told_of_lamp::<Brand>(rt.alloc(), 0, Blank::new(1))?;
+    let told = told_of_lamp::<Brand>(rt.alloc(), 1, 0, Blank::new(1))?;
     assert_eq!(rt; told.outcome, Outcome::Settled);
     assert_eq!(rt; told.colour, Some(Value::Text(0)));
     assert!(rt; told.second_out);
@@ -141,7 +165,7 @@ fn excludes_the_second_colour(rt: HostRuntime) -> Result<(), Fail> {
 
 #[test]
 fn blames_the_constraint(rt: HostRuntime) -> Result<(), Fail> {
-    let told = told_of_lamp::<Brand>(rt.alloc(), 1, Blank::new(1))?;
+    let told = told_of_lamp::<Brand>(rt.alloc(), 0, 1, Blank::new(1))?;
     assert_eq!(rt; told.outcome, Outcome::Broken(Culprit::Rule(0)));
     assert_eq!(rt; told.steps, 1);
     assert_eq!(rt; told.premises, 2);

@@ -33,7 +33,7 @@ returns-in-Some-clause-ends g c =
     let giver = meant c.args.giver in
     let premises = c.in-Some.premises.now in
     let e = c.keep_clash.ensures ∙ ap (λ culprit. clashed work.breaker culprit premises) c.culprit_of.ensures in
-    subst (λ b. IsBrokenOff plan sources giver (with_breaker work b)) (sym e)
+    subst (λ b. IsBrokenOff plan sources giver work (with_breaker work b)) (sym e)
     (clash_breaks_off plan sources work giver premises c.requires.valid c.requires.fits c.requires.going
     (clash_found c.ask.new.out (found_from plan sources (seen_by work.log) giver) premises c.ask.ensures.found
     c.in-Some.ensures.some))

@@ -9,12 +9,15 @@ new-requires g c = lamp_is_valid c.args.plan.now c.requires.plan
 pub sync-requires-clause-valid : goal.sync-requires-clause-valid
 sync-requires-clause-valid g c = lamp_is_valid c.args.plan.now c.requires.plan
 
+pub sync-requires-2-clause-valid : goal.sync-requires-2-clause-valid
+sync-requires-2-clause-valid g c = lamp_is_valid c.args.plan.now c.requires.plan
+
 pub clash-requires : goal.clash-requires
 clash-requires g c =
-    logs_are_short c.args.plan.now c.args.sources.now c.sync.new.self.work
-    (lamp_is_valid c.args.plan.now c.requires.plan) c.sync.ensures.settled.going
+    logs_are_short c.args.plan.now c.args.sources.now c.sync-2.new.self.work
+    (lamp_is_valid c.args.plan.now c.requires.plan) c.sync-2.ensures.settled.going
 
 pub chain_of-requires : goal.chain_of-requires
 chain_of-requires g c =
-    logs_are_short c.args.plan.now c.args.sources.now c.sync.new.self.work
-    (lamp_is_valid c.args.plan.now c.requires.plan) c.sync.ensures.settled.going
+    logs_are_short c.args.plan.now c.args.sources.now c.sync-2.new.self.work
+    (lamp_is_valid c.args.plan.now c.requires.plan) c.sync-2.ensures.settled.going

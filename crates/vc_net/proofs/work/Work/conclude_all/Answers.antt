@@ -1,7 +1,8 @@
 -- Each conclusion may come when its turn is there, and the turn goes on.
 use Rattle.std.proofs.Common.{◌≡◌, length, arith, subst}
 use Rattle.vc_net_agenda.specs.Agendas.{meant}
-use Rattle.vc_net.proofs.EndLaws.{IsTurning, conclusion_there, next_may_come, turn_begins, turn_ends, turn_goes_on}
+use Rattle.vc_net.proofs.EndLaws.{IsTurning, conclusion_there, next_may_come, turn_begins, turn_breaks_off, turn_ends}
+use Rattle.vc_net.proofs.EndLaws.{turn_goes_on}
 use Rattle.vc_net.proofs.work.Work.conclude_all.Goals as goal
 
 pub loop-place-init : goal.loop-place-init
@@ -23,6 +24,11 @@ loop-place-preserved c = (
       c.loop-place.invariant.0 c.conclude.new.self c.in-Done.ensures,
   omega (arith, c.loop-place-test.true),
 )
+
+pub returns-in-Broken : goal.returns-in-Broken
+returns-in-Broken c =
+    turn_breaks_off c.args.plan.now c.args.sources.now (meant c.args.giver) c.args.self.now c.loop-place.self
+    c.conclude.new.self c.loop-place.place c.loop-place.invariant.0 c.in-Broken.ensures
 
 pub returns : goal.returns
 returns c =

@@ -45,7 +45,7 @@ returns-else-may_come c =
     = c.keep_fact.ensures
     ∙ ap (λ (s : Stood). let fact : Fact = record { atom = c.args.atom; origin = c.origin_of-origin.result } in
     collided plan s.facts work.breaker fact premises) c.standing.ensures in
-    subst (λ b. IsBrokenOff plan c.args.sources.now (meant c.args.giver) (with_breaker work b))
+    subst (λ b. IsBrokenOff plan c.args.sources.now (meant c.args.giver) work (with_breaker work b))
     (sym (told
     ∙ ap (λ o. let fact : Fact = record { atom = c.args.atom; origin = o } in
     collided plan (facts_of work.log.steps) work.breaker fact premises) c.origin_of-origin.ensures))

@@ -1,0 +1,60 @@
+-- Who is asked besides when sources change, and with what steps begin, computed on PUMP and on single steps.
+use Rattle.std.proofs.Common.{◌≡◌, ◌≢◌, [], ◌∷◌, ap, refl}
+use Rattle.std.specs.Prelude.{None, Some}
+use Rattle.vc_value.specs.declared.value.Value.TheVariants.{Text}
+use Rattle.vc_plan.specs.declared.atoms.Atom.TheVariants.{Is, Out}
+use Rattle.vc_plan.specs.declared.atoms.Origin.TheVariants.{Rule, User}
+use Rattle.vc_plan.specs.declared.atoms.Step.{Step}
+use Rattle.vc_plan.specs.Gives.{by_entry, by_user}
+use Rattle.vc_plan.specs.Seen.{seen_of}
+use Rattle.vc_plan.specs.Sources.{Sources}
+use Rattle.vc_plan.proofs.PlanRows.Models.{pump, users}
+use Rattle.vc_plan_reasons.specs.Checking.{set_with}
+use Rattle.vc_plan_reasons.specs.Things.{var_at}
+use Rattle.vc_net_waking.specs.Waking.{waking}
+use Rattle.vc_net.specs.Renewing.{BeginsWith, changed_sources, dropped_wake}
+
+abbrev first : Step
+first = record { conclusion = Is 0 (Text 1); origin = User; premises = [] }
+
+abbrev second : Step
+second = record { conclusion = Out 1 0; origin = Rule 0; premises = 1 ∷ [] }
+
+begins : BeginsWith (first ∷ []) (first ∷ second ∷ [])
+begins = (second ∷ [], refl)
+
+begins_with_nothing : BeginsWith [] (first ∷ [])
+begins_with_nothing = (first ∷ [], refl)
+
+ends_before : BeginsWith (first ∷ []) [] → ⊥
+ends_before h = let none = h.1 in absurd (cc)
+
+ends_with_it : BeginsWith (first ∷ []) (second ∷ first ∷ []) → ⊥
+ends_with_it h =
+    let is : second ≡ first = cc in
+    let conclusions = ap (λ (step : Step). step.conclusion) is in
+    absurd (cc)
+
+-- a size that was set, and of the others nothing
+abbrev small : Sources
+small = users (Some (Text 1) ∷ None ∷ None ∷ [])
+
+abbrev large : Sources
+large = users (Some (Text 2) ∷ None ∷ None ∷ [])
+
+size_changed : changed_sources small large 3 ≡ by_user 0 ∷ by_entry 0 ∷ []
+size_changed = refl
+
+nothing_changed : changed_sources small small 3 ≡ []
+nothing_changed = refl
+
+first_left_out : changed_sources small large 3 ≢ []
+first_left_out e = cc
+
+-- what still is concluded wakes nobody, what was dropped whoever touches its variable
+kept_wakes_nobody : dropped_wake pump (Is 0 (Text 1) ∷ []) (Is 0 (Text 1) ∷ []) ≡ []
+kept_wakes_nobody = refl
+
+dropped_wakes : dropped_wake pump (Is 0 (Text 1) ∷ []) (Is 0 (Text 1) ∷ Out 1 0 ∷ [])
+    ≡ waking pump (seen_of (set_with (Is 0 (Text 1) ∷ []))) (var_at 1)
+dropped_wakes = refl

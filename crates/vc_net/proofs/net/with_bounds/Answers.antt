@@ -1,0 +1,21 @@
+-- The work begins with no sources.
+use Rattle.std.proofs.Common.{[], ap, length, subst, sym, ◌∙◌}
+use Rattle.std.proofs.lemmas.List.{length-replicate}
+use Rattle.vc_plan.specs.Sources.{Sources}
+use Rattle.vc_net.specs.Going.{IsGoing}
+use Rattle.vc_rule_yield.specs.Yielding.{Yielded}
+use Rattle.vc_net.proofs.EndLaws.{work_restarts}
+use Rattle.vc_net.proofs.net.with_bounds.Goals as goal
+
+pub returns : goal.returns
+returns c =
+    let plan = c.args.plan.now in
+    record {
+      going = subst (λ work. IsGoing plan c.in_ok-sources.sources work []) (sym c.restart.ensures)
+          (work_restarts plan c.in_ok-sources.sources c.in_ok-work.work c.requires.valid c.in_ok-work.ensures);
+      rooms = ap (λ (y : Yielded). y.rooms) c.in_ok-out.ensures;
+      sources = (
+        ap (λ (s : Sources). length s.user) c.in_ok-sources.ensures ∙ length-replicate (length plan.vars) _,
+        ap (λ (s : Sources). length s.written) c.in_ok-sources.ensures ∙ length-replicate (length plan.vars) _,
+      );
+    }

@@ -1,0 +1,66 @@
+//! Who is asked when sources have changed.
+
+ghost use Rattle.std.specs.Prelude.{◌≡◌, ◌||◌, ◌^◌, ◌<◌, length};
+ghost use Rattle.vc_plan.specs.Domains.{atom_count};
+ghost use Rattle.vc_plan_reasons.specs.Checking.{concluded};
+ghost use Rattle.vc_plan_reasons.specs.Keeping.{entry_differs, user_differs};
+ghost use Rattle.vc_net_places.specs.Places.{index_of};
+ghost use Rattle.vc_net_readers.specs.Readers.{readers_of};
+ghost use Rattle.vc_net_standing.specs.Standing.{atoms_of};
+ghost use Rattle.vc_net_waking.specs.Waking.{with_givers};
+ghost use Rattle.vc_net.specs.Renewing.{changed_sources, dropped_wake};
+
+use vc_net_agenda::Agenda;
+use vc_net_log::Log;
+use vc_net_log::keeping::{entry_differs, user_differs};
+use vc_net_readers::Readers;
+use vc_net_standing::Fact;
+use vc_net_waking::wake;
+use vc_net_waking::waking::push_sources;
+use vc_plan::Plan;
+use vc_plan_sources::Sources;
+
+/// Lets all wait whom those of the facts wake that are no more concluded.
+pub fn wake_dropped(plan: &Plan, readers: &Readers, log: &Log, facts: &[Fact], agenda: &mut Agenda)
+    requires few { atom_count plan.now < 2 ^ 32 }
+    requires vars { length plan.now.vars < 2 ^ 32 }
+    requires index { log.now.index ≡ index_of plan.now }
+    requires readers { readers.now ≡ readers_of plan.now }
+    ensures { agenda.new ≡ with_givers agenda.old
+        (dropped_wake plan.now (concluded log.now.steps) (atoms_of facts.now)) }
+{
+    let mut rest = facts;
+    while let [fact, more @ ..] = rest {
+        if !log.has(fact.atom) {
+            wake(
+                plan,
+                readers,
+                log.standing().places(),
+                log,
+                fact.atom,
+                agenda,
+            );
+        }
+        rest = more;
+    }
+}
+
+/// Lets the sources of the variables wait for which they differ.
+#[tactic(auto, using(crate::proofs::RenewLaws::changed_next))]
+pub fn wake_changed(plan: &Plan, old: &Sources, new: &Sources, agenda: &mut Agenda)
+    requires { length plan.now.vars < 2 ^ 32 }
+    ensures { agenda.new ≡ with_givers agenda.old (changed_sources old.now new.now (length plan.now.vars)) }
+{
+    for var in 0..plan.vars.len() {
+        if sources_differ(old, new, var as u32) {
+            push_sources(var as u32, agenda);
+        }
+    }
+}
+
+// Whether either of the variable's sources differs.
+fn sources_differ(old: &Sources, new: &Sources, var: u32) -> bool
+    ensures { result ≡ (user_differs old.now new.now var || entry_differs old.now new.now var) }
+{
+    user_differs(old, new, var) || entry_differs(old, new, var)
+}
