@@ -1,5 +1,5 @@
 -- How `check` ends, why, and what it has written then.
-use Rattle.std.specs.Prelude.{◌≡◌, ℕ, List, Bool, true, false, if◌then◌else◌, Option}
+use Rattle.std.specs.Prelude.{◌≡◌, ◌≢◌, ℕ, List, Bool, true, false, if◌then◌else◌, Option, Some}
 use Rattle.std.specs.Io.KnownBytes.{Appends}
 use Rattle.vc_outside.specs.Faults.{Raised}
 use Rattle.vc_outside.specs.Shelves.{Files}
@@ -64,9 +64,24 @@ abbrev pub answer_status : Answer → ℕ
 answer_status (counted plan) = 0
 answer_status (stopped stop) = stop_status stop
 
--- what the model of this name comes to is said, and nothing else
+-- no count of faults rose, memory was there, and the shelf tells its files
+pub record IsQuiet (o : Outside) (files : Files) (status : ℕ) : Type 0 where
+  pub told : o.files ≡ Some files
+  pub shelf : ¬ Raised o.shelf_before o.shelf_after
+  pub sink : ¬ Raised o.sink_before o.sink_after
+  pub memory : status ≢ 8
+
+-- this answer was written whole, with its status
+pub record IsGiven (name : List ℕ) (o : Outside) (status : ℕ) (answer : Answer) : Type 0 where
+  pub line : Appends o.written_before o.written_after (answer_line name answer)
+  pub ends : status ≡ answer_status answer
+
+-- what the model of this name comes to is said, and nothing else; and what it comes to by files that are told was said
+-- wherever no count of faults rose and memory was there, a plan or the one refusal: no other answer can be
 pub record EndsCheck (name : List ℕ) (o : Outside) (status : ℕ) : Type 0 where
   pub answer : Answer
   pub is : IsAnswer name o answer
   pub said : IsSaid o.written_before o.written_after o.sink_before o.sink_after (answer_line name answer)
       (answer_status answer) status
+  pub exact : (files : Files) (due : Answer) → IsQuiet o files status → answer_status due ≢ 8 → IsAnswer name o due
+      → IsGiven name o status due

@@ -1,1 +1,2 @@
 pub mod LoadingLaws
+pub mod OneLaws

@@ -26,7 +26,8 @@ use Rattle.vc_compile.specs.Compiled.{IsRefusal, IsSound}
 use Rattle.vc_app_models.specs.declared.stop.ModelStop.{ModelStop}
 use Rattle.vc_app_models.specs.declared.stop.ModelStop.TheVariants as stops
 
--- the file of this name, where files are told, holds the text of this model
+-- the file of this name, where files are told, holds the text of this model; where its trees stand in memory doesn't
+-- matter, as models of which the same is seen have one fault and one plan
 pub record IsModelIn (files : Option Files) (name : List ℕ) (model : Model) : Type 0 where
   pub text : List ℕ
   pub held : Holds files name text

@@ -370,3 +370,10 @@ sizes_same layout drafts tables p q a b =
     ap (λ n. fault_by n (atom_count p) (cell_bound p)) (ap length same.rules)
     ∙ ap (λ n. fault_by (length q.rules) n (cell_bound p)) (atoms_same p q same)
     ∙ ap (fault_by (length q.rules) (atom_count q)) (cells_same p q same)
+
+-- and need as many atoms and cells
+pub counts_same : (layout : Layout) (drafts : Drafts) (tables : List VariantTable) (p q : Plan)
+    → IsPlanOver layout drafts tables p → IsPlanOver layout drafts tables q
+    → (atom_count p ≡ atom_count q) × (cell_bound p ≡ cell_bound q)
+counts_same layout drafts tables p q a b =
+    let same = alike layout drafts tables p q a b in (atoms_same p q same, cells_same p q same)

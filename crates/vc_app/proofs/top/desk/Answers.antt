@@ -2,6 +2,7 @@
 -- the model.
 use Rattle.std.proofs.Common.{subst}
 use Rattle.vc_app_check.specs.Checking.{EndsCheck}
+use Rattle.vc_app_check.proofs.CheckLaws.{some_spot}
 use Rattle.vc_app.specs.Endings.{outside}
 use Rattle.vc_app.proofs.EndingLaws.{one_name}
 use Rattle.vc_app.proofs.ExactnessLaws.{exactly}
@@ -31,7 +32,7 @@ returns-in-None-clause-exact g c =
     (g.S.Sink.written c.args.out.now) (g.S.Sink.written c.end.new.out) (g.S.Sink.faults c.args.out.now)
     (g.S.Sink.faults c.end.new.out) in
     λ other.
-    exactly c.args.words.now o c.status.result
+    exactly (some_spot c.args.alloc) c.args.words.now o c.status.result
     (record {
       ending = c.end.result;
       number = c.status.ensures;

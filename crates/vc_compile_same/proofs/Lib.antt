@@ -1,0 +1,10 @@
+pub mod CutLaws
+pub mod ListLaws
+pub mod NameLaws
+pub mod PlanLaws
+pub mod RuleLaws
+pub mod ShownLaws
+pub mod SiteLaws
+pub mod SlotLaws
+pub mod TypingLaws
+pub mod UseLaws
