@@ -1,5 +1,6 @@
 -- What is on a board says the same as the set that was put on it.
-use Rattle.std.proofs.Common.{◌≡◌, ℕ, zero, suc, ◌<◌, Bool, true, false, cond, ◌&&◌, ◌||◌, ◌==◌, List, [], ◌∷◌, refl, ◌∙◌, ap}
+use Rattle.std.proofs.Common.{◌≡◌, ℕ, zero, suc, ◌<◌, Bool, true, false, cond, ◌&&◌, ◌||◌, ◌==◌}
+use Rattle.std.proofs.Common.{List, [], ◌∷◌, refl, ◌∙◌, ap}
 use Rattle.std.proofs.Common.{drop, length, arith}
 use Rattle.std.specs.Prelude.{nat_eq, Some, get_or}
 use Rattle.std.specs.List.{list_any}

@@ -1,5 +1,6 @@
 -- Pieces of lists by their numbers, which of them hold a value, and how many there are.
-use Rattle.std.proofs.Common.{◌≡◌, ℕ, suc, ◌^◌, ◌<◌, ◌≤◌, Bool, true, false, ◌||◌, ◌==◌, List, [], ◌∷◌, length, map, refl, ◌∙◌}
+use Rattle.std.proofs.Common.{◌≡◌, ℕ, suc, ◌^◌, ◌<◌, ◌≤◌, Bool, true, false, ◌||◌, ◌==◌, List}
+use Rattle.std.proofs.Common.{[], ◌∷◌, length, map, refl, ◌∙◌}
 use Rattle.std.proofs.Common.{◌+◌, ap, sym, inl, inr, arith, cond, not}
 use Rattle.std.specs.List.{list_any, position_or_len}
 use Rattle.std.specs.Prelude.{slice_get, Some, None, option_map, nat_lt, position}

@@ -49,7 +49,8 @@ fn cell(row: &[Value], column: u32) -> Option<Value>
 }
 
 fn left_holds<V: View>(plan: &Plan, view: &V, var: u32, value: Value, grain: u32) -> bool
-    ensures { result ≡ is_left plan.now (V.seen view.now) var grain && is_grain_with plan.now var (lies_in value) grain }
+    ensures { result ≡ is_left plan.now (V.seen view.now) var grain
+        && is_grain_with plan.now var (lies_in value) grain }
 {
     is_left(plan, view, var, grain) && holds(plan, var, value, grain)
 }

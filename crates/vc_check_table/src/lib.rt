@@ -1,5 +1,5 @@
-//! What a table call of a constraint says, asked and not listed: whether it clashes, whether it has an atom, and whether
-//! all of it is said already.
+//! What a table call of a constraint says, asked and not listed: whether it clashes, whether it has an atom, and
+//! whether all of it is said already.
 #![tactic(auto)]
 
 pub mod agreed;

@@ -10,8 +10,10 @@ use Rattle.vc_check_gives.proofs.grains_left.left_with.Given as goal
 
 abbrev pub invariant-loop-grain : goal.invariant-loop-grain
 invariant-loop-grain g l =
-    let test : ℕ → Bool = λ n. is_left l.plan (g.V.View.seen l.view) l.var n && is_grain_with l.plan l.var (passes_by l.test) n in
-    (counted l.remaining (filter test (range_with_len l.grain (l.count - l.grain))) ≡ remaining_of (left_with l.plan (g.V.View.seen l.view) l.var (passes_by l.test)))
+    let test : ℕ → Bool
+    = λ n. is_left l.plan (g.V.View.seen l.view) l.var n && is_grain_with l.plan l.var (passes_by l.test) n in
+    (counted l.remaining (filter test (range_with_len l.grain (l.count - l.grain)))
+    ≡ remaining_of (left_with l.plan (g.V.View.seen l.view) l.var (passes_by l.test)))
     × (l.grain ≤ l.count)
 
 abbrev pub decreases-loop-grain : goal.decreases-loop-grain

@@ -8,7 +8,8 @@ use Rattle.vc_check_gives.proofs.grains_left.not_out.Given as goal
 abbrev pub invariant-loop-grain : goal.invariant-loop-grain
 invariant-loop-grain g l =
     let test : ℕ → Bool = λ n. not ((g.V.View.seen l.view).out l.var n) in
-    (counted l.remaining (filter test (range_with_len l.grain (l.count - l.grain))) ≡ remaining_of (not_out l.plan (g.V.View.seen l.view) l.var))
+    (counted l.remaining (filter test (range_with_len l.grain (l.count - l.grain)))
+    ≡ remaining_of (not_out l.plan (g.V.View.seen l.view) l.var))
     × (l.grain ≤ l.count)
 
 abbrev pub decreases-loop-grain : goal.decreases-loop-grain

@@ -6,7 +6,8 @@ use Rattle.vc_check_table.proofs.rows.some_is_possible.Given as goal
 
 abbrev pub invariant-loop-rest : goal.invariant-loop-rest
 invariant-loop-rest g l =
-    list_any (is_possible_in l.plan (g.V.View.seen l.view) l.columns) l.rest ≡ list_any (is_possible_in l.plan (g.V.View.seen l.view) l.columns) l.rows
+    list_any (is_possible_in l.plan (g.V.View.seen l.view) l.columns) l.rest
+    ≡ list_any (is_possible_in l.plan (g.V.View.seen l.view) l.columns) l.rows
 
 abbrev pub decreases-loop-rest : goal.decreases-loop-rest
 decreases-loop-rest g l = length l.rest
