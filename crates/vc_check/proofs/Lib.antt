@@ -1,0 +1,4 @@
+pub mod CitingLemmas
+pub mod ClashLemmas
+pub mod FamilyLemmas
+pub mod FollowingLemmas

@@ -1,0 +1,4 @@
+pub mod BoardLemmas
+pub mod ClearLemmas
+pub mod GrainLemmas
+pub mod RangeLemmas

@@ -1,0 +1,11 @@
+-- The number is among those from here on if it is among all.
+use Rattle.std.proofs.Common.{◌≡◌, length}
+use Rattle.std.specs.Prelude.{nat_eq}
+use Rattle.std.specs.List.{list_any}
+use Rattle.vc_check_givers.proofs.reading.is_among.Given as goal
+
+abbrev pub invariant-loop-rest : goal.invariant-loop-rest
+invariant-loop-rest l = list_any (nat_eq l.number) l.rest ≡ list_any (nat_eq l.number) l.numbers
+
+abbrev pub decreases-loop-rest : goal.decreases-loop-rest
+decreases-loop-rest l = length l.rest

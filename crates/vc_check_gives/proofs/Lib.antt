@@ -1,0 +1,3 @@
+pub mod AssignLemmas
+pub mod CountingLemmas
+pub mod PartLemmas
