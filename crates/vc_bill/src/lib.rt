@@ -5,6 +5,7 @@ pub mod amounts;
 pub mod billing;
 pub mod components;
 pub mod laws;
+pub mod numbers;
 pub mod ranges;
 pub mod routing;
 pub mod selecting;

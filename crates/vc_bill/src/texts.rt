@@ -5,28 +5,17 @@ ghost use Rattle.std.specs.List.{flat_map};
 ghost use Rattle.std.specs.Fmt.{decimal};
 ghost use Rattle.vc_bill.specs.Texts as texts;
 
+use crate::numbers::{put_decimal, put_digits};
 use std::alloc::{AllocError, Global};
 use vc_plan::{BillLine, Line, Operation, OperationLine, Plan};
 use vc_rule_terms::elements::element;
 use vc_value::{Dec, Word};
 
-// Puts a number's digits last, without a text of their own.
-#[tactic(auto, using(crate::proofs::DigitLemmas::one_digit, crate::proofs::DigitLemmas::more_digits))]
-fn put_digits(out: &mut Word, number: u32) -> Result<(), AllocError>
-    ensures { OnOk result (out.new ≡ out.old ++ decimal number) }
-{
-    if number < 10 {
-        return out.append(&[b'0' + number as u8]);
-    }
-    put_digits(out, number / 10)?;
-    out.append(&[b'0' + (number % 10) as u8])
-}
-
 // Puts a number last, and a space.
 fn put_number(out: &mut Word, number: u32) -> Result<(), AllocError>
     ensures { OnOk result (out.new ≡ out.old ++ texts.spaced (decimal number)) }
 {
-    put_digits(out, number)?;
+    put_digits(out, u64::from(number))?;
     out.append_text(" ")
 }
 
@@ -60,51 +49,39 @@ fn put_four_digits(out: &mut Word, number: u32) -> Result<(), AllocError>
     put_number(out, number)
 }
 
-fn put_amount(alloc: Global, out: &mut Word, amount: Option<Dec>) -> Result<(), AllocError>
-    ensures { OnOk result (out.new ≡ out.old ++ texts.spaced (texts.amount_text amount)) }
+fn put_amount(out: &mut Word, amount: Option<Dec>) -> Result<(), AllocError>
+    ensures { OnOk result (out.new ≡ out.old ++ texts.amount_text amount) }
 {
     match amount {
-        Some(amount) => {
-            let text = amount.print(alloc)?;
-            put_spaced(out, text.bytes())
-        }
-        None => put_spaced(out, b"?".as_slice()),
+        Some(amount) => put_decimal(out, amount),
+        None => out.append_text("?"),
     }
 }
 
 // Puts an amount with its unit last, and ends the line.
-fn put_measured(
-    alloc: Global,
-    out: &mut Word,
-    amount: Option<Dec>,
-    unit: &[u8],
-) -> Result<(), AllocError>
+fn put_measured(out: &mut Word, amount: Option<Dec>, unit: &[u8]) -> Result<(), AllocError>
     ensures { OnOk result (out.new ≡ out.old ++ texts.measured amount unit.now) }
 {
-    put_amount(alloc, out, amount)?;
+    put_amount(out, amount)?;
+    out.append_text(" ")?;
     out.append(unit)?;
     out.append_text("\n")
 }
 
-fn put_bill_line(
-    alloc: Global,
-    out: &mut Word,
-    row: BillLine,
-    line: &Line,
-) -> Result<(), AllocError>
+fn put_bill_line(out: &mut Word, row: BillLine, line: &Line) -> Result<(), AllocError>
     ensures { OnOk result (out.new ≡ out.old ++ texts.bill_line row line.now) }
 {
     put_number(out, u32::from(row.level))?;
     put_four_digits(out, line.item)?;
     put_spaced(out, line.material.bytes())?;
-    put_measured(alloc, out, row.quantity, line.unit.bytes())
+    put_measured(out, row.quantity, line.unit.bytes())
 }
 
-fn put_bill_row(alloc: Global, out: &mut Word, plan: &Plan, row: BillLine) -> Result<(), AllocError>
+fn put_bill_row(out: &mut Word, plan: &Plan, row: BillLine) -> Result<(), AllocError>
     ensures { OnOk result (out.new ≡ out.old ++ texts.bill_row plan.now row) }
 {
     match element(plan.lines.as_slice(), row.line) {
-        Some(line) => put_bill_line(alloc, out, row, line),
+        Some(line) => put_bill_line(out, row, line),
         None => Ok(()),
     }
 }
@@ -115,13 +92,12 @@ pub fn print_bill(alloc: Global, plan: &Plan, lines: &[BillLine]) -> Result<Word
 {
     let mut out = Word::new(alloc);
     for row in lines {
-        put_bill_row(alloc, &mut out, plan, *row)?;
+        put_bill_row(&mut out, plan, *row)?;
     }
     Ok(out)
 }
 
 fn put_operation(
-    alloc: Global,
     out: &mut Word,
     row: OperationLine,
     operation: &Operation,
@@ -131,19 +107,14 @@ fn put_operation(
     put_number(out, row.slot)?;
     put_four_digits(out, operation.number)?;
     put_spaced(out, operation.name.bytes())?;
-    put_measured(alloc, out, row.time, operation.unit.bytes())
+    put_measured(out, row.time, operation.unit.bytes())
 }
 
-fn put_routing_row(
-    alloc: Global,
-    out: &mut Word,
-    plan: &Plan,
-    row: OperationLine,
-) -> Result<(), AllocError>
+fn put_routing_row(out: &mut Word, plan: &Plan, row: OperationLine) -> Result<(), AllocError>
     ensures { OnOk result (out.new ≡ out.old ++ texts.routing_row plan.now row) }
 {
     match element(plan.operations.as_slice(), row.operation) {
-        Some(operation) => put_operation(alloc, out, row, operation),
+        Some(operation) => put_operation(out, row, operation),
         None => Ok(()),
     }
 }
@@ -158,7 +129,7 @@ pub fn print_routing(
 {
     let mut out = Word::new(alloc);
     for row in lines {
-        put_routing_row(alloc, &mut out, plan, *row)?;
+        put_routing_row(&mut out, plan, *row)?;
     }
     Ok(out)
 }

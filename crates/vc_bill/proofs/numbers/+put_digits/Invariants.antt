@@ -1,4 +1,4 @@
-use Rattle.vc_bill.proofs.texts.+put_digits.Given as goal
+use Rattle.vc_bill.proofs.numbers.+put_digits.Given as goal
 
 -- each call is for a smaller number
 abbrev pub decreases-put_digits : goal.decreases-put_digits
