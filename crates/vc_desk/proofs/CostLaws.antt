@@ -11,7 +11,7 @@ use Rattle.vc_wire_replies.specs.declared.reply.Reply.{Reply}
 use Rattle.vc_desk.specs.Costing.{SpendsOnEdit, edited, unedited}
 use Rattle.vc_desk.specs.Desks.{RepliesTo}
 use Rattle.vc_desk.specs.States.{ByName}
-use Rattle.vc_desk.proofs.NameLaws.{is_name, name_is, same_answers}
+use Rattle.vc_outside.proofs.NameLaws.{is_name, name_is, same_answers}
 
 -- a session in its own place
 put_same : (sessions : ByName Opened) (name : List ℕ) (session : Opened) → get sessions name ≡ Some session

@@ -16,7 +16,7 @@ use Rattle.vc_plan_users.specs.Choosing.{Chosen}
 use Rattle.vc_session.specs.Sessions.{IsSessionOf, Opened}
 use Rattle.vc_desk.specs.Desks.{AreSessionsOf, chosen_entry, state_of}
 use Rattle.vc_desk.specs.States.{ByName, State, chosen_in, open_count, start_state, with_session, without_session}
-use Rattle.vc_desk.proofs.NameLaws.{is_name, name_is, same_answers}
+use Rattle.vc_outside.proofs.NameLaws.{is_name, name_is, same_answers}
 
 abbrev users_in : Option Opened → Option Chosen
 users_in found = option_map (λ session. session.users) found

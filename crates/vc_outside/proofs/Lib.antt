@@ -1,3 +1,4 @@
 pub mod Counting
+pub mod NameLaws
 pub mod Pieces
 pub mod Reading

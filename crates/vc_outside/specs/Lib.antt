@@ -1,4 +1,6 @@
 pub mod Faults
+pub mod Keepers
+pub mod MemoryKeepers
 pub mod MemoryShelves
 pub mod MemorySinks
 pub mod Shelves

@@ -4,6 +4,8 @@
 pub mod fault;
 pub mod file;
 pub mod file_shelf;
+pub mod keeper;
+pub mod memory_keeper;
 pub mod memory_shelf;
 pub mod memory_sink;
 pub mod shelf;
@@ -13,6 +15,8 @@ pub mod std_sink;
 pub use fault::Failed;
 pub use file::{FILE_LIMIT, FileFault, read_whole};
 pub use file_shelf::FileShelf;
+pub use keeper::{KeepFault, Keeper, copied_name};
+pub use memory_keeper::MemKeeper;
 pub use memory_shelf::MemShelf;
 pub use memory_sink::MemSink;
 pub use shelf::{Found, Shelf};

@@ -1,8 +1,8 @@
 //! Reads and writes, in memory and at the edge, with calls that fail.
 
 use crate::{
-    FILE_LIMIT, Failed, FileFault, FileShelf, Found, MemShelf, MemSink, Shelf, Sink, StdSink,
-    read_whole, write_all,
+    FILE_LIMIT, Failed, FileFault, FileShelf, Found, KeepFault, Keeper, MemKeeper, MemShelf,
+    MemSink, Shelf, Sink, StdSink, read_whole, write_all,
 };
 use std::io::{ErrorKind, Write};
 use std::os::unix::fs::{PermissionsExt, symlink};
@@ -147,5 +147,25 @@ fn tells_a_flush_that_failed(rt: HostRuntime) -> Result<(), Fail> {
     assert_eq!(rt; write_all(&mut sink, b"de".as_slice()), Err(Failed));
     drop(sink);
     assert_eq!(rt; blocked.taken, 5);
+    Ok(())
+}
+
+#[test]
+fn keeps_texts_in_memory(rt: HostRuntime) -> Result<(), Fail> {
+    let mut keeper = MemKeeper::new(rt.alloc());
+    keeper.fail_at(4)?;
+    assert_eq!(rt; keeper.begin(Some("kept.db")), Ok(()));
+    assert_eq!(rt; keeper.put(b"x".as_slice(), b"one".as_slice()), Ok(()));
+    assert_eq!(rt; keeper.put(b"x".as_slice(), b"two".as_slice()), Ok(()));
+    assert_eq!(rt;
+        keeper.put(b"x".as_slice(), b"lost".as_slice()),
+        Err(KeepFault::Failed)
+    );
+    let kept = keeper.get(b"x".as_slice());
+    assert!(rt; kept.is_ok_and(|text| text.is_some_and(|word| word.is(b"two".as_slice()))));
+    let other = keeper.get(b"X".as_slice());
+    assert!(rt; other.is_ok_and(|text| text.is_none()));
+    assert_eq!(rt; keeper.remove(b"x".as_slice()), Ok(true));
+    assert_eq!(rt; keeper.remove(b"x".as_slice()), Ok(false));
     Ok(())
 }

@@ -6,7 +6,7 @@ use Rattle.vc_desk.specs.Answers.{Closes}
 use Rattle.vc_desk.specs.Desks.{AreSessionsOf, named_entry, state_of}
 use Rattle.vc_desk.specs.States.{chosen_in}
 use Rattle.vc_desk.proofs.AnswerLaws.{closes_none, closes_one}
-use Rattle.vc_desk.proofs.NameLaws.{found, removed}
+use Rattle.vc_outside.proofs.NameLaws.{found, removed}
 use Rattle.vc_desk.proofs.StateLaws.{closed_sessions, removed_none}
 use Rattle.vc_desk.proofs.sessions.Sessions.close.Goals as goal
 use Rattle.vc_desk.proofs.sessions.Sessions.close.Goals.{else-found, then-found}

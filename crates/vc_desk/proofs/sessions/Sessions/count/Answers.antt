@@ -1,7 +1,7 @@
 -- The names ascend, so each entry counts.
 use Rattle.std.proofs.Common.{◌∙◌, ap, sym}
 use Rattle.std.specs.FinMap.{len}
-use Rattle.vc_desk.proofs.NameLaws.{counted}
+use Rattle.vc_outside.proofs.NameLaws.{counted}
 use Rattle.vc_desk.proofs.sessions.Sessions.count.Goals as goal
 
 pub returns : goal.returns

@@ -12,7 +12,7 @@ use Rattle.vc_desk.proofs.CostLaws.{edits_spend}
 use Rattle.vc_desk.specs.Edits.{after_edit}
 use Rattle.vc_desk.specs.States.{chosen_in}
 use Rattle.vc_desk.proofs.AnswerLaws.{edits_none, edits_one}
-use Rattle.vc_desk.proofs.NameLaws.{found, value_set}
+use Rattle.vc_outside.proofs.NameLaws.{found, value_set}
 use Rattle.vc_desk.proofs.StateLaws.{changed_sessions, one_of}
 use Rattle.vc_desk.proofs.sessions.Sessions.edit.Goals as goal
 use Rattle.vc_desk.proofs.sessions.Sessions.edit.Goals.{in-Some, in-None}

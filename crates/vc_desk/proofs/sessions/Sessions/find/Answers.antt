@@ -1,7 +1,7 @@
 -- The entry that is found is the map's.
 use Rattle.std.proofs.Common.{◌∙◌, ap, sym}
 use Rattle.std.specs.FinMap.{get}
-use Rattle.vc_desk.proofs.NameLaws.{found}
+use Rattle.vc_outside.proofs.NameLaws.{found}
 use Rattle.vc_desk.proofs.sessions.Sessions.find.Goals as goal
 
 pub returns : goal.returns
