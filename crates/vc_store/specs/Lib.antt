@@ -1,0 +1,4 @@
+pub mod Marking
+pub mod Meaning
+pub mod Reading
+pub mod Saving

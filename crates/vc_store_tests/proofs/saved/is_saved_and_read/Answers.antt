@@ -1,0 +1,9 @@
+-- The lamp's plan is valid.
+use Rattle.vc_plan_lamp.proofs.LampLaws.{lamp_is_valid}
+use Rattle.vc_store_tests.proofs.saved.is_saved_and_read.Goals as goal
+
+pub save_text-requires : goal.save_text-requires
+save_text-requires c = lamp_is_valid c.args.plan.now c.requires
+
+pub read_saved-requires : goal.read_saved-requires
+read_saved-requires c = lamp_is_valid c.args.plan.now c.requires

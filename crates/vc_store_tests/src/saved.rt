@@ -1,0 +1,65 @@
+//! What is chosen of a lamp, saved and read.
+
+ghost use Rattle.std.specs.Prelude.{◌≡◌};
+ghost use Rattle.vc_plan_lamp.specs.Lamp.{lamp};
+
+use std::alloc::Global;
+use std::test::Fail;
+use vc_plan::Plan;
+use vc_plan_lamp::lamp;
+use vc_plan_users::UserValues;
+use vc_store::{SavedFault, read_saved, save_text};
+use vc_value::Value;
+
+const SECOND: &str = "{\"form\":1,\"model\":\"LAMP\",\"values\":[{\"characteristic\":\"COL\",\"instance\":0,\"value\":\"B\"}],\"version\":1}";
+
+// The second colour is chosen, saved, and read again.
+fn is_saved_and_read(alloc: Global, plan: &Plan) -> Result<bool, SavedFault>
+    requires { plan.now ≡ lamp }
+{
+    let mut users = UserValues::new(alloc, plan)?;
+    users.put(0, Some(Value::Text(1)));
+    let text = save_text(alloc, plan, &users)?;
+    let again = read_saved(alloc, plan, text.bytes())?;
+    Ok(text.is(SECOND.as_bytes()) && again.value(0) == Some(Value::Text(1)))
+}
+
+// Why a text gives nothing, if it does.
+fn fault(alloc: Global, plan: &Plan, text: &str) -> Option<SavedFault>
+    requires { plan.now ≡ lamp }
+{
+    match read_saved(alloc, plan, text.as_bytes()) {
+        Ok(_) => None,
+        Err(fault) => Some(fault),
+    }
+}
+
+#[test]
+fn reads_what_is_saved(rt: HostRuntime) -> Result<(), Fail> {
+    let plan = lamp(rt.alloc())?;
+    let read = is_saved_and_read(rt.alloc(), &plan);
+    drop(plan);
+    assert_eq!(rt; read, Ok(true));
+    Ok(())
+}
+
+#[test]
+fn tells_the_first_fault(rt: HostRuntime) -> Result<(), Fail> {
+    let plan = lamp(rt.alloc())?;
+    let faults = [
+        fault(rt.alloc(), &plan, "{\"form\":1,\"model\":\"LAMP\",\"values\":[],\"version\":1"),
+        fault(rt.alloc(), &plan, "{\"form\":1,\"model\":\"LAMP\",\"values\":[]}"),
+        fault(rt.alloc(), &plan, "{\"form\":1,\"model\":\"LAMP\",\"values\":[],\"version\":2}"),
+        fault(rt.alloc(), &plan, "{\"form\":1,\"model\":\"LAMP\",\"values\":[{\"characteristic\":\"COL\",\"instance\":0,\"value\":\"C\"}],\"version\":1}"),
+        fault(rt.alloc(), &plan, "{\"version\":1,\"values\":[],\"model\":\"LAMP\",\"form\":1}"),
+    ];
+    drop(plan);
+    assert_eq!(rt; faults, [
+        Some(SavedFault::NotJson),
+        Some(SavedFault::Shape),
+        Some(SavedFault::OtherModel),
+        Some(SavedFault::UnknownName),
+        None,
+    ]);
+    Ok(())
+}
