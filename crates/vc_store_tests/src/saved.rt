@@ -11,7 +11,8 @@ use vc_plan_users::UserValues;
 use vc_store::{SavedFault, read_saved, save_text};
 use vc_value::Value;
 
-const SECOND: &str = "{\"form\":1,\"model\":\"LAMP\",\"values\":[{\"characteristic\":\"COL\",\"instance\":0,\"value\":\"B\"}],\"version\":1}";
+const SECOND: &str =
+    "{\"form\":1,\"model\":\"LAMP\",\"values\":[{\"characteristic\":\"COL\",\"instance\":0,\"value\":\"B\"}],\"version\":1}";
 
 // The second colour is chosen, saved, and read again.
 fn is_saved_and_read(alloc: Global, plan: &Plan) -> Result<bool, SavedFault>
@@ -47,19 +48,42 @@ fn reads_what_is_saved(rt: HostRuntime) -> Result<(), Fail> {
 fn tells_the_first_fault(rt: HostRuntime) -> Result<(), Fail> {
     let plan = lamp(rt.alloc())?;
     let faults = [
-        fault(rt.alloc(), &plan, "{\"form\":1,\"model\":\"LAMP\",\"values\":[],\"version\":1"),
-        fault(rt.alloc(), &plan, "{\"form\":1,\"model\":\"LAMP\",\"values\":[]}"),
-        fault(rt.alloc(), &plan, "{\"form\":1,\"model\":\"LAMP\",\"values\":[],\"version\":2}"),
-        fault(rt.alloc(), &plan, "{\"form\":1,\"model\":\"LAMP\",\"values\":[{\"characteristic\":\"COL\",\"instance\":0,\"value\":\"C\"}],\"version\":1}"),
-        fault(rt.alloc(), &plan, "{\"version\":1,\"values\":[],\"model\":\"LAMP\",\"form\":1}"),
+        fault(
+            rt.alloc(),
+            &plan,
+            "{\"form\":1,\"model\":\"LAMP\",\"values\":[],\"version\":1",
+        ),
+        fault(
+            rt.alloc(),
+            &plan,
+            "{\"form\":1,\"model\":\"LAMP\",\"values\":[]}",
+        ),
+        fault(
+            rt.alloc(),
+            &plan,
+            "{\"form\":1,\"model\":\"LAMP\",\"values\":[],\"version\":2}",
+        ),
+        fault(
+            rt.alloc(),
+            &plan,
+            "{\"form\":1,\"model\":\"LAMP\",\"values\":[{\"characteristic\":\"COL\",\"instance\":0,\"value\":\"C\"}],\"version\":1}",
+        ),
+        fault(
+            rt.alloc(),
+            &plan,
+            "{\"version\":1,\"values\":[],\"model\":\"LAMP\",\"form\":1}",
+        ),
     ];
     drop(plan);
-    assert_eq!(rt; faults, [
-        Some(SavedFault::NotJson),
-        Some(SavedFault::Shape),
-        Some(SavedFault::OtherModel),
-        Some(SavedFault::UnknownName),
-        None,
-    ]);
+    assert_eq!(rt;
+        faults,
+        [
+            Some(SavedFault::NotJson),
+            Some(SavedFault::Shape),
+            Some(SavedFault::OtherModel),
+            Some(SavedFault::UnknownName),
+            None,
+        ]
+    );
     Ok(())
 }
