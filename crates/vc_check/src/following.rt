@@ -1,8 +1,7 @@
 //! Whether a step follows from what it cites.
 
-ghost use Rattle.std.specs.Prelude.{◌≡◌, ◌&&◌, [], ◌∷◌, drop, true, IfOk};
-ghost use Rattle.std.specs.List.{list_all};
-ghost use Rattle.vc_base.specs.Chains.{all_pass, cited, is_justified};
+ghost use Rattle.std.specs.Prelude.{◌≡◌, ◌&&◌, drop, true, IfOk};
+ghost use Rattle.vc_base.specs.Chains.{is_justified};
 ghost use Rattle.vc_base.specs.Rounds.{atoms_of, is_clash};
 ghost use Rattle.vc_base.specs.Sets.{has};
 ghost use Rattle.vc_plan.specs.Clear.{is_clear};

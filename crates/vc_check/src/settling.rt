@@ -1,6 +1,6 @@
 //! Which lists of steps are whole: accepted, clear, and nothing more follows.
 
-ghost use Rattle.std.specs.Prelude.{◌≡◌, ◌^◌, ◌<◌, ◌&&◌, true, length, IfOk};
+ghost use Rattle.std.specs.Prelude.{◌≡◌, ◌<◌, ◌&&◌, true, IfOk};
 ghost use Rattle.std.specs.List.{list_all};
 ghost use Rattle.vc_plan.specs.Clear.{is_clear};
 ghost use Rattle.vc_plan.specs.Domains.{numbers_below};

@@ -1,7 +1,7 @@
 //! The grains of a plan's variables.
 
 ghost use Rattle.std.specs.Prelude.{◌≡◌, ◌^◌, ◌<◌, map, slice_get, Some};
-ghost use Rattle.vc_plan.specs.Domains.{atom_count, count_of, domain_of, grains_in, grains_of, is_grain_with};
+ghost use Rattle.vc_plan.specs.Domains.{atom_count, count_of, grains_in, grains_of, is_grain_with};
 ghost use Rattle.vc_plan.specs.Pieces.{lies_in, lies_in_some};
 ghost use Rattle.vc_plan.specs.declared.conditions.Piece.TheVariants.{OneText, Stretch};
 

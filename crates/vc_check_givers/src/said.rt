@@ -1,6 +1,6 @@
 //! What givers say and give.
 
-ghost use Rattle.std.specs.Prelude.{◌≡◌, ◌^◌, ◌<◌, ◌&&◌, not, slice_get, Some};
+ghost use Rattle.std.specs.Prelude.{◌≡◌, ◌^◌, ◌<◌, ◌&&◌, slice_get, Some};
 ghost use Rattle.std.specs.List.{list_all};
 ghost use Rattle.vc_base.specs.Rounds.{atoms_of, is_clash};
 ghost use Rattle.vc_base.specs.Sets.{has};

@@ -2,7 +2,7 @@
 
 ghost use Rattle.std.specs.Prelude.{◌≡◌, ◌^◌, ◌<◌};
 ghost use Rattle.vc_plan.specs.Domains.{atom_count};
-ghost use Rattle.vc_plan.specs.Kleene.{is_false, is_true};
+ghost use Rattle.vc_plan.specs.Kleene.{is_false};
 ghost use Rattle.vc_plan.specs.Restrictions.{compare, lone, lone_inferred, related};
 ghost use Rattle.vc_check_truth.specs.Computing.{LiesInGrains, TermsFit};
 ghost use Rattle.vc_check_truth.specs.Values.{meant_if};

@@ -1,6 +1,6 @@
 //! How many grains of a variable are left that pass a test, and which if it is one.
 
-ghost use Rattle.std.specs.Prelude.{◌≡◌, ◌^◌, ◌<◌, ◌&&◌, not, if◌then◌else◌};
+ghost use Rattle.std.specs.Prelude.{◌≡◌, ◌^◌, ◌<◌, ◌&&◌, if◌then◌else◌};
 ghost use Rattle.vc_plan.specs.Answers.{only_value};
 ghost use Rattle.vc_plan.specs.Domains.{atom_count, is_grain_with};
 ghost use Rattle.vc_plan.specs.Gives.{not_out};

@@ -2,7 +2,7 @@
 
 ghost use Rattle.std.specs.Prelude.{◌≡◌, ◌^◌, ◌<◌, ◌∷◌, [], if◌then◌else◌, option_map};
 ghost use Rattle.vc_base.specs.Rounds.{atoms};
-ghost use Rattle.vc_plan.specs.Answers.{last_atoms, nothing};
+ghost use Rattle.vc_plan.specs.Answers.{last_atoms};
 ghost use Rattle.vc_plan.specs.Domains.{atom_count};
 ghost use Rattle.vc_plan.specs.Gives.{entry_says, if_here, mark_says, not_out, value_says};
 ghost use Rattle.vc_plan.specs.Restrictions.{among, is_inferred};

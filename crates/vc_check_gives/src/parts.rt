@@ -3,7 +3,7 @@
 ghost use Rattle.std.specs.Prelude.{◌≡◌, ◌^◌, ◌<◌, ◌&&◌};
 ghost use Rattle.vc_base.specs.Rounds.{atoms_of, is_clash};
 ghost use Rattle.vc_base.specs.Sets.{has};
-ghost use Rattle.vc_plan.specs.Domains.{atom_count, count_of, is_grain_with};
+ghost use Rattle.vc_plan.specs.Domains.{atom_count, is_grain_with};
 ghost use Rattle.vc_plan.specs.Seen.{same_atom};
 ghost use Rattle.vc_check_gives.specs.Parts.{all_said, fails, given_by, part_given, passes_or_out, puts_out};
 ghost use Rattle.vc_check_gives.specs.declared.parts.Part.TheVariants.{Others};

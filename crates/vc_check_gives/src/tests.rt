@@ -1,9 +1,9 @@
 //! Tests of pieces.
 
-ghost use Rattle.std.specs.Prelude.{◌≡◌, ◌≤◌, not, Some};
+ghost use Rattle.std.specs.Prelude.{◌≡◌, ◌≤◌, Some};
 ghost use Rattle.std.specs.List.{list_any};
 ghost use Rattle.vc_plan.specs.Domains.{decimals_in, decimals_of, is_grain_with};
-ghost use Rattle.vc_plan.specs.Pieces.{is_outside, is_part};
+ghost use Rattle.vc_plan.specs.Pieces.{is_part};
 ghost use Rattle.vc_plan.specs.Restrictions.{allows, literal_for, rounded_value};
 ghost use Rattle.vc_check_truth.specs.Computing.{TermsFit};
 ghost use Rattle.vc_check_truth.specs.Values.{meant};

@@ -3,9 +3,8 @@
 ghost use Rattle.std.specs.Prelude.{◌≡◌, ◌^◌, ◌<◌, find, IfNone, IfSome, None, Some};
 ghost use Rattle.std.specs.List.{filter, list_all};
 ghost use Rattle.vc_plan.specs.Answers.{value_atoms};
-ghost use Rattle.vc_plan.specs.Domains.{atom_count, grains_of};
-ghost use Rattle.vc_plan.specs.Pieces.{lies_in_some};
-ghost use Rattle.vc_plan.specs.TableRows.{agreed, columns_of, has_cell, is_possible_in, other_columns, value_if};
+ghost use Rattle.vc_plan.specs.Domains.{atom_count};
+ghost use Rattle.vc_plan.specs.TableRows.{agreed, columns_of, has_cell, value_if};
 ghost use Rattle.vc_check_table.specs.Columns.{agreed_if, agrees, possible_elsewhere};
 
 use crate::columns::{first_cell, has_cell, is_possible_elsewhere};

@@ -3,7 +3,7 @@
 ghost use Rattle.std.specs.Prelude.{◌≡◌};
 ghost use Rattle.vc_plan.specs.Kleene.{truth_of, kleene_not, kleene_and, kleene_or};
 ghost use Rattle.vc_plan.specs.Readings.{net_reading};
-ghost use Rattle.vc_plan.specs.Truth.{compared, is_in, specified, set_holds, set_filled, truth};
+ghost use Rattle.vc_plan.specs.Truth.{compared, is_in, specified, truth};
 ghost use Rattle.vc_plan.specs.declared.conditions.Kleene.TheVariants.{Unknown};
 ghost use Rattle.vc_check_truth.specs.Computing.{ConditionComputes};
 ghost use Rattle.vc_check_truth.specs.Values.{meant_if};

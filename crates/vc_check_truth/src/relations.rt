@@ -1,7 +1,7 @@
 //! How values and pieces stand to each other.
 
 ghost use Rattle.std.specs.Prelude.{◌≡◌, ◌==◌};
-ghost use Rattle.vc_plan.specs.Pieces.{opposite, turned, text_relates, numbers_relate, is_inside, is_outside};
+ghost use Rattle.vc_plan.specs.Pieces.{opposite, turned, text_relates, numbers_relate, is_inside};
 ghost use Rattle.vc_plan.specs.Pieces.{relates};
 ghost use Rattle.vc_check_truth.specs.Values.{meant};
 
