@@ -143,6 +143,13 @@ module _ (plan : Plan) (sources : Sources) (work : Work) (giver : Giver) (atom :
       working = going.working;
     };
     grown = ([], sym (append-nil work.log.steps));
+    spends = λ things front count base holds touch spent. record {
+      on = spent.on;
+      fresh = spent.fresh;
+      grown = spent.grown;
+      of = spent.of;
+      paid = spent.paid;
+    };
     giver_there = may.giver_there;
     breaks = unclear_breaks plan sources (set_of work.log) atom going.working.sound may.forced unclear;
     blames = (
@@ -195,6 +202,13 @@ module _ (plan : Plan) (sources : Sources) (work : Work) (giver : Giver) (premis
           working = going.working;
         };
         grown = ([], sym (append-nil work.log.steps));
+        spends = λ things front count base holds touch spent. record {
+          on = spent.on;
+          fresh = spent.fresh;
+          grown = spent.grown;
+          of = spent.of;
+          paid = spent.paid;
+        };
         giver_there = in_plan plan giver (clashing_in plan sources giver (set_of work.log) clashes);
         breaks = clash_breaks plan sources (set_of work.log) giver going.working.sound clashes;
         blames =

@@ -33,6 +33,7 @@ use Rattle.vc_net.specs.Breaking.{clash_from, steps_with}
 use Rattle.vc_net.specs.Going.{HasCome, HasGoneOn, IsBrokenOff, IsGoing, MayCome, WasFound, turns_of}
 use Rattle.vc_net.specs.Ending.{EndsAs, IsSettled}
 use Rattle.vc_net.specs.Renewing.{BeginsWith}
+use Rattle.vc_net.specs.Spending.{Spends}
 use Rattle.vc_net.specs.declared.work.Work.{Work}
 use Rattle.vc_net.specs.Working.{IsWorkOf, asking_next, restarted, with_giver}
 use Rattle.vc_net.proofs.GoingLaws.{found_may_come, found_new, may_still_come}
@@ -50,6 +51,7 @@ pub record IsTurning (plan : Plan) (sources : Sources) (giver : Giver) (start no
   pub fewer : turns_of plan now ≤ turns_of plan start
   pub calm : now.breaker ≡ start.breaker
   pub so_far : SoFar giver start now place
+  pub spends : Spends plan giver start now
 
 pub turn_begins : (plan : Plan) (sources : Sources) (giver : Giver) (work : Work)
     → IsGoing plan sources work (giver ∷ []) → IsTurning plan sources giver work work 0
@@ -60,6 +62,7 @@ turn_begins plan sources giver work going = record {
   fewer = omega arith;
   calm = refl;
   so_far = refl;
+  spends = λ things front count base holds touch spent. spent;
 }
 
 -- a conclusion that is read in two parts
@@ -95,6 +98,9 @@ module _ (plan : Plan) (sources : Sources) (giver : Giver) (start now : Work) (a
     fewer = let one = come.fewer in let rest = turning.fewer in omega (arith, one, rest);
     calm = come.calm ∙ turning.calm;
     so_far = subst (λ n. SoFar giver start later n) (sym (add-one place)) (asked place turning.so_far is);
+    spends = λ things front count base holds touch spent.
+        come.spends things front count base holds touch
+        (turning.spends things front count base holds touch spent);
   }
     where
       asked : (n : ℕ) → SoFar giver start now n → slice_get all n ≡ Some conclusion
@@ -117,6 +123,9 @@ pub turn_breaks_off : (plan : Plan) (sources : Sources) (giver : Giver) (start n
 turn_breaks_off plan sources giver start now new place turning off = record {
   going = off.going;
   grown = begins_on start.log.steps now.log.steps new.log.steps (turning.more, turning.grown) off.grown;
+  spends = λ things front count base holds touch spent.
+      off.spends things front count base holds touch
+      (turning.spends things front count base holds touch spent);
   giver_there = off.giver_there;
   breaks = off.breaks;
   blames = off.blames;
@@ -148,10 +157,11 @@ nobody_beside plan sources work of accepted working = record {
 -- the turn ends when all conclusions have come
 pub turn_ends : (plan : Plan) (sources : Sources) (giver : Giver) (start now : Work) (all : List Conclusion)
     → WasFound plan sources start giver all → IsTurning plan sources giver start now (length all)
-    → HasGoneOn plan sources start now
+    → HasGoneOn plan sources giver start now
 turn_ends plan sources giver start now all was turning = record {
   going = nobody_beside plan sources now turning.going.of turning.going.accepted (by all was turning.so_far);
   grown = (turning.more, turning.grown);
+  spends = turning.spends;
   fewer = turning.fewer;
   calm = turning.calm;
 }

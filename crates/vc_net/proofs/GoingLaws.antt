@@ -1,13 +1,15 @@
 -- The work of a net goes on with a conclusion that may come.
 use Rattle.std.proofs.Common.{◌≡◌, ℕ, ◌≤◌, true, false, List, [], ◌∷◌, ◌++◌, length, map, refl, sym, ◌∙◌, ap, subst}
-use Rattle.std.proofs.Common.{inl, inr, arith, append-nil}
+use Rattle.std.proofs.Common.{inl, inr, arith, append-nil, append_assoc}
 use Rattle.std.specs.Prelude.{Some, slice_get}
 use Rattle.std.proofs.lemmas.Bool.{false_from_ne_true}
 use Rattle.std.proofs.lemmas.List.{map-append}
+use Rattle.std.proofs.lemmas.List.Sums.{sum_by_push}
+use Rattle.std.specs.List.{sum_by}
 use Rattle.vc_base.specs.Chains.{cited}
 use Rattle.vc_base.specs.Rounds.{atoms_of}
 use Rattle.vc_base.specs.Sets.{has, Within}
-use Rattle.vc_base.proofs.SetLaws.{both, filter_has, has_back, has_either, has_first, has_front, has_more}
+use Rattle.vc_base.proofs.SetLaws.{both, filter_has, has_back, has_cases, has_either, has_first, has_front, has_more}
 use Rattle.vc_base.proofs.Settling as settling
 use Rattle.vc_plan.specs.declared.atoms.Atom.{Atom}
 use Rattle.vc_plan.specs.declared.atoms.Atom.TheVariants.{Here}
@@ -22,7 +24,8 @@ use Rattle.vc_plan.proofs.PlanLaws.Atoms.{atom_exact, atom_itself}
 use Rattle.vc_plan.proofs.PlanLaws.Facts.{facts}
 use Rattle.vc_plan_blame.proofs.BlameLaws.Growing.{has_says}
 use Rattle.vc_plan_reasons.specs.Checking.{concluded, is_accepted, set_with, step_form}
-use Rattle.vc_plan_reasons.specs.Things.{thing_of}
+use Rattle.vc_plan_reasons.specs.Things.{has_thing, thing_of}
+use Rattle.vc_net_laws.specs.Wakings.{rules_at}
 use Rattle.vc_plan_reasons.proofs.ReasonLaws.Givers.{giving_in}
 use Rattle.vc_rule_laws.proofs.FollowingLaws.{next_is_accepted, next_may_wait}
 use Rattle.vc_rule_yield.specs.Yielding.{Conclusion}
@@ -45,6 +48,8 @@ use Rattle.vc_net_standing.specs.Standing.{is_free}
 use Rattle.vc_net_waking.specs.Waking.{waking, with_givers}
 use Rattle.vc_net_waking.proofs.GiverLaws.{others_wait_on, sizes_stay}
 use Rattle.vc_net_waking.proofs.WakingLaws.{waking_is_few, woken_wait}
+use Rattle.vc_net.specs.Spending.{Spends}
+use Rattle.vc_net_work.proofs.SpendLaws.{conclusions_are_of_things, rules_woken_are_few, woken_are_on}
 use Rattle.vc_net.specs.Going.{HasCome, IsGoing, MayCome, WasFound, turns_of}
 use Rattle.vc_net.specs.declared.work.Work.{Work}
 use Rattle.vc_net.specs.Working.{IsWorkOf, with_conclusion}
@@ -90,6 +95,9 @@ module _ (plan : Plan) (sources : Sources) (work : Work) (giver : Giver) (all : 
     few = found_fits_cells plan sources work.log.steps giver conclusion valid going.working.sound.clear found;
     forced = given_is_forced plan sources (set_of work.log) giver conclusion.atom going.working.sound.forced given;
     giver_there = in_plan plan giver (giving_in plan sources giver (set_of work.log) conclusion.atom given);
+    of = λ things holds touch.
+        conclusions_are_of_things plan sources things giver (set_of work.log) conclusion.atom holds
+        (in_plan plan giver (giving_in plan sources giver (set_of work.log) conclusion.atom given)) touch given;
     wakes = λ whole within.
         givers_wake_themselves plan sources (set_of work.log) whole conclusion.atom giver within given;
   }
@@ -105,6 +113,7 @@ may_still_come plan sources steps more later giver atom premises e may =
       few = may.few;
       forced = may.forced;
       giver_there = may.giver_there;
+      of = may.of;
       wakes = λ set within. may.wakes set (λ a h. within a (still_concluded steps more a h));
     })
 
@@ -218,6 +227,28 @@ module _ (plan : Plan) (sources : Sources) (work : Work) (giver : Giver) (atom :
           taken = going.of.taken;
         }
 
+    spends : is_clear plan (set_of work.log ++ atom ∷ []) ≡ true → Spends plan giver work new
+    spends clear things front count base holds touch spent = record {
+      on = woken_are_on plan things work.agenda (seen_by new.log) (thing_of atom) going.of.sizes
+          (may.of things holds touch) spent.on;
+      fresh = spent.fresh ++ step ∷ [];
+      grown = ap (λ steps. steps ++ step ∷ []) spent.grown ∙ append_assoc front spent.fresh (step ∷ []);
+      of = λ a h. elim (has_either same_atom atom_exact atom_itself (concluded spent.fresh) (atom ∷ []) a
+          (ap (λ xs. has same_atom xs a) (sym (map-append step_form.conclusion spent.fresh (step ∷ []))) ∙ h)) [
+            | inl p ↦ spent.of a p
+            | inr p ↦ elim (has_cases same_atom atom_exact atom_itself atom [] a p) [
+              | inl q ↦ ap (λ b. has_thing things (thing_of b)) q ∙ may.of things holds touch
+              | inr q ↦ absurd (cc)
+            ]
+          ];
+      paid =
+          let few = rules_woken_are_few plan work.agenda (seen_by new.log) atom in
+          let paid = spent.paid in
+          let more = sum_by_push (rules_at plan) (concluded spent.fresh) atom in
+          let same = ap (sum_by (rules_at plan)) (map-append step_form.conclusion spent.fresh (step ∷ [])) in
+          omega (arith, few, paid, more, same);
+    }
+
     pub comes : is_clear plan (set_of work.log ++ atom ∷ []) ≡ true → says (seen_by work.log) atom ≡ false
         → HasCome plan sources giver atom work (with_conclusion plan work fact premises)
     comes clear fresh = record {
@@ -228,6 +259,7 @@ module _ (plan : Plan) (sources : Sources) (work : Work) (giver : Giver) (atom :
       calm = refl;
       wait_on = stays;
       waits = λ e. asked clear;
+      spends = spends clear;
     }
 
     pub stood : says (seen_by work.log) atom ≡ true → HasCome plan sources giver atom work work
@@ -239,4 +271,5 @@ module _ (plan : Plan) (sources : Sources) (work : Work) (giver : Giver) (atom :
       calm = refl;
       wait_on = λ other h. h;
       waits = λ e. absurd (both stands e);
+      spends = λ things front count base holds touch spent. spent;
     }

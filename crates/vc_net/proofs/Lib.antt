@@ -5,5 +5,8 @@ pub mod GoingLaws
 pub mod LeadLaws
 pub mod NumberLaws
 pub mod PlanFacts
+pub mod ReachLaws
 pub mod RenewLaws
 pub mod RenewRows
+pub mod SpendingLaws
+pub mod CostLaws

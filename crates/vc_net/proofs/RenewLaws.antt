@@ -288,13 +288,13 @@ module _ (plan : Plan) (old new : Sources) (work : Work) (going : IsGoing plan o
     abbrev changed : List Giver
     changed = changed_sources old new (length plan.vars)
 
-    abbrev first : Awaited
+    abbrev pub first : Awaited
     first = with_givers work.agenda woken
 
     abbrev pub last : Awaited
     last = with_givers first changed
 
-    first_sizes : IsAgendaOf plan first
+    pub first_sizes : IsAgendaOf plan first
     first_sizes =
         let sizes = sizes_stay work.agenda woken in
         (sizes.0 ∙ going.of.sizes.0, sizes.1 ∙ going.of.sizes.1)

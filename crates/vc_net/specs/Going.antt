@@ -26,6 +26,9 @@ use Rattle.vc_net.specs.declared.turn.Turn.{Turn}
 use Rattle.vc_net.specs.declared.turn.Turn.TheVariants as turns
 use Rattle.vc_net.specs.Breaking.{clash_in}
 use Rattle.vc_net.specs.Renewing.{BeginsWith}
+use Rattle.vc_net.specs.Spending.{Spends}
+use Rattle.vc_net_work.specs.Spending.{HoldsWhatIsWritten, touches_one}
+use Rattle.vc_plan_reasons.specs.Things.{Thing, has_thing, thing_of}
 use Rattle.vc_net.specs.declared.work.Work.{Work}
 use Rattle.vc_net.specs.Working.{IsWorkOf}
 
@@ -52,6 +55,8 @@ pub record MayCome (plan : Plan) (sources : Sources) (steps : List Step) (giver 
   pub few : length premises ≤ own_bound plan (place_for atom)
   pub forced : IsForced plan sources (atom ∷ [])
   pub giver_there : has same_giver (givers_of plan) giver ≡ true
+  pub of : (things : List Thing) → HoldsWhatIsWritten plan things → touches_one plan things giver ≡ true
+      → has_thing things (thing_of atom) ≡ true
   pub wakes : (set : List Atom) → Within same_atom (set_with (concluded steps)) set
       → is_woken plan set atom giver ≡ true
 
@@ -65,11 +70,13 @@ pub record HasCome (plan : Plan) (sources : Sources) (giver : Giver) (atom : Ato
   pub calm : new.breaker ≡ old.breaker
   pub wait_on : Within same_giver old.agenda.givers new.agenda.givers
   pub waits : says (seen_by old.log) atom ≡ false → has same_giver new.agenda.givers giver ≡ true
+  pub spends : Spends plan giver old new
 
 -- something contradicts, perhaps after steps that came: settling is broken, and what is kept of it refutes the sources
 pub record IsBrokenOff (plan : Plan) (sources : Sources) (giver : Giver) (old new : Work) : Type 0 where
   pub going : IsGoing plan sources new (giver ∷ [])
   pub grown : BeginsWith old.log.steps new.log.steps
+  pub spends : Spends plan giver old new
   pub giver_there : has same_giver (givers_of plan) giver ≡ true
   pub breaks : settlement_of plan sources ≡ broken
   pub blames : Blames plan sources (clash_in new.log.steps new.breaker)
@@ -80,13 +87,14 @@ Concludes plan sources giver atom old new turns.Done = HasCome plan sources give
 Concludes plan sources giver atom old new turns.Broken = IsBrokenOff plan sources giver old new
 
 -- the work goes on without the giver at hand: what it says stands, or it is asked again
-pub record HasGoneOn (plan : Plan) (sources : Sources) (old new : Work) : Type 0 where
+pub record HasGoneOn (plan : Plan) (sources : Sources) (giver : Giver) (old new : Work) : Type 0 where
   pub going : IsGoing plan sources new []
   pub grown : BeginsWith old.log.steps new.log.steps
+  pub spends : Spends plan giver old new
   pub fewer : turns_of plan new ≤ turns_of plan old
   pub calm : new.breaker ≡ old.breaker
 
 -- how a turn ends
 abbrev pub Ends : Plan → Sources → Giver → Work → Work → Turn → Type 0
-Ends plan sources giver old new turns.Done = HasGoneOn plan sources old new
+Ends plan sources giver old new turns.Done = HasGoneOn plan sources giver old new
 Ends plan sources giver old new turns.Broken = IsBrokenOff plan sources giver old new

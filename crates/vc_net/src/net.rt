@@ -3,7 +3,9 @@
 ghost use Rattle.std.specs.Prelude.{◌≡◌, IfOk};
 ghost use Rattle.vc_plan.specs.Valid.{IsValid};
 ghost use Rattle.vc_net_bounds.specs.Counting.{clash_cells};
+ghost use Rattle.vc_net_laws.specs.Wakings.{things_of};
 ghost use Rattle.vc_net_places.specs.Cells.{bounds_of};
+ghost use Rattle.vc_net.specs.Costing.{IsBehind};
 ghost use Rattle.vc_net.specs.Nets.{IsNetOf};
 
 use crate::clashes::clash;
@@ -46,13 +48,17 @@ impl Net {
     ghost use Rattle.vc_net.specs.Renewing.{BeginsWith};
     ghost use Rattle.vc_plan_reasons.specs.Trimming.{trimmed_clash};
     ghost use Rattle.vc_net_chains.specs.Telling.{chain_in};
+    ghost use Rattle.vc_net_laws.specs.Wakings.{things_of};
+    ghost use Rattle.vc_net.specs.Costing.{CostsItsWork, IsBehind};
     ghost use Rattle.vc_net.specs.Ending.{IsSettled, clash_of};
     ghost use Rattle.vc_net.specs.Nets.{AreFor, IsNetOf, outcome_by};
 
-    /// The net of the plan, without sources; only the root is here. Its outcome is told from the first `sync` on.
+    /// The net of the plan, without sources; only the root is here, and all things are behind. Its outcome is told from
+    /// the first `sync` on.
     pub fn new(alloc: Global, plan: &Plan) -> Result<Net, AllocError>
         requires { IsValid plan.now }
-        ensures { IfOk result (λ net. IsNetOf plan.now net) }
+        ensures of { IfOk result (λ net. IsNetOf plan.now net) }
+        ensures behind { IfOk result (λ net. IsBehind plan.now (things_of plan.now) net.work) }
     {
         match bounds_of(alloc, plan)? {
             Counted::Within(bounds) => {
@@ -101,7 +107,9 @@ impl Net {
 
     /// Settles the plan with these sources. It takes no memory, and the log begins with what is kept of it: the steps
     /// whose sources stayed as they were and that need none that is dropped. Where it is settled just the conclusions
-    /// of the log stand beside that the root is here; where it is broken a clash of the log refutes the sources.
+    /// of the log stand beside that the root is here, and nothing is behind; where it is broken a clash of the log
+    /// refutes the sources, and what was to be done stays behind. Rules are evaluated no more often than the work on
+    /// that says: on the things that were behind and the variables whose sources differ.
     pub fn sync<L: Ledger>(&mut self, plan: &Plan, sources: &Sources, steps: &mut Steps<L>)
         requires valid { IsValid plan.now }
         requires of { IsNetOf plan.now self.old }
@@ -111,6 +119,7 @@ impl Net {
         ensures sources { self.new.sources ≡ sources.now }
         ensures kept { BeginsWith (kept_of self.old.sources sources.now self.old.work.log.steps)
             self.new.work.log.steps }
+        ensures cost { CostsItsWork plan.now self.old self.new steps.old steps.new }
         ensures settled { IsSettled plan.now sources.now self.new.work }
     {
         self.work.renew(plan, &self.sources, sources);
@@ -142,7 +151,8 @@ fn with_bounds(alloc: Global, plan: &Plan, bounds: &Bounds) -> Result<Net, Alloc
     requires valid { IsValid plan.now }
     requires places { bounds.now.places ≡ bounds_of plan.now }
     requires clash { bounds.now.clash ≡ clash_cells plan.now }
-    ensures { IfOk result (λ net. IsNetOf plan.now net) }
+    ensures of { IfOk result (λ net. IsNetOf plan.now net) }
+    ensures behind { IfOk result (λ net. IsBehind plan.now (things_of plan.now) net.work) }
 {
     let sources = Sources::new(alloc, plan)?;
     let mut work = Work::new(alloc, plan, bounds)?;

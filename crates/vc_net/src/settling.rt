@@ -1,6 +1,6 @@
 //! Settling: one giver is asked after the other.
 
-ghost use Rattle.std.specs.Prelude.{◌≡◌, ◌∷◌, [], true, None};
+ghost use Rattle.std.specs.Prelude.{◌≡◌, ◌+◌, ◌∷◌, [], true, IfNone, None};
 ghost use Rattle.vc_plan.specs.Valid.{IsValid};
 ghost use Rattle.vc_plan_reasons.specs.Fitting.{sources_fit};
 ghost use Rattle.vc_rule.specs.Rooms.{rooms_of};
@@ -8,6 +8,8 @@ ghost use Rattle.vc_net_agenda.specs.Agendas.{meant};
 ghost use Rattle.vc_net.specs.Ending.{IsSettled};
 ghost use Rattle.vc_net.specs.Going.{Ends, IsGoing};
 ghost use Rattle.vc_net.specs.Renewing.{BeginsWith};
+ghost use Rattle.vc_net.specs.Spending.{Pays};
+ghost use Rattle.vc_net_sources.specs.Asking.{evaluations};
 
 use crate::turn::Turn;
 use crate::work::Work;
@@ -20,7 +22,7 @@ use vc_rule_yield::Yield;
 use vc_value_steps::Steps;
 
 /// Asks one giver after the other until nobody is left, or somebody contradicts. Steps come behind those that are
-/// there. It takes no memory.
+/// there, and each rule that is asked waited or is paid for by an atom that came. It takes no memory.
 pub fn settle<L: Ledger>(
     plan: &Plan,
     sources: &Sources,
@@ -35,6 +37,8 @@ pub fn settle<L: Ledger>(
     requires calm { work.old.breaker.culprit ≡ None }
     ensures rooms { out.new.rooms ≡ out.old.rooms }
     ensures grown { BeginsWith work.old.log.steps work.new.log.steps }
+    ensures paid { Pays plan.now work.old work.new steps.old steps.new }
+    ensures rest { IfNone work.new.breaker.culprit (work.new.agenda.givers ≡ []) }
     ensures settled { IsSettled plan.now sources.now work.new }
 {
     while let Some(giver) = work.agenda.pop() {
@@ -62,6 +66,7 @@ fn turn<L: Ledger>(
     requires rooms { out.old.rooms ≡ rooms_of plan.now }
     requires going { IsGoing plan.now sources.now work.old (meant giver ∷ []) }
     ensures rooms { out.new.rooms ≡ out.old.rooms }
+    ensures counted { steps.new ≡ steps.old + evaluations (meant giver) }
     ensures ends { Ends plan.now sources.now (meant giver) work.old work.new result }
 {
     ask(plan, &work.log, sources, giver, out, steps);

@@ -50,6 +50,7 @@ impl Work {
     ghost use Rattle.vc_net_places.specs.Cells.{bounds_of};
     ghost use Rattle.vc_net_places.specs.Places.{place_in};
     ghost use Rattle.vc_net_standing.specs.Standing.{is_free};
+    ghost use Rattle.vc_net.specs.Costing.{StaysBehind};
     ghost use Rattle.vc_net.specs.Going.{Concludes, Ends, IsGoing, MayCome, WasFound};
     ghost use Rattle.vc_net.specs.Working.{IsWorkOf, restarted, with_conclusion};
 
@@ -92,12 +93,13 @@ impl Work {
     }
 
     /// Goes on with other sources: what is kept of the log stays, and those are asked besides who may have anything to
-    /// say then.
+    /// say then. Whoever is to be asked touches what was behind, or what the changed variables reach.
     #[tactic(auto, using(crate::proofs::PlanFacts::vars_fit))]
     pub fn renew(&mut self, plan: &Plan, old: &Sources, new: &Sources)
         requires valid { IsValid plan.now }
         requires going { IsGoing plan.now old.now self.old [] }
         ensures going { IsGoing plan.now new.now self.new [] }
+        ensures behind { StaysBehind plan.now old.now new.now self.old self.new }
         ensures kept { self.new.log.steps ≡ kept_of old.now new.now self.old.log.steps }
         ensures calm { self.new.breaker.culprit ≡ None }
     {

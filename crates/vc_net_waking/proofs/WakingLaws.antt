@@ -155,7 +155,7 @@ values_grain plan set (var_at v) clear = λ a h.
     let r = grain_of_named plan v a ((facts plan set clear).named (Is v a) h) in
     (r.0, ap (grain_held plan v) (value_seen plan set v a clear h) ∙ r.1, r.1)
 
-is_grain : (plan : Plan) (seen : Seen) (thing : Thing) → IsGrain plan thing (grain_at plan seen thing)
+pub is_grain : (plan : Plan) (seen : Seen) (thing : Thing) → IsGrain plan thing (grain_at plan seen thing)
 is_grain plan seen (slot_at i) = tt
 is_grain plan seen (var_at v) = by (seen.value v)
   where
@@ -279,7 +279,7 @@ count_map p f (n ∷ ns) = step (p (f n)) (count_map p f ns)
     step true e = ap (λ k. suc k) e
     step false e = e
 
-fewer : (p : ℕ → Bool) (ns : List ℕ) → length (filter p ns) ≤ length ns
+pub fewer : (p : ℕ → Bool) (ns : List ℕ) → length (filter p ns) ≤ length ns
 fewer p [] = omega arith
 fewer p (n ∷ ns) = step (p n) (fewer p ns)
   where

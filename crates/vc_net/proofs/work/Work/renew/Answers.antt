@@ -7,6 +7,11 @@ use Rattle.vc_net_standing.specs.Standing.{atoms_of}
 use Rattle.vc_net_waking.specs.Laws.{IsAgendaOf}
 use Rattle.vc_net_waking.specs.Waking.{with_givers}
 use Rattle.vc_net.specs.Renewing.{changed_sources, dropped_wake}
+use Rattle.vc_plan_reasons.specs.Work.{reach_of}
+use Rattle.vc_net_agenda.specs.Agendas.{Awaited}
+use Rattle.vc_net_work.specs.Spending.{AreOn}
+use Rattle.vc_net.specs.Costing.{to_do}
+use Rattle.vc_net.proofs.ReachLaws.{last_on}
 use Rattle.vc_net.proofs.RenewLaws.{earlier_cited, few_steps, last, last_sizes, renewed_is_of, steps_left, work_renews}
 use Rattle.vc_net.proofs.work.Work.renew.Goals as goal
 
@@ -57,3 +62,11 @@ returns-clause-going c =
     (last_sizes plan old new work c.requires.going c.keep.new.taken.items (were c)))
     c.clear.ensures c.keep.ensures.room)
     (kept_steps c) (asked c)
+
+pub returns-clause-behind : goal.returns-clause-behind
+returns-clause-behind c = λ behind on.
+    let plan = c.args.plan.now in
+    let old = c.args.old.now in
+    let new = c.args.new.now in
+    subst (λ (a : Awaited). AreOn plan (reach_of plan (to_do plan behind old new)) a.givers) (sym (asked c))
+    (last_on plan c.requires.valid old new c.args.self.now c.requires.going c.keep.new.taken.items (were c) behind on)

@@ -1,0 +1,4 @@
+pub mod Spreading
+pub mod CountLaws
+pub mod SpendLaws
+pub mod StartLaws
