@@ -1,3 +1,4 @@
+pub mod Costing
 pub mod Edits
 pub mod Explained
 pub mod Sessions

@@ -3,6 +3,7 @@
 ghost use Rattle.std.specs.Prelude.{◌≡◌, ◌<◌, IfOk};
 ghost use Rattle.vc_plan.specs.Valid.{IsValid};
 ghost use Rattle.vc_plan_users.specs.Choosing.{none_chosen};
+ghost use Rattle.vc_session.specs.Costing.{HasStarted};
 ghost use Rattle.vc_session.specs.Sessions.{IsSessionOf};
 
 use crate::choosing::{give, give_alone, has_choice, has_chosen, take, take_value};
@@ -52,6 +53,7 @@ impl Session {
     ghost use Rattle.std.specs.Prelude.{◌≡◌, ◌<◌, false, length, slice_index_or, IfOk, None};
     ghost use Rattle.vc_plan.specs.Valid.{IsValid};
     ghost use Rattle.vc_plan_users.specs.Choosing.{none_chosen};
+    ghost use Rattle.vc_session.specs.Costing.{EditCosts, HasStarted};
     ghost use Rattle.vc_session.specs.Edits as edits;
     ghost use Rattle.vc_session.specs.Sessions.{Gives, IsSessionOf, Takes, outcome_of};
 
@@ -60,6 +62,7 @@ impl Session {
         requires { IsValid plan.now }
         ensures of { IfOk result (λ session. IsSessionOf plan.now session) }
         ensures none { IfOk result (λ session. session.users ≡ none_chosen plan.now) }
+        ensures behind { IfOk result (λ session. HasStarted plan.now session) }
     {
         begun::<Brand>(alloc, plan, Blank::new(1))
     }
@@ -77,6 +80,7 @@ impl Session {
         ensures of { IsSessionOf plan.now self.new }
         ensures gives { Gives plan.now self.old self.new named value (edits.given_alone self.old.users named value)
             result }
+        ensures cost { EditCosts plan.now self.old self.new result steps.old steps.new }
     {
         match self.fault(plan, named, value) {
             Some(fault) => Err(fault),
@@ -100,6 +104,7 @@ impl Session {
         requires of { IsSessionOf plan.now self.old }
         ensures of { IsSessionOf plan.now self.new }
         ensures gives { Gives plan.now self.old self.new named value (edits.given self.old.users named value) result }
+        ensures cost { EditCosts plan.now self.old self.new result steps.old steps.new }
     {
         match self.fault(plan, named, value) {
             Some(fault) => Err(fault),
@@ -123,6 +128,7 @@ impl Session {
         ensures of { IsSessionOf plan.now self.new }
         ensures takes { Takes self.old self.new (edits.has_choice self.old.users named)
             (edits.taken self.old.users named) result }
+        ensures cost { EditCosts plan.now self.old self.new result steps.old steps.new }
     {
         if !has_choice(&self.users, named) {
             return Err(NotSet);
@@ -145,6 +151,7 @@ impl Session {
         ensures of { IsSessionOf plan.now self.new }
         ensures takes { Takes self.old self.new (edits.has_chosen self.old.users named value)
             (edits.taken_value self.old.users named value) result }
+        ensures cost { EditCosts plan.now self.old self.new result steps.old steps.new }
     {
         if !has_chosen(&self.users, named, value) {
             return Err(NotSet);
@@ -337,6 +344,7 @@ fn begun<L: Ledger>(alloc: Global, plan: &Plan, blank: Blank) -> Result<Session,
     requires some { 0 < blank.parts }
     ensures of { IfOk result (λ session. IsSessionOf plan.now session) }
     ensures none { IfOk result (λ session. session.users ≡ none_chosen plan.now) }
+    ensures behind { IfOk result (λ session. HasStarted plan.now session) }
 {
     let users = UserValues::new(alloc, plan)?;
     let mut stages = Stages::new(alloc, plan)?;

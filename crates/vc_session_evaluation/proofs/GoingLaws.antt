@@ -1,32 +1,31 @@
 -- How an evaluation goes from stage to stage, and ends.
 use Rattle.std.proofs.Common.{◌≡◌, ℕ, zero, suc, ◌+◌, ◌-◌, ◌<◌, ◌≤◌, Bool, true, false, not, ◌&&◌, List, [], ◌∷◌, ◌++◌}
 use Rattle.std.proofs.Common.{length, map, take, replicate, refl, sym, ap, ◌∙◌, subst, arith}
-use Rattle.std.specs.Prelude.{Option, None, Some, max, ◌==◌, if◌then◌else◌, option_map, slice_get, slice_index_or}
-use Rattle.std.specs.Prelude.{slice_set, min}
+use Rattle.std.specs.Prelude.{Option, None, Some, ◌==◌, if◌then◌else◌, option_map, slice_get, slice_index_or}
+use Rattle.std.specs.Prelude.{slice_set}
 use Rattle.std.specs.List.{AllByRecursion}
 use Rattle.std.proofs.lemmas.Bool.{eq-eqb, eqb-true, eqb-false}
 use Rattle.std.proofs.lemmas.List.FromFn.{length-map-range_with_len}
 use Rattle.std.proofs.lemmas.List.{length-map, length-replicate, length-set, length-take, map-append, take_all}
-use Rattle.vc_base.specs.Rounds.{broken, settled}
+use Rattle.vc_base.specs.Rounds.{settled}
 use Rattle.vc_plan.specs.declared.atoms.Atom.{Atom}
 use Rattle.vc_plan.specs.declared.atoms.Clash.{Clash}
 use Rattle.vc_plan.specs.declared.atoms.Culprit.{Culprit}
 use Rattle.vc_plan.specs.declared.atoms.Outcome.TheVariants as outcomes
 use Rattle.vc_plan.specs.declared.plans.Plan.{Plan}
 use Rattle.vc_plan.specs.declared.plans.Slot.{Slot}
-use Rattle.vc_plan.specs.Clear.{is_clear}
 use Rattle.vc_plan.specs.Domains.{numbers_below}
 use Rattle.vc_plan.specs.Entries.{Entries, entry_in, no_entries}
-use Rattle.vc_plan.specs.Evaluate.{Users, between, broken_at, evaluation_of, holds, sources_of}
+use Rattle.vc_plan.specs.Evaluate.{Users, between, broken_at, holds, sources_of}
 use Rattle.vc_plan.specs.Fitting.{users_fit}
-use Rattle.vc_plan.specs.Seen.{Seen, seen_of}
+use Rattle.vc_plan.specs.Seen.{seen_of}
 use Rattle.vc_plan.specs.Settle.{settlement_of}
 use Rattle.vc_plan.specs.Slots.{depth_in, is_root}
 use Rattle.vc_plan.specs.Sources.{Sources}
 use Rattle.vc_plan.specs.Valid.{IsValid}
-use Rattle.vc_plan.specs.Writes.{depth_of, depth_writes, greatest_depth, last_stage, summing_writes, was_here}
+use Rattle.vc_plan.specs.Writes.{depth_of, depth_writes, greatest_depth, last_stage}
 use Rattle.vc_plan.proofs.PlanLaws.Rounds.{rounds_suffice}
-use Rattle.vc_plan_reasons.specs.Fitting.{AllStagesFit, sources_fit}
+use Rattle.vc_plan_reasons.specs.Fitting.{sources_fit}
 use Rattle.vc_plan_reasons.proofs.ReasonLaws.Fitting.{stages_fit}
 use Rattle.vc_rule_laws.proofs.BoundLaws.{clear_lies_in_grains}
 use Rattle.vc_rule_terms.specs.Computing.{LiesInGrains}
@@ -141,7 +140,7 @@ begins plan users old new valid fit of nets sources late cleared =
     }
 
 -- as many stages so far
-count : (plan : Plan) (stages : Stages) (k : ℕ) → AreStagesOf plan stages → k ≤ last_stage plan
+pub count : (plan : Plan) (stages : Stages) (k : ℕ) → AreStagesOf plan stages → k ≤ last_stage plan
     → length (map said_by (take k stages.nets.items)) ≡ k
 count plan stages k of h =
     length-map (take k stages.nets.items) said_by ∙ length-take k stages.nets.items ∙ omega (arith, of.many)

@@ -1,7 +1,7 @@
 -- Lists of which one element is put in the place of another.
-use Rattle.std.proofs.Common.{◌≡◌, ℕ, zero, suc, ◌+◌, ◌<◌, ◌≤◌, List, [], ◌∷◌, ◌++◌, length, map, take, drop, refl, sym}
+use Rattle.std.proofs.Common.{◌≡◌, ℕ, zero, suc, ◌+◌, ◌<◌, ◌≤◌, List, [], ◌∷◌, ◌++◌, length, map, take, refl, sym}
 use Rattle.std.proofs.Common.{ap, ◌∙◌, arith}
-use Rattle.std.specs.Prelude.{Some, None, Option, slice_get, slice_index_or, slice_set}
+use Rattle.std.specs.Prelude.{Some, slice_get, slice_index_or, slice_set}
 use Rattle.std.specs.List.{AllByRecursion, range_with_len}
 use Rattle.vc_plan.specs.Domains.{numbers_below}
 use Rattle.vc_plan.specs.Seen.{Seen, seen_of}

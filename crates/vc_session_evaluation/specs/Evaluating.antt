@@ -6,7 +6,6 @@ use Rattle.vc_plan.specs.declared.atoms.Atom.{Atom}
 use Rattle.vc_plan.specs.declared.atoms.Clash.{Clash}
 use Rattle.vc_plan.specs.declared.plans.Plan.{Plan}
 use Rattle.vc_plan.specs.Domains.{numbers_below}
-use Rattle.vc_plan.specs.Entries.{Entries}
 use Rattle.vc_plan.specs.Evaluate.{Users, broken_at, evaluation_of, sources_of}
 use Rattle.vc_plan.specs.Seen.{Seen, seen_of}
 use Rattle.vc_plan.specs.Settle.{settlement_of}

@@ -1,5 +1,5 @@
 -- What each stage does to what an evaluation works on.
-use Rattle.std.specs.Prelude.{◌≡◌, ℕ, suc, ◌+◌, Bool, not, ◌==◌, List, length, map, slice_get, slice_set, Some}
+use Rattle.std.specs.Prelude.{◌≡◌, ℕ, suc, Bool, not, ◌==◌, List, length, map, slice_get, slice_set, Some}
 use Rattle.std.specs.Prelude.{if◌then◌else◌}
 use Rattle.vc_plan.specs.declared.plans.Plan.{Plan}
 use Rattle.vc_plan.specs.Domains.{numbers_below}

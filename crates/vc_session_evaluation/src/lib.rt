@@ -3,6 +3,7 @@
 
 pub mod filling;
 pub mod lateness;
+pub mod laws;
 pub mod settling;
 pub mod stages;
 

@@ -4,6 +4,7 @@ ghost use Rattle.std.specs.Prelude.{◌≡◌, true};
 ghost use Rattle.vc_plan.specs.Valid.{IsValid};
 ghost use Rattle.vc_plan_reasons.specs.Fitting.{sources_fit};
 ghost use Rattle.vc_net.specs.Nets.{AreFor, IsNetOf};
+ghost use Rattle.vc_session_evaluation.specs.Costing.{HasSynced};
 ghost use Rattle.vc_session_evaluation.specs.Evaluating.{HasSettled};
 
 use std::sync::ledger::Ledger;
@@ -12,7 +13,7 @@ use vc_plan::{Outcome, Plan};
 use vc_plan_sources::Sources;
 use vc_value_steps::Steps;
 
-/// Settles the net with the sources, and says whether nothing contradicts. It takes no memory.
+/// Settles the net with the sources, within its work, and says whether nothing contradicts. It takes no memory.
 pub fn settle<L: Ledger>(
     plan: &Plan,
     sources: &Sources,
@@ -24,6 +25,7 @@ pub fn settle<L: Ledger>(
     requires lengths { AreFor plan.now sources.now }
     requires fits { sources_fit plan.now sources.now ≡ true }
     ensures of { IsNetOf plan.now net.new }
+    ensures synced { HasSynced plan.now sources.now net.old net.new steps.old steps.new }
     ensures settled { HasSettled plan.now sources.now net.new result }
 {
     net.sync(plan, sources, steps);

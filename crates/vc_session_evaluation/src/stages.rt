@@ -5,6 +5,7 @@ ghost use Rattle.std.specs.List.{AllByRecursion};
 ghost use Rattle.vc_plan.specs.Valid.{IsValid};
 ghost use Rattle.vc_plan.specs.Writes.{last_stage};
 ghost use Rattle.vc_net.specs.Nets.{IsNetOf};
+ghost use Rattle.vc_session_evaluation.specs.Costing.{HasAllBehind};
 
 use crate::filling::fill;
 use crate::lateness::{flag_late, flag_missing};
@@ -39,14 +40,17 @@ impl Stages {
     ghost use Rattle.vc_plan_reasons.specs.Fitting.{sources_fit};
     ghost use Rattle.vc_plan_users.specs.Choosing.{users_of};
     ghost use Rattle.vc_proc.specs.Overlays.{EntriesLie};
+    ghost use Rattle.std.specs.List.{AllByRecursion};
+    ghost use Rattle.vc_session_evaluation.specs.Costing.{EvaluationCosts, HasAllBehind, SyncsAt};
     ghost use Rattle.vc_session_evaluation.specs.Evaluating.{AreStagesOf, IsEvaluated};
     ghost use Rattle.vc_session_evaluation.specs.Going.{FlagsLateOnes, LiesAt, SettlesAt, WritesAfter};
     ghost use Rattle.vc_session_evaluation.specs.Going.{flags_before, with_late};
 
-    /// Nets that haven't settled, and nothing written.
+    /// Nets that haven't settled, each with all things behind, and nothing written.
     pub fn new(alloc: Global, plan: &Plan) -> Result<Stages, AllocError>
         requires valid { IsValid plan.now }
-        ensures { IfOk result (λ stages. AreStagesOf plan.now stages) }
+        ensures of { IfOk result (λ stages. AreStagesOf plan.now stages) }
+        ensures behind { IfOk result (λ stages. AllByRecursion (HasAllBehind plan.now) stages.nets.items) }
     {
         let nets = new_nets(alloc, plan)?;
         let overlay = Overlay::new(alloc, plan)?;
@@ -61,7 +65,8 @@ impl Stages {
         })
     }
 
-    /// Evaluates the user's values from nothing, stage by stage, up to the first that is broken. It takes no memory.
+    /// Evaluates the user's values, stage by stage, up to the first that is broken: the nets up to that go on, once
+    /// each and within their works, as `nets_cost_their_works` adds up, and later ones stay. It takes no memory.
     pub fn evaluate<L: Ledger>(&mut self, plan: &Plan, users: &UserValues, steps: &mut Steps<L>)
         requires valid { IsValid plan.now }
         requires of { AreStagesOf plan.now self.old }
@@ -69,6 +74,7 @@ impl Stages {
         requires fit { users_fit plan.now (users_of users.now) ≡ true }
         ensures of { AreStagesOf plan.now self.new }
         ensures evaluated { IsEvaluated plan.now (users_of users.now) self.new }
+        ensures cost { EvaluationCosts plan.now (users_of users.now) self.old.nets.items self.new steps.old steps.new }
     {
         self.overlay.clear();
         self.broken = None;
@@ -100,7 +106,8 @@ impl Stages {
         requires users { length users.now.values ≡ length plan.now.vars }
         requires fits { sources_fit plan.now (sources_of (users_of users.now) self.old.overlay) ≡ true }
         requires there { stage < length self.old.nets.items }
-        ensures { SettlesAt plan.now (users_of users.now) stage self.old self.new result }
+        ensures settles { SettlesAt plan.now (users_of users.now) stage self.old self.new result }
+        ensures syncs { SyncsAt plan.now (users_of users.now) stage self.old self.new steps.old steps.new }
     {
         fill(plan, users, &self.overlay, &mut self.sources);
         settle(plan, &self.sources, &mut self.nets[stage as usize], steps)
@@ -160,6 +167,7 @@ impl Stages {
 fn new_nets(alloc: Global, plan: &Plan) -> Result<Vec<Net>, AllocError>
     requires valid { IsValid plan.now }
     ensures nets { IfOk result (λ nets. AllByRecursion (IsNetOf plan.now) nets.items) }
+    ensures behind { IfOk result (λ nets. AllByRecursion (HasAllBehind plan.now) nets.items) }
     ensures many { IfOk result (λ nets. length nets.items ≡ suc (last_stage plan.now)) }
 {
     let mut nets = Vec::new(alloc);

@@ -1,6 +1,6 @@
 -- Stages by what their sets say.
 use Rattle.std.proofs.Common.{◌≡◌, ℕ, zero, suc, ◌+◌, ◌-◌, not, ◌&&◌, List, [], ◌∷◌, ◌++◌, length, map, refl, sym, ap}
-use Rattle.std.proofs.Common.{◌∙◌, arith}
+use Rattle.std.proofs.Common.{◌∙◌, arith, subst}
 use Rattle.std.specs.Prelude.{Option, None, Some}
 use Rattle.std.proofs.lemmas.List.{length-append, length-map, map-append}
 use Rattle.vc_base.specs.Rounds.{Settlement, broken, settled}
@@ -17,7 +17,7 @@ use Rattle.vc_plan.specs.Settle.{settlement_of}
 use Rattle.vc_plan.specs.Writes.{depth_of, last_stage, set_at, was_here}
 use Rattle.vc_plan.proofs.PlanLaws.Extending.{Extends, extends}
 use Rattle.vc_plan.proofs.PlanLaws.Facts.{part_clear}
-use Rattle.vc_session_stages.specs.Stages.{LastSetSettles, LateIsSeen, SetsSayTheSame, StagesBegin}
+use Rattle.vc_session_stages.specs.Stages.{ComesTo, LastSetSettles, LateIsSeen, SetsSayTheSame, StagesBegin}
 use Rattle.vc_session_stages.specs.Stages.{StagesBreak, StagesGoOn, StagesSettle, WasHereIsSeen, seen_at}
 
 -- what the set of a stage says
@@ -33,6 +33,7 @@ pub stages_begin : StagesBegin
 stages_begin plan users = record {
   sets = [];
   seen = refl;
+  comes = (refl, refl);
   onwards = λ later e. let all : later
       ≡ last_stage plan = omega (arith, e) in ap (λ n. stages_from plan users n [] (no_entries plan)) all;
 }
@@ -54,6 +55,20 @@ pub stages_go_on : StagesGoOn
 stages_go_on plan users stages entries set later so_far more e = record {
   sets = so_far.sets ++ set ∷ [];
   seen = seen_more so_far.sets stages set so_far.seen;
+  comes =
+      let count : suc (length stages) ≡ length (stages ++ seen_of set ∷ [])
+      = omega (arith, length-append stages (seen_of set ∷ [])) in
+      let left : later ≡ last_stage plan - suc (length stages) = omega (arith, more) in
+      subst (λ k. ComesTo plan users k (so_far.sets ++ set ∷ []) (between plan users later so_far.sets set entries))
+      count (
+        so_far.sets,
+        entries,
+        set,
+        so_far.comes,
+        e,
+        refl,
+        ap (λ n. between plan users n so_far.sets set entries) left,
+      );
   onwards = λ n long.
       let count : length (stages ++ seen_of set ∷ []) ≡ length stages + 1 = length-append stages (seen_of set ∷ []) in
       let same : n ≡ later = omega (arith, long, count, more) in

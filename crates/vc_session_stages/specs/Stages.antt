@@ -1,5 +1,5 @@
 -- The stages of an evaluation by what the set of each says, so that who keeps no sets can tell how they go on and end.
-use Rattle.std.specs.Prelude.{◌≡◌, ◌≤◌, ℕ, zero, suc, ◌+◌, Bool, true, not, ◌&&◌, List, [], ◌∷◌, ◌++◌, length, map}
+use Rattle.std.specs.Prelude.{◌≡◌, ◌≤◌, ℕ, zero, suc, ◌+◌, ◌-◌, Bool, true, not, ◌&&◌, List, [], ◌∷◌, ◌++◌, length, map}
 use Rattle.vc_base.specs.Rounds.{broken, settled}
 use Rattle.vc_base.specs.Sets.{has}
 use Rattle.vc_plan.specs.declared.atoms.Atom.{Atom}
@@ -27,10 +27,19 @@ abbrev pub WasHereIsSeen : Type 0
 WasHereIsSeen = (plan : Plan) (sets : List (List Atom)) (i : ℕ)
     → was_here plan sets i ≡ was_seen plan (map seen_of sets) i
 
+-- the evaluation comes to the stage of this number, where those before it settled at these sets, with these entries
+abbrev pub ComesTo : Plan → Users → ℕ → List (List Atom) → Entries → Type 0
+ComesTo plan users zero sets entries = (sets ≡ []) × (entries ≡ no_entries plan)
+ComesTo plan users (suc k) sets entries = (before : List (List Atom)) × (was : Entries) × (set : List Atom)
+    × ComesTo plan users k before was × (settlement_of plan (sources_of users was) ≡ settled set)
+    × (sets ≡ before ++ set ∷ [])
+    × (entries ≡ between plan users (last_stage plan - suc k) before set was)
+
 -- the stages so far have settled at sets that say this, and with what is written after them the evaluation goes on
 pub record HaveSettled (plan : Plan) (users : Users) (stages : List Seen) (entries : Entries) : Type 0 where
   pub sets : List (List Atom)
   pub seen : map seen_of sets ≡ stages
+  pub comes : ComesTo plan users (length stages) sets entries
   pub onwards : (later : ℕ) → later + length stages ≡ last_stage plan
       → stages_from plan users later sets entries ≡ evaluation_of plan users
 

@@ -1,5 +1,7 @@
 -- Nothing chosen is of the plan, and is evaluated.
 use Rattle.std.proofs.Common.{subst, sym}
+use Rattle.vc_plan_users.specs.Choosing.{users_of}
+use Rattle.vc_session_evaluation.proofs.StartLaws.{nets_start_behind}
 use Rattle.vc_session.specs.Sessions.{AreUsersOf}
 use Rattle.vc_session.proofs.UserLaws.{none_of}
 use Rattle.vc_session.proofs.session.begun.Goals as goal
@@ -15,3 +17,8 @@ returns-clause-of g c =
     let users : AreUsersOf c.args.plan.now c.in_ok-users.users
     = subst (AreUsersOf c.args.plan.now) (sym c.in_ok-users.ensures) (none_of c.args.plan.now) in
     record { users = users; stages = c.evaluate.ensures.of; evaluated = c.evaluate.ensures.evaluated }
+
+pub returns-clause-behind : goal.returns-clause-behind
+returns-clause-behind g c =
+    nets_start_behind c.args.plan.now (users_of c.in_ok-users.users) 0 _ _ _ _ _ c.evaluate.ensures.cost
+    c.in_ok-stages.ensures.behind

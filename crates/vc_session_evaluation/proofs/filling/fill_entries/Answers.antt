@@ -1,5 +1,5 @@
 -- What stands for the variable is put into its place, as a source.
-use Rattle.std.proofs.Common.{◌≡◌, ◌∙◌, None, ap, arith, length, sym}
+use Rattle.std.proofs.Common.{◌≡◌, ◌∙◌, None, ap, arith, sym}
 use Rattle.std.specs.Prelude.{option_map, slice_index_or}
 use Rattle.std.proofs.lemmas.List.{length-map}
 use Rattle.vc_plan.specs.Entries.{entry_in, sources_in}

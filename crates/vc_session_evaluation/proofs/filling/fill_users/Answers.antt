@@ -1,5 +1,5 @@
 -- The variable's value is put into its place.
-use Rattle.std.proofs.Common.{◌≡◌, ◌∙◌, None, ap, arith, length, sym}
+use Rattle.std.proofs.Common.{◌≡◌, ◌∙◌, None, ap, arith}
 use Rattle.std.specs.Prelude.{slice_index_or}
 use Rattle.vc_session_evaluation.proofs.FillLemmas.{filled_next, filled_whole}
 use Rattle.vc_session_evaluation.proofs.filling.fill_users.Goals as goal

@@ -1,5 +1,5 @@
 -- The slot is flagged.
-use Rattle.std.proofs.Common.{◌∙◌, ap, arith, map, not}
+use Rattle.std.proofs.Common.{ap, arith, map, not}
 use Rattle.vc_session_stages.specs.Stages.{was_seen}
 use Rattle.vc_session_evaluation.specs.Evaluating.{said_by}
 use Rattle.vc_session_evaluation.proofs.FillLemmas.{filled_next}

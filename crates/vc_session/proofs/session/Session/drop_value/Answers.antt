@@ -1,6 +1,8 @@
 -- What the user chose stays of the plan, and is evaluated.
 use Rattle.std.proofs.Common.{subst, sym}
-use Rattle.vc_session.specs.Sessions.{AreUsersOf, IsSessionOf}
+use Rattle.vc_plan_users.specs.Choosing.{users_of}
+use Rattle.vc_session_evaluation.specs.Costing.{EvaluationCosts}
+use Rattle.vc_session.specs.Sessions.{AreUsersOf, IsSessionOf, Opened}
 use Rattle.vc_session.proofs.UserLaws.{taken_value_of}
 use Rattle.vc_session.proofs.session.Session.drop_value.Goals as goal
 
@@ -23,3 +25,8 @@ returns-clause-of g c =
     subst (AreUsersOf plan) (sym c.take_value.ensures)
     (taken_value_of plan c.self.inside.users c.args.named c.args.value of.users) in
     record { users = users; stages = c.evaluate.ensures.of; evaluated = c.evaluate.ensures.evaluated }
+
+pub returns-clause-cost : goal.returns-clause-cost
+returns-clause-cost g c =
+    subst (λ (old : Opened). EvaluationCosts c.args.plan.now (users_of c.take_value.new.users) old.stages.nets.items
+    c.evaluate.new.self c.args.steps.now c.evaluate.new.steps) c.self.view_is c.evaluate.ensures.cost

@@ -1,6 +1,8 @@
 -- What the user chose stays of the plan, and is evaluated.
 use Rattle.std.proofs.Common.{◌∙◌, subst, sym}
-use Rattle.vc_session.specs.Sessions.{AreUsersOf, IsSessionOf}
+use Rattle.vc_plan_users.specs.Choosing.{users_of}
+use Rattle.vc_session_evaluation.specs.Costing.{EvaluationCosts}
+use Rattle.vc_session.specs.Sessions.{AreUsersOf, IsSessionOf, Opened}
 use Rattle.vc_session.proofs.UserLaws.{given_alone_of, may_give}
 use Rattle.vc_session.proofs.session.Session.set.Goals as goal
 
@@ -25,3 +27,8 @@ returns-in-None-clause-of g c =
     (given_alone_of plan c.self.inside.users c.args.named c.args.value of.users
     (may_give plan c.args.self.now c.args.named c.args.value (sym c.fault.ensures ∙ c.in-None.is))) in
     record { users = users; stages = c.evaluate.ensures.of; evaluated = c.evaluate.ensures.evaluated }
+
+pub returns-in-None-clause-cost : goal.returns-in-None-clause-cost
+returns-in-None-clause-cost g c =
+    subst (λ (old : Opened). EvaluationCosts c.args.plan.now (users_of c.give_alone.new.users) old.stages.nets.items
+    c.evaluate.new.self c.args.steps.now c.evaluate.new.steps) c.self.view_is c.evaluate.ensures.cost

@@ -1,6 +1,7 @@
 -- The stages before this one have settled.
 use Rattle.std.proofs.Common.{◌≡◌, None}
 use Rattle.vc_plan_users.specs.Choosing.{users_of}
+use Rattle.vc_session_evaluation.specs.Costing.{GoOn}
 use Rattle.vc_session_evaluation.proofs.GoingLaws.{IsAt}
 use Rattle.vc_session_evaluation.proofs.stages.Stages.evaluate.Given as goal
 
@@ -8,4 +9,5 @@ abbrev pub invariant-loop-stage : goal.invariant-loop-stage
 invariant-loop-stage g l = record {
   at : IsAt l.plan (users_of l.users) l.self l.stage;
   calm : l.self.broken ≡ None;
+  cost : GoOn l.plan (users_of l.users) 0 l.stage l.fn.self.nets.items l.self.nets.items l.fn.steps l.steps;
 }
