@@ -6,6 +6,7 @@ use Rattle.vc_plan.specs.declared.shown.Status.{Status}
 use Rattle.vc_plan.specs.Valid.{IsValid}
 use Rattle.vc_plan_reasons.specs.Blaming.{IsStatus}
 use Rattle.vc_plan_users.specs.Choosing.{Chosen, none_chosen, users_of}
+use Rattle.vc_session.specs.Costing.{HasStarted}
 use Rattle.vc_session.specs.Sessions.{IsSessionOf, Opened}
 use Rattle.vc_wire_replies.specs.declared.reply.Refusal.{Refusal}
 use Rattle.vc_wire_replies.specs.declared.reply.Reply.{Reply}
@@ -55,5 +56,6 @@ pub record Opens (plan : Plan) (old : ByName Opened) (name : List ℕ) (new : By
   pub session : Opened
   pub of : IsSessionOf plan session
   pub none : session.users ≡ none_chosen plan
+  pub behind : HasStarted plan session
   pub put : new ≡ insert old name session
   pub stands : IsStatus plan (users_of session.users) status

@@ -1,4 +1,5 @@
 pub mod Answers
+pub mod Costing
 pub mod Desks
 pub mod Edits
 pub mod Reasons

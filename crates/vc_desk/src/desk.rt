@@ -3,6 +3,7 @@
 ghost use Rattle.std.specs.Prelude.{◌≡◌};
 ghost use Rattle.vc_plan.specs.Valid.{IsValid};
 ghost use Rattle.vc_desk.specs.Answers.{Apply};
+ghost use Rattle.vc_desk.specs.Costing.{AnswerSpends};
 ghost use Rattle.vc_desk.specs.Desks.{AreSessionsOf, state_of};
 
 use crate::edits::Edit;
@@ -51,6 +52,7 @@ fn answer_with<L: Ledger>(
     requires of { AreSessionsOf plan.now sessions.old }
     ensures applies { Apply plan.now (state_of sessions.old) request.now result (state_of sessions.new) }
     ensures of { AreSessionsOf plan.now sessions.new }
+    ensures spends { AnswerSpends plan.now sessions.old request.now result sessions.new steps.old steps.new }
 {
     match request {
         Request::Start { session } => sessions.open(alloc, plan, session),
@@ -146,6 +148,7 @@ impl Desk {
     ghost use Rattle.std.specs.Prelude.{◌≡◌};
     ghost use Rattle.vc_plan.specs.Valid.{IsValid};
     ghost use Rattle.vc_desk.specs.Answers.{Apply};
+    ghost use Rattle.vc_desk.specs.Costing.{AnswerSpends};
     ghost use Rattle.vc_desk.specs.Desks.{IsDesk, state_of};
     ghost use Rattle.vc_desk.specs.States.{start_state};
 
@@ -169,7 +172,8 @@ impl Desk {
         &self.plan
     }
 
-    /// Answers a request. Close, Set, Add, Retract and Drop take no memory.
+    /// Answers a request. Close, Set, Add, Retract and Drop take no memory. Rules are evaluated by an edit that is done
+    /// alone, within the works of its session's nets, and all other sessions stay as they are.
     pub fn answer<L: Ledger>(
         &mut self,
         alloc: Global,
@@ -181,6 +185,8 @@ impl Desk {
             (state_of self.new.sessions) }
         ensures is { IsDesk self.new }
         ensures plan { self.new.plan ≡ self.old.plan }
+        ensures spends { AnswerSpends self.old.plan self.old.sessions request.now result self.new.sessions
+            steps.old steps.new }
     {
         answer_with(alloc, &self.plan, &mut self.sessions, request, steps)
     }

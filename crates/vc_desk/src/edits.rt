@@ -2,6 +2,7 @@
 
 ghost use Rattle.std.specs.Prelude.{◌≡◌};
 ghost use Rattle.vc_plan.specs.Valid.{IsValid};
+ghost use Rattle.vc_session.specs.Costing.{EditCosts};
 ghost use Rattle.vc_session.specs.Sessions.{IsSessionOf};
 ghost use Rattle.vc_desk.specs.Desks.{Edited};
 ghost use Rattle.vc_desk.specs.Edits as edits;
@@ -50,6 +51,7 @@ fn set<L: Ledger>(
     ensures edited { Edited session.old.users
         (edits.after_set plan.now instance name.now word.now session.old.users) session.new.users result }
     ensures of { IsSessionOf plan.now session.new }
+    ensures cost { EditCosts plan.now session.old session.new result steps.old steps.new }
 {
     let named = named_for(plan, instance, name)?;
     let value = value_for(plan, named, word)?;
@@ -73,6 +75,7 @@ fn add<L: Ledger>(
     ensures edited { Edited session.old.users
         (edits.after_add plan.now instance name.now word.now session.old.users) session.new.users result }
     ensures of { IsSessionOf plan.now session.new }
+    ensures cost { EditCosts plan.now session.old session.new result steps.old steps.new }
 {
     let named = named_for(plan, instance, name)?;
     let value = value_for(plan, named, word)?;
@@ -95,6 +98,7 @@ fn retract<L: Ledger>(
     ensures edited { Edited session.old.users
         (edits.after_retract plan.now instance name.now session.old.users) session.new.users result }
     ensures of { IsSessionOf plan.now session.new }
+    ensures cost { EditCosts plan.now session.old session.new result steps.old steps.new }
 {
     let named = named_for(plan, instance, name)?;
     match session.retract(plan, named, steps) {
@@ -117,6 +121,7 @@ fn drop_value<L: Ledger>(
     ensures edited { Edited session.old.users
         (edits.after_drop plan.now instance name.now word.now session.old.users) session.new.users result }
     ensures of { IsSessionOf plan.now session.new }
+    ensures cost { EditCosts plan.now session.old session.new result steps.old steps.new }
 {
     let named = named_for(plan, instance, name)?;
     let value = value_for(plan, named, word)?;
@@ -140,6 +145,7 @@ pub fn apply<L: Ledger>(
     ensures edited { Edited session.old.users
         (edits.after_edit which.entry plan.now instance name.now session.old.users) session.new.users result }
     ensures of { IsSessionOf plan.now session.new }
+    ensures cost { EditCosts plan.now session.old session.new result steps.old steps.new }
 {
     match which {
         Edit::Set(word) => set(plan, session, instance, name, word, steps),

@@ -71,9 +71,10 @@ fn reply_to_edit(plan: &Plan, session: &Session, edited: Result<(), Refusal>) ->
 
 impl Sessions {
     ghost use Rattle.std.specs.Prelude.{◌≡◌, ◌≤◌, ◌<◌, nat_lt, not, IfOk, OnErr, IfSome};
-    ghost use Rattle.std.specs.FinMap.{empty, get, len};
+    ghost use Rattle.std.specs.FinMap.{empty, get, len, remove};
     ghost use Rattle.std.specs.Option.{option_copied};
     ghost use Rattle.vc_plan.specs.Valid.{IsValid};
+    ghost use Rattle.vc_desk.specs.Costing.{OpensOne, SpendsOnEdit};
     ghost use Rattle.vc_desk.specs.Answers.{Closes, EditsSession, Starts, TellsSession};
     ghost use Rattle.vc_desk.specs.Desks.{AreSessionsOf, Opens, state_of};
     ghost use Rattle.vc_desk.specs.Edits.{after_edit};
@@ -120,6 +121,7 @@ impl Sessions {
         requires valid { IsValid plan.now }
         requires of { AreSessionsOf plan.now self.old }
         ensures starts { Starts plan.now (state_of self.old) name.now result (state_of self.new) }
+        ensures opens { OpensOne plan.now name.now self.old self.new }
         ensures of { AreSessionsOf plan.now self.new }
     {
         if self.find(name).is_some() {
@@ -140,6 +142,7 @@ impl Sessions {
         ensures closes { Closes (state_of self.old) name.now (chosen_in (state_of self.old) name.now) result
             (state_of self.new) }
         ensures of { AreSessionsOf plan.now self.new }
+        ensures gone { self.new ≡ remove self.old name.now }
     {
         // So many, as their names ascend: one session alone has the name.
         let _count = self.by_name.len();
@@ -153,7 +156,7 @@ impl Sessions {
         }
     }
 
-    /// Edits the session of this name. It takes no memory.
+    /// Edits the session of this name, and no other, at the cost of its nets' works. It takes no memory.
     pub fn edit<L: Ledger>(
         &mut self,
         plan: &Plan,
@@ -169,6 +172,7 @@ impl Sessions {
             (after_edit which.entry plan.now instance characteristic.now)
             (chosen_in (state_of self.old) name.now) result (state_of self.new) }
         ensures of { AreSessionsOf plan.now self.new }
+        ensures spends { SpendsOnEdit plan.now name.now self.old self.new result steps.old steps.new }
     {
         match self.by_name.get_mut(name.bytes()) {
             Some(session) => {

@@ -11,6 +11,7 @@ returns-clause-opened c = record {
   session = c.in_ok-session.session;
   of = c.in_ok-session.ensures.of;
   none = c.in_ok-session.ensures.none;
+  behind = c.in_ok-session.ensures.behind;
   put = ap (λ es. from_entries (map named_entry es)) c.in_ok-insert.ensures.entries
       ∙ inserted (λ key. key.items) c.self.inside.by_name.entries c.in_ok-key.key c.in_ok-session.session
       ∙ ap (λ m. insert m c.in_ok-key.key.items c.in_ok-session.session) c.self.view_is

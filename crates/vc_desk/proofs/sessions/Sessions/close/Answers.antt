@@ -45,3 +45,10 @@ returns-clause-of c =
     ∙ removed (λ key. key.items) c.self.inside.by_name.entries c.bytes.result.now c.len-count.ensures.ordered
     ∙ ap (λ m. remove m c.bytes.result.now) c.self.view_is))
     (closed_sessions c.args.plan.now c.args.self.now c.requires.of c.bytes.result.now)
+
+pub returns-clause-gone : goal.returns-clause-gone
+returns-clause-gone c =
+    ap (λ es. from_entries (map named_entry es)) c.remove-removed.ensures.entries
+    ∙ removed (λ key. key.items) c.self.inside.by_name.entries c.bytes.result.now c.len-count.ensures.ordered
+    ∙ ap (λ m. remove m c.bytes.result.now) c.self.view_is
+    ∙ ap (remove c.args.self.now) c.bytes.ensures

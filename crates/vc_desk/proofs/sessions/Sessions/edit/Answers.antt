@@ -4,7 +4,11 @@ use Rattle.std.specs.FinMap.{from_entries, get, insert}
 use Rattle.std.specs.Option.{option_copied_mut}
 use Rattle.std.specs.Prelude.{map}
 use Rattle.vc_desk.specs.Answers.{EditsSession}
+use Rattle.vc_session.specs.Costing.{EditCosts}
+use Rattle.vc_wire_replies.specs.declared.reply.Refusal.TheVariants.{NoSession}
+use Rattle.vc_desk.specs.Costing.{SpendsOnEdit, unedited}
 use Rattle.vc_desk.specs.Desks.{AreSessionsOf, RepliesTo, named_entry, state_of}
+use Rattle.vc_desk.proofs.CostLaws.{edits_spend}
 use Rattle.vc_desk.specs.Edits.{after_edit}
 use Rattle.vc_desk.specs.States.{chosen_in}
 use Rattle.vc_desk.proofs.AnswerLaws.{edits_none, edits_one}
@@ -76,3 +80,35 @@ returns-clause-of g c =
           ∙ ap (λ m. from_entries (map named_entry m.entries)) c.get_mut.follows.holds-at-none ∙ c.self.view_is))
           c.requires.of
     ]
+
+pub returns-clause-spends : goal.returns-clause-spends
+returns-clause-spends g c =
+    let old = c.args.self.now in
+    let plan = c.args.plan.now in
+    let name = c.bytes.result.now in
+    let entries = c.self.inside.by_name.entries in
+    let before = c.args.steps.now in
+    let seen = ap (λ m. get m name) (sym c.self.view_is) ∙ found (λ key. key.items) entries name in
+    subst (λ name. SpendsOnEdit plan name old
+    (from_entries (map named_entry c.match-get_mut.self-inside.by_name.entries)) c.match-get_mut.result before
+    c.match-get_mut.steps) c.bytes.ensures
+    (elim c.match-get_mut.branch [
+      | in-Some w ↦
+          let there = sym c.get_mut.ensures.value ∙ ap option_copied_mut w.in-Some.is in
+          let new = w.apply-edited.new.session in
+          subst (λ sessions. SpendsOnEdit plan name old sessions c.match-get_mut.result before c.match-get_mut.steps)
+          (sym (ap (λ i. from_entries (map named_entry i.by_name.entries)) w.self-inside-is
+          ∙ ap (λ es. from_entries (map named_entry es)) (c.get_mut.follows.holds new).0
+          ∙ value_set (λ key. key.items) entries name new w.in-Some.session.now there
+          ∙ ap (λ m. insert m name new) c.self.view_is))
+          (edits_spend plan name old w.in-Some.session.now new w.apply-edited.result c.match-get_mut.result before
+          c.match-get_mut.steps (seen ∙ there)
+          (subst (EditCosts plan w.in-Some.session.now new w.apply-edited.result before) (sym w.steps-is)
+          w.apply-edited.ensures.cost)
+          (subst (RepliesTo plan new.users w.apply-edited.result) (sym w.result-is) w.reply_to_edit.ensures))
+      | in-None w ↦
+          unedited NoSession (w.result-is ∙ w.refused.ensures)
+          (ap (λ i. from_entries (map named_entry i.by_name.entries)) w.self-inside-is
+          ∙ ap (λ m. from_entries (map named_entry m.entries)) c.get_mut.follows.holds-at-none ∙ c.self.view_is)
+          w.steps-is
+    ])

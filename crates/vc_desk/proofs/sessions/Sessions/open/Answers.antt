@@ -5,6 +5,7 @@ use Rattle.vc_plan_reasons.specs.Blaming.{IsStatus}
 use Rattle.vc_plan_users.specs.Choosing.{users_of}
 use Rattle.vc_wire_replies.specs.declared.reply.Refusal.TheVariants.{NameTaken, TooManySessions}
 use Rattle.vc_desk.specs.Answers.{exhausted, refused, started}
+use Rattle.vc_desk.specs.Costing.{opened, unopened}
 use Rattle.vc_desk.specs.Desks.{AreSessionsOf, state_of}
 use Rattle.vc_desk.specs.States.{with_session}
 use Rattle.vc_desk.proofs.AnswerLaws.{may_open, name_taken, some_copied, too_many}
@@ -53,3 +54,16 @@ returns-in-Err-clause-starts c =
     let room : len c.args.self.now < 32 = omega (arith, c.count.ensures, c.if-count-ge-SESSION_LIMIT.false) in
     exhausted (may_open c.args.self.now c.args.name.now free room) c.refused-in-Err.ensures
     (ap state_of c.in-Err.ensures.as_before)
+
+pub returns-then-is_some-clause-opens : goal.returns-then-is_some-clause-opens
+returns-then-is_some-clause-opens c = unopened refl
+
+pub returns-then-count-ge-SESSION_LIMIT-clause-opens : goal.returns-then-count-ge-SESSION_LIMIT-clause-opens
+returns-then-count-ge-SESSION_LIMIT-clause-opens c = unopened refl
+
+pub returns-in-Ok-clause-opens : goal.returns-in-Ok-clause-opens
+returns-in-Ok-clause-opens c =
+    let opens = c.in-Ok.ensures.opened in opened opens.session opens.behind opens.put
+
+pub returns-in-Err-clause-opens : goal.returns-in-Err-clause-opens
+returns-in-Err-clause-opens c = unopened c.in-Err.ensures.as_before
