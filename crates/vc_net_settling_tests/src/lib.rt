@@ -11,3 +11,5 @@ mod net_blame;
 mod net_sources;
 #[cfg(test)]
 mod net_waking;
+#[cfg(test)]
+mod net_work;

@@ -11,6 +11,7 @@ use vc_plan::{Plan, View};
 use vc_plan_lamp::lamp;
 use vc_plan_users::UserValues;
 use vc_session_evaluation::Stages;
+use vc_session_evaluation::laws::{nets_cost_their_works, nets_start_behind};
 use vc_value::Value;
 use vc_value_steps::Steps;
 
@@ -52,5 +53,12 @@ fn settles_each_stage(rt: HostRuntime) -> Result<(), Fail> {
     let settled = evaluated::<Brand>(rt.alloc(), &plan, Blank::new(1));
     drop(plan);
     assert!(rt; settled?);
+    Ok(())
+}
+
+#[test]
+fn laws_ask_for_nothing(_rt: HostRuntime) -> Result<(), Fail> {
+    nets_cost_their_works();
+    nets_start_behind();
     Ok(())
 }
