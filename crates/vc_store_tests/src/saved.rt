@@ -12,7 +12,7 @@ use vc_store::{SavedFault, read_saved, save_text};
 use vc_value::Value;
 
 const SECOND: &str =
-    "{\"form\":1,\"model\":\"LAMP\",\"values\":[{\"characteristic\":\"COL\",\"instance\":0,\"value\":\"B\"}],\"version\":1}";
+    r#"{"form":1,"model":"LAMP","values":[{"characteristic":"COL","instance":0,"value":"B"}],"version":1}"#;
 
 // The second colour is chosen, saved, and read again.
 fn is_saved_and_read(alloc: Global, plan: &Plan) -> Result<bool, SavedFault>
@@ -51,27 +51,27 @@ fn tells_the_first_fault(rt: HostRuntime) -> Result<(), Fail> {
         fault(
             rt.alloc(),
             &plan,
-            "{\"form\":1,\"model\":\"LAMP\",\"values\":[],\"version\":1",
+            r#"{"form":1,"model":"LAMP","values":[],"version":1"#,
         ),
         fault(
             rt.alloc(),
             &plan,
-            "{\"form\":1,\"model\":\"LAMP\",\"values\":[]}",
+            r#"{"form":1,"model":"LAMP","values":[]}"#,
         ),
         fault(
             rt.alloc(),
             &plan,
-            "{\"form\":1,\"model\":\"LAMP\",\"values\":[],\"version\":2}",
+            r#"{"form":1,"model":"LAMP","values":[],"version":2}"#,
         ),
         fault(
             rt.alloc(),
             &plan,
-            "{\"form\":1,\"model\":\"LAMP\",\"values\":[{\"characteristic\":\"COL\",\"instance\":0,\"value\":\"C\"}],\"version\":1}",
+            r#"{"form":1,"model":"LAMP","values":[{"characteristic":"COL","instance":0,"value":"C"}],"version":1}"#,
         ),
         fault(
             rt.alloc(),
             &plan,
-            "{\"version\":1,\"values\":[],\"model\":\"LAMP\",\"form\":1}",
+            r#"{"version":1,"values":[],"model":"LAMP","form":1}"#,
         ),
     ];
     drop(plan);
