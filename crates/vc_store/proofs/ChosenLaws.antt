@@ -1,5 +1,6 @@
 -- Values that are given one after another are what is chosen by all of them.
-use Rattle.std.proofs.Common.{◌≡◌, ℕ, zero, suc, ◌+◌, ◌<◌, ◌≤◌, Bool, true, false, cond, ◌&&◌, ◌||◌, List, [], ◌∷◌, ◌++◌}
+use Rattle.std.proofs.Common.{◌≡◌, ℕ, zero, suc, ◌+◌, ◌<◌, ◌≤◌, Bool, true, false, cond, ◌&&◌, ◌||◌, List, [], ◌∷◌}
+use Rattle.std.proofs.Common.{◌++◌}
 use Rattle.std.proofs.Common.{length, map, refl, sym, ap, ap₂, ◌∙◌, arith, append_assoc, append-nil, inl, inr}
 use Rattle.std.specs.Prelude.{◌==◌, Option, None, Some, is_some, slice_index_or, slice_set, slice_get, option_to_list}
 use Rattle.std.specs.List.{flat_map, list_all, list_any, range_with_len}
@@ -97,7 +98,8 @@ var_given plan gs v a = ap₂ (λ vs ss. record { values = vs; sets = ss }) valu
     sets : map (λ s. map (text_given gs s) (texts_of plan s)) (numbers_below (length plan.sets))
         ≡ map (λ s. map (text_given (gs ++ g ∷ []) s) (texts_of plan s)) (numbers_below (length plan.sets))
     sets = same_range (λ s. map (text_given gs s) (texts_of plan s))
-        (λ s. map (text_given (gs ++ g ∷ []) s) (texts_of plan s)) 0 (length plan.sets) (λ s h. each s (texts_of plan s))
+        (λ s. map (text_given (gs ++ g ∷ []) s) (texts_of plan s)) 0 (length plan.sets)
+        (λ s h. each s (texts_of plan s))
 
 -- an element of a list over a range, by its number
 index_range : {X : Type 0} (f : ℕ → X) (a n k : ℕ) (d : X) → k < n

@@ -1,7 +1,14 @@
+pub mod ApartLaws
 pub mod ChosenLaws
+pub mod FoundLaws
+pub mod GivensLaws
 pub mod GivingLaws
 pub mod MarkLaws
 pub mod NamingLaws
 pub mod ReadingLaws
+pub mod ReturnLaws
+pub mod SavedLaws
 pub mod SlotLaws
+pub mod UsersLaws
+pub mod ValueLaws
 pub mod WordLaws

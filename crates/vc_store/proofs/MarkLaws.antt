@@ -2,7 +2,8 @@
 use Rattle.std.proofs.Common.{◌≡◌, ℕ, zero, suc, ◌<◌, ◌≤◌, Bool, true, false, cond, not, ◌&&◌, ◌||◌, List, [], ◌∷◌}
 use Rattle.std.proofs.Common.{length, map, refl, sym, ap, ap₂, ◌∙◌, arith, inl, inr}
 use Rattle.std.proofs.lemmas.Bool.{cases_lt, eq-eqb, eqb-true}
-use Rattle.std.specs.Prelude.{◌==◌, Option, None, Some, is_some, slice_index_or, slice_set, slice_get, option_to_list, ⊤}
+use Rattle.std.specs.Prelude.{◌==◌, Option, None, Some, is_some, slice_index_or, slice_set, slice_get, option_to_list}
+use Rattle.std.specs.Prelude.{⊤}
 use Rattle.std.specs.List.{filter, flat_map, list_any}
 use Rattle.std.proofs.lemmas.List.{length-set}
 use Rattle.vc_value.specs.declared.value.Value.{Value}
@@ -70,7 +71,8 @@ held_next : (u : ℕ) (y : SetText) (ys : List SetText)
     ≡ ((y.held && (y.text == u)) || list_any (λ x. x == u) (held_texts ys))
 held_next u y ys = by y.held
   where
-    by : (b : Bool) → list_any (λ x. x == u) (map (λ x. x.text) (cond b (y ∷ filter (λ x. x.held) ys) (filter (λ x. x.held) ys)))
+    by : (b : Bool) → list_any (λ x. x == u)
+        (map (λ x. x.text) (cond b (y ∷ filter (λ x. x.held) ys) (filter (λ x. x.held) ys)))
         ≡ ((b && (y.text == u)) || list_any (λ x. x == u) (held_texts ys))
     by true = refl
     by false = refl
@@ -93,7 +95,8 @@ held_marked t u (y ∷ ys) = by (y.text == t) refl (held_marked t u ys)
 
     by : (b : Bool) → (y.text == t) ≡ b
         → list_any (λ x. x == u) (held_texts (map (text_marked t true) ys)) ≡ (((t == u) && a) || h)
-        → list_any (λ x. x == u) (held_texts (cond b (record { text = y.text; held = true }) y ∷ map (text_marked t true) ys))
+        → list_any (λ x. x == u)
+        (held_texts (cond b (record { text = y.text; held = true }) y ∷ map (text_marked t true) ys))
         ≡ (((t == u) && (b || a)) || list_any (λ x. x == u) (held_texts (y ∷ ys)))
     by true e rest =
         let same : y.text ≡ t = eqb-true y.text t e in
@@ -109,7 +112,8 @@ held_marked t u (y ∷ ys) = by (y.text == t) refl (held_marked t u ys)
         ∙ ap (λ r. ((t == u) && a) || r) (sym (held_next u y ys))
 
 -- the lists stay
-texts_kept : (t : ℕ) (b : Bool) (xs : List SetText) → map (λ x. x.text) (map (text_marked t b) xs) ≡ map (λ x. x.text) xs
+texts_kept : (t : ℕ) (b : Bool) (xs : List SetText) → map (λ x. x.text) (map (text_marked t b) xs)
+    ≡ map (λ x. x.text) xs
 texts_kept t b [] = refl
 texts_kept t b (x ∷ xs) = ap₂ (λ (n : ℕ) (ns : List ℕ). n ∷ ns) (by (x.text == t)) (texts_kept t b xs)
   where

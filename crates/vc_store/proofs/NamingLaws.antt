@@ -1,5 +1,6 @@
 -- What is named is there.
-use Rattle.std.proofs.Common.{◌≡◌, ℕ, zero, suc, ◌+◌, ◌<◌, ◌≤◌, Bool, true, false, cond, not, List, [], ◌∷◌, ◌++◌, length, map, ap, refl, subst}
+use Rattle.std.proofs.Common.{◌≡◌, ℕ, zero, suc, ◌+◌, ◌<◌, ◌≤◌, Bool, true, false, cond, not, List, [], ◌∷◌, ◌++◌}
+use Rattle.std.proofs.Common.{length, map, ap, refl, subst}
 use Rattle.std.proofs.Common.{arith}
 use Rattle.std.specs.Prelude.{Option, None, Some, option_to_list, slice_get}
 use Rattle.std.specs.List.{find, flat_map, range_with_len}
@@ -51,7 +52,8 @@ var_below plan i c v e = by (var_of plan i c) refl e
     by None h f = of_set (set_of plan i c) f
     by (Some w) h f =
         let same : w ≡ v = cc in
-        let below : w < 0 + length plan.vars = found_below (λ x. is_var_of i c (slice_get plan.vars x)) 0 (length plan.vars) w h in
+        let below : w < 0 + length plan.vars =
+        found_below (λ x. is_var_of i c (slice_get plan.vars x)) 0 (length plan.vars) w h in
         omega (arith, same, below)
 
 pub named_below : (plan : Plan) (i : ℕ) (name : List ℕ) (v : ℕ) → find_named plan i name ≡ Some (Var v)

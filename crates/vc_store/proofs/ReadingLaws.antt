@@ -74,7 +74,8 @@ pub given_said_by : (plan : Plan) (values : List Json) (choices : List Choice)
     → given_by plan values ≡ cond (are_known plan choices) (Some (chosen_by plan (meanings plan choices))) None
 given_said_by plan values choices e =
     all_given_is plan (map (meaning_in plan) values)
-    ∙ ap (λ ms. cond (list_all (λ m. is_some m) ms) (Some (chosen_by plan (known ms))) no_one) (meant plan values choices e)
+    ∙ ap (λ ms. cond (list_all (λ m. is_some m) ms) (Some (chosen_by plan (known ms))) no_one)
+    (meant plan values choices e)
     ∙ ap₂ (λ b gs. cond b (Some (chosen_by plan gs)) no_one) (all_known plan choices) (joined (meaning plan) choices)
   where
     no_one : Option Chosen

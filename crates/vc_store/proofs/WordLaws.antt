@@ -1,5 +1,6 @@
 -- Names, listed texts and printed numbers of a valid plan are UTF-8.
-use Rattle.std.proofs.Common.{◌≡◌, ℕ, zero, suc, ◌<◌, ◌≤◌, ◌/◌, ◌%◌, ◌^◌, Bool, true, false, cond, List, [], ◌∷◌, length}
+use Rattle.std.proofs.Common.{◌≡◌, ℕ, zero, suc, ◌<◌, ◌≤◌, ◌/◌, ◌%◌, ◌^◌, Bool, true, false, cond, List, [], ◌∷◌}
+use Rattle.std.proofs.Common.{length}
 use Rattle.std.proofs.Common.{refl, arith, inl, inr, IsUtf8}
 use Rattle.std.specs.Prelude.{◌||◌, ◌==◌, nat_lt, nat_le, slice_get, Option, None, Some, unsigned_abs, pos}
 use Rattle.std.specs.Fmt.{decimal}
@@ -67,7 +68,8 @@ name_plain (b ∷ bytes) h =
     let name = (and_parts (is_name (b ∷ bytes)) (is_upper (b ∷ bytes)) h).0 in
     let parts = and_parts (begins_name b) (ends_name bytes) name in
     and_from (is_plain b) (list_all is_plain bytes) (first_byte b parts.0)
-    (all_plain is_name_byte name_byte bytes (and_parts (nat_lt (length bytes) 30) (list_all is_name_byte bytes) parts.1).1)
+    (all_plain is_name_byte name_byte bytes
+    (and_parts (nat_lt (length bytes) 30) (list_all is_name_byte bytes) parts.1).1)
 
 pub upper_name_utf8 : (name : List ℕ) → is_upper_name name ≡ true → IsUtf8 name
 upper_name_utf8 name h = plain_utf8 name (name_plain name h)
@@ -110,7 +112,8 @@ fraction_plain units below = by (units == 0)
   where
     by : (b : Bool) → list_all is_plain (cond b [] (46 ∷ fraction_digits 6 units)) ≡ true
     by true = refl
-    by false = all_plain is_ascii_digit digit_plain (fraction_digits 6 units) (numerals.fraction_are_digits 6 units below)
+    by false = all_plain is_ascii_digit digit_plain (fraction_digits 6 units)
+        (numerals.fraction_are_digits 6 units below)
 
 pub number_utf8 : (number : Dec) → IsUtf8 (number_text number)
 number_utf8 number =

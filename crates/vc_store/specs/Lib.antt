@@ -1,3 +1,4 @@
+pub mod Laws
 pub mod Marking
 pub mod Meaning
 pub mod Reading

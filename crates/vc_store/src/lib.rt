@@ -3,6 +3,7 @@
 
 pub mod faults;
 pub mod giving;
+pub mod laws;
 pub mod marks;
 pub mod naming;
 pub mod reading;

@@ -1,5 +1,5 @@
 -- Worked rows of the saved form, by computing. Beside what is so stands what would be so by a likely slip, and isn't.
-use Rattle.std.proofs.Common.{◌≡◌, ℕ, List, [], ◌∷◌, refl, None, Some}
+use Rattle.std.proofs.Common.{◌≡◌, ℕ, List, [], ◌∷◌, ◌++◌, refl, None, Some}
 use Rattle.std.specs.Prelude.{codes, option_and_then}
 use Rattle.std.specs.Fmt.{digits}
 use Rattle.serde_json.specs.Data.{Data, Items, Members, array, item, member, negative, no_items, no_members, null}
@@ -18,7 +18,8 @@ pump = record { model = codes "PUMP"; version = 1; choices = size_l ∷ [] }
 
 -- the text of one value, with the keys in byte order
 text : form_text pump
-    ≡ codes "{\"form\":1,\"model\":\"PUMP\",\"values\":[{\"characteristic\":\"SIZE\",\"instance\":0,\"value\":\"L\"}],\"version\":1}"
+    ≡ codes "{\"form\":1,\"model\":\"PUMP\",\"values\":[{\"characteristic\":\"SIZE\","
+    ++ codes "\"instance\":0,\"value\":\"L\"}],\"version\":1}"
 unfolding digits serde_json_on_literals
 text = refl
 
@@ -57,7 +58,8 @@ more_keys = refl
 text_version : saved_in (form (string (codes "1")) no_items no_members) ≡ None
 text_version = refl
 
-other_form : saved_in (object (member (codes "form") (number (unsigned 2)) (member (codes "model") (string (codes "PUMP"))
+other_form : saved_in
+    (object (member (codes "form") (number (unsigned 2)) (member (codes "model") (string (codes "PUMP"))
     (member (codes "values") (array no_items) (member (codes "version") (number (unsigned 1)) no_members))))) ≡ None
 other_form = refl
 

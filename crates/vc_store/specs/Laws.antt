@@ -1,0 +1,14 @@
+-- A saved text gives back what was saved.
+use Rattle.std.specs.Prelude.{◌≡◌, Ok}
+use Rattle.vc_plan.specs.declared.plans.Plan.{Plan}
+use Rattle.vc_plan.specs.Valid.{IsValid}
+use Rattle.vc_plan_users.specs.Choosing.{Chosen}
+use Rattle.vc_session.specs.Sessions.{AreUsersOf}
+use Rattle.vc_store.specs.Reading.{read_saved}
+use Rattle.vc_store.specs.Saving.{saved_text}
+
+-- what a session's user chose is read from the text that it is saved as, by the model of which it was saved
+abbrev pub SavedIsRead : Type 0
+SavedIsRead =
+    (plan : Plan) (chosen : Chosen) → IsValid plan → AreUsersOf plan chosen
+    → read_saved plan (saved_text plan chosen) ≡ Ok chosen
