@@ -33,8 +33,11 @@ choices_back (choice ∷ choices) h =
 saved_back : (saved : Saved) → saved.version < 2 ^ 64 → AreSmall saved.choices
     → of_json (outline (saved_data saved)) ≡ Some (saved_data saved)
 saved_back saved small choices =
-    rw (number_of-decimal 1 (omega arith), number_of-decimal saved.version small,
-    choices_back saved.choices choices) refl
+    rw (
+      number_of-decimal 1 (omega arith),
+      number_of-decimal saved.version small,
+      choices_back saved.choices choices,
+    ) refl
 
 numbers : (choices : List Choice) → AreSmall choices
     → tree.ItemsHaveNumbers (items_outline (items_of (map choice_data choices)))
@@ -57,9 +60,13 @@ data_back saved small choices =
     let form = outline (saved_data saved) in
     let printed : tokens (compact_text (saved_data saved)) ≡ tree.json_tokens form =
     ap tokens (sym (print-outline (saved_data saved)))
-    ∙ tokens-print (tree.json_tokens form) (ArePrintable-json_tokens form
-    (IsNumber-decimal 1 (omega arith), (tt,
-    (numbers saved.choices choices, (IsNumber-decimal saved.version small, tt))))) in
+    ∙ tokens-print (tree.json_tokens form) (ArePrintable-json_tokens form (
+      IsNumber-decimal 1 (omega arith),
+      (
+        tt,
+        (numbers saved.choices choices, (IsNumber-decimal saved.version small, tt)),
+      ),
+    )) in
     let deep : tree.depth form ≤ max_depth = omega (arith, shallow saved.choices) in
     ap whole (ap (json.value max_depth) (printed ∙ sym (append-nil (tree.json_tokens form)))
     ∙ value-json_tokens form max_depth [] deep)
