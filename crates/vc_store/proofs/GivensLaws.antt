@@ -233,7 +233,7 @@ all_append p (x ∷ xs) ys a b =
     let parts = and_parts (p x) (list_all p xs) a in
     and_from (p x) (list_all p (xs ++ ys)) parts.0 (all_append p xs ys parts.1 b)
 
-all_flat : {X Y : Type 0} (p : Y → Bool) (g : X → List Y) → ((x : X) → list_all p (g x) ≡ true) → (xs : List X)
+pub all_flat : {X Y : Type 0} (p : Y → Bool) (g : X → List Y) → ((x : X) → list_all p (g x) ≡ true) → (xs : List X)
     → list_all p (flat_map g xs) ≡ true
 all_flat p g each [] = refl
 all_flat p g each (x ∷ xs) = all_append p (g x) (flat_map g xs) (each x) (all_flat p g each xs)

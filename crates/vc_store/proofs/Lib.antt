@@ -1,5 +1,6 @@
 pub mod ApartLaws
 pub mod ChosenLaws
+pub mod FittingLaws
 pub mod FoundLaws
 pub mod GivensLaws
 pub mod GivingLaws

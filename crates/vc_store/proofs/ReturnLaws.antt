@@ -84,7 +84,7 @@ range_has k a (suc n) low high = by (a == k) refl (range_has k (a + 1) n)
         above ne = omega (arith, low, ne)
 
 -- the elements of a list, one by one
-numbered : {X : Type 0} (d : X) (f : ℕ → X) (xs : List X) (a : ℕ)
+pub numbered : {X : Type 0} (d : X) (f : ℕ → X) (xs : List X) (a : ℕ)
     → ((k : ℕ) → k < length xs → f (a + k) ≡ slice_index_or xs k d) → map f (range_with_len a (length xs)) ≡ xs
 numbered d f [] a same = refl
 numbered d f (x ∷ xs) a same =

@@ -20,13 +20,13 @@ use Rattle.vc_store.proofs.GivensLaws.{AllMay}
 use Rattle.vc_store.proofs.MarkLaws.{none_for}
 
 -- a list of a list of lists, where each is told by a function
-index_map : {X Y : Type 0} (f : List X → List Y) → f [] ≡ [] → (xss : List (List X)) (s : ℕ)
+pub index_map : {X Y : Type 0} (f : List X → List Y) → f [] ≡ [] → (xss : List (List X)) (s : ℕ)
     → slice_index_or (map f xss) s [] ≡ f (slice_index_or xss s [])
 index_map f none [] s = sym none
 index_map f none (xs ∷ xss) zero = refl
 index_map f none (xs ∷ xss) (suc s) = index_map f none xss s
 
-map_length : {X Y : Type 0} (f : X → Y) (xs : List X) → length (map f xs) ≡ length xs
+pub map_length : {X Y : Type 0} (f : X → Y) (xs : List X) → length (map f xs) ≡ length xs
 map_length f [] = refl
 map_length f (x ∷ xs) = ap suc (map_length f xs)
 

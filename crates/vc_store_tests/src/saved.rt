@@ -8,7 +8,7 @@ use std::test::Fail;
 use vc_plan::Plan;
 use vc_plan_lamp::lamp;
 use vc_plan_users::UserValues;
-use vc_store::laws::saved_is_read;
+use vc_store::laws::{read_may_be_chosen, saved_is_read};
 use vc_store::{SavedFault, read_saved, save_text};
 use vc_value::Value;
 
@@ -39,6 +39,7 @@ fn fault(alloc: Global, plan: &Plan, text: &str) -> Option<SavedFault>
 #[test]
 fn reads_what_is_saved(rt: HostRuntime) -> Result<(), Fail> {
     saved_is_read();
+    read_may_be_chosen();
     let plan = lamp(rt.alloc())?;
     let read = is_saved_and_read(rt.alloc(), &plan);
     drop(plan);
