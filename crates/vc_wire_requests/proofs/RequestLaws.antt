@@ -6,12 +6,16 @@ use Rattle.vc_value.specs.Decimals.{number_of}
 use Rattle.vc_value.specs.Names.{is_name, is_session_name}
 use Rattle.vc_wire_requests.specs.Laws.{WrittenIsRead}
 use Rattle.vc_wire_requests.specs.Requests.{◌>>=◌, Named, cut_at_space, index_of, instance_in, instance_text, is_index}
-use Rattle.vc_wire_requests.specs.Requests.{characteristic_request, line_text, name_of, of_characteristic, of_session}
-use Rattle.vc_wire_requests.specs.Requests.{of_value, request_by, request_of, session_of, spaced, value_request}
-use Rattle.vc_wire_requests.specs.Verbs.{characteristic_text, session_text, value_text, verb_of}
+use Rattle.vc_wire_requests.specs.Requests.{characteristic_request, line_text, name_of, of_characteristic, of_saved}
+use Rattle.vc_wire_requests.specs.Requests.{of_session, of_value, request_by, request_of, saved_request, session_of}
+use Rattle.vc_wire_requests.specs.Requests.{spaced, value_request}
+use Rattle.vc_wire_requests.specs.Verbs.{characteristic_text, saved_text, session_text, text_of, value_text, verb_of}
 use Rattle.vc_wire_requests.specs.declared.request.Request.{Request}
+use Rattle.vc_wire_requests.specs.declared.request.Request.TheVariants as requests
 use Rattle.vc_wire_requests.specs.declared.verbs.OfCharacteristic.{OfCharacteristic}
 use Rattle.vc_wire_requests.specs.declared.verbs.OfCharacteristic.TheVariants as named
+use Rattle.vc_wire_requests.specs.declared.verbs.OfSaved.{OfSaved}
+use Rattle.vc_wire_requests.specs.declared.verbs.OfSaved.TheVariants as kept
 use Rattle.vc_wire_requests.specs.declared.verbs.OfSession.{OfSession}
 use Rattle.vc_wire_requests.specs.declared.verbs.OfSession.TheVariants as asked
 use Rattle.vc_wire_requests.specs.declared.verbs.OfValue.{OfValue}
@@ -152,6 +156,32 @@ value_again which session index name value s i n = by which
     by done.WhyNot = led_by (value_text done.WhyNot) more (verbs.Value done.WhyNot) refl refl
         ∙ value_on done.WhyNot session index name value s i n
 
+-- a session and what is saved under a name, read again
+saved_on : (which : OfSaved) (session name : List ℕ) → is_session_name session ≡ true → is_session_name name ≡ true
+    → saved_request which (spaced session name) ≡ Some (of_saved which session name)
+saved_on which session name s n =
+    ap (λ cut. cut >>= (λ words. session_of words.0 >>= (λ first. session_of words.1
+    >>= (λ second. Some (of_saved which first second))))) (spaced_is_cut session name (session_unspaced session s))
+    ∙ ap (λ b. (if b then Some session else None) >>= (λ first. session_of name
+    >>= (λ second. Some (of_saved which first second)))) s
+    ∙ ap (λ b. (if b then Some name else None) >>= (λ second. Some (of_saved which session second))) n
+
+saved_again : (which : OfSaved) (session name : List ℕ) → is_session_name session ≡ true → is_session_name name ≡ true
+    → let request = of_saved which session name in request_of (line_text request) ≡ Some request
+saved_again which session name s n = by which
+  where
+    by : (of : OfSaved) → let request = of_saved of session name in request_of (line_text request) ≡ Some request
+    by kept.Save = led_by (saved_text kept.Save) (spaced session name) (verbs.Saved kept.Save) refl refl
+        ∙ saved_on kept.Save session name s n
+    by kept.Load = led_by (saved_text kept.Load) (spaced session name) (verbs.Saved kept.Load) refl refl
+        ∙ saved_on kept.Load session name s n
+
+forget_again : (name : List ℕ) → is_session_name name ≡ true
+    → let request = requests.Forget name in request_of (line_text request) ≡ Some request
+forget_again name h =
+    led_by (text_of verbs.Forget) name verbs.Forget refl refl
+    ∙ ap (λ b. (if b then Some name else None) >>= (λ word. Some (requests.Forget word))) h
+
 -- the words of an instance that is read
 record IsRead (instance : Named) : Type 0 where
   index : List ℕ
@@ -207,6 +237,20 @@ by_verb (verbs.Characteristic which) more request e =
     subst (λ r. request_of (line_text r) ≡ Some r) is
     (characteristic_again which instance.a.session words.index instance.a.rest words.session_is words.index_is_one
     name.yes)
+by_verb (verbs.Saved which) more request e =
+    let words = led (cut_at_space more) _ request e in
+    let session = led (session_of words.a.0) _ request words.on in
+    let first = passed (is_session_name words.a.0) words.a.0 session.a session.there in
+    let name = led (session_of words.a.1) _ request session.on in
+    let second = passed (is_session_name words.a.1) words.a.1 name.a name.there in
+    let is : of_saved which words.a.0 words.a.1 ≡ request =
+    ap (λ n. of_saved which n words.a.1) first.same ∙ ap (λ n. of_saved which session.a n) second.same ∙ cc name.on in
+    subst (λ r. request_of (line_text r) ≡ Some r) is (saved_again which words.a.0 words.a.1 first.yes second.yes)
+by_verb verbs.Forget more request e =
+    let name = led (session_of more) (λ word. Some (requests.Forget word)) request e in
+    let word = passed (is_session_name more) more name.a name.there in
+    let is : requests.Forget more ≡ request = ap requests.Forget word.same ∙ cc name.on in
+    subst (λ r. request_of (line_text r) ≡ Some r) is (forget_again more word.yes)
 
 pub written_is_read : WrittenIsRead
 written_is_read line request e =

@@ -1,8 +1,9 @@
 -- Lines and the requests that they spell, and lines that spell none.
-use Rattle.std.proofs.Common.{◌≡◌, [], refl}
-use Rattle.std.specs.Prelude.{None, Some, codes}
+use Rattle.std.proofs.Common.{◌≡◌, ℕ, [], ap, arith, refl}
+use Rattle.std.specs.Prelude.{◌≢◌, Option, None, Some, codes, slice_index_or}
 use Rattle.std.specs.Fmt.{digits}
-use Rattle.vc_wire_requests.specs.Requests.{line_text, request_of}
+use Rattle.vc_wire_requests.specs.Requests.{fields_text, line_text, request_of}
+use Rattle.vc_wire_requests.specs.declared.request.Request.{Request}
 use Rattle.vc_wire_requests.specs.declared.request.Request.TheVariants as requests
 
 opens : request_of (codes "open desk-1") ≡ Some (requests.Start (codes "desk-1"))
@@ -59,15 +60,58 @@ why_not_without = refl
 conflict_at : request_of (codes "conflict a 0 C") ≡ None
 conflict_at = refl
 
--- nothing is kept outside a session
-saves : request_of (codes "save a b") ≡ None
+-- a byte of what follows the verb
+abbrev byte_asked : ℕ → Option Request → ℕ
+byte_asked place None = 0
+byte_asked place (Some request) = slice_index_or (fields_text request) place 0
+
+-- the session comes first, and the name under which its values are saved keeps its case
+saves : request_of (codes "SAVE Desk My-1_x") ≡ Some (requests.Save (codes "Desk") (codes "My-1_x"))
 saves = refl
 
-loads : request_of (codes "load a b") ≡ None
+loads : request_of (codes "Load a b") ≡ Some (requests.Load (codes "a") (codes "b"))
 loads = refl
 
-forgets : request_of (codes "forget a") ≡ None
+saved_first : request_of (codes "load a b") ≢ Some (requests.Load (codes "b") (codes "a"))
+saved_first e = let first : 97 ≡ 98 = ap (byte_asked 0) e in absurd (omega (arith, first))
+
+name_in_upper_case : request_of (codes "save a b") ≢ Some (requests.Save (codes "a") (codes "B"))
+name_in_upper_case e = let name : 98 ≡ 66 = ap (byte_asked 2) e in absurd (omega (arith, name))
+
+loads_for_saves : request_of (codes "save a b") ≢ Some (requests.Load (codes "a") (codes "b"))
+loads_for_saves e = absurd (cc e)
+
+-- what is forgotten is of no session
+forgets : request_of (codes "forget B") ≡ Some (requests.Forget (codes "B"))
 forgets = refl
+
+forgets_of_a_session : request_of (codes "forget a b") ≡ None
+forgets_of_a_session = refl
+
+-- one name each, spelled as a session's name is, and nothing behind it
+saves_without : request_of (codes "save a") ≡ None
+saves_without = refl
+
+saves_no_name : request_of (codes "save a ") ≡ None
+saves_no_name = refl
+
+saves_more : request_of (codes "save a b c") ≡ None
+saves_more = refl
+
+loads_behind : request_of (codes "load a b ") ≡ None
+loads_behind = refl
+
+saves_of_no_session : request_of (codes "save a.b c") ≡ None
+saves_of_no_session = refl
+
+loads_no_name : request_of (codes "load a b.c") ≡ None
+loads_no_name = refl
+
+forgets_no_name : request_of (codes "forget b/c") ≡ None
+forgets_no_name = refl
+
+forgets_nothing : request_of (codes "forget ") ≡ None
+forgets_nothing = refl
 
 -- words are separated by one space each, and none is left out
 two_spaces : request_of (codes "open  a") ≡ None
@@ -136,3 +180,12 @@ written_conflict = refl
 
 written_log : line_text (requests.Log (codes "a")) ≡ codes "log a"
 written_log = refl
+
+written_save : line_text (requests.Save (codes "a") (codes "Mine")) ≡ codes "save a Mine"
+written_save = refl
+
+written_load : line_text (requests.Load (codes "a") (codes "Mine")) ≡ codes "load a Mine"
+written_load = refl
+
+written_forget : line_text (requests.Forget (codes "Mine")) ≡ codes "forget Mine"
+written_forget = refl

@@ -11,6 +11,8 @@ use Rattle.vc_wire_requests.specs.declared.request.Request.{Request}
 use Rattle.vc_wire_requests.specs.declared.request.Request.TheVariants as requests
 use Rattle.vc_wire_requests.specs.declared.verbs.OfCharacteristic.{OfCharacteristic}
 use Rattle.vc_wire_requests.specs.declared.verbs.OfCharacteristic.TheVariants as named
+use Rattle.vc_wire_requests.specs.declared.verbs.OfSaved.{OfSaved}
+use Rattle.vc_wire_requests.specs.declared.verbs.OfSaved.TheVariants as kept
 use Rattle.vc_wire_requests.specs.declared.verbs.OfSession.{OfSession}
 use Rattle.vc_wire_requests.specs.declared.verbs.OfSession.TheVariants as asked
 use Rattle.vc_wire_requests.specs.declared.verbs.OfValue.{OfValue}
@@ -28,7 +30,7 @@ None >>= f = None
 abbrev pub cut_at_space : List ℕ → Option (List ℕ × List ℕ)
 cut_at_space line = option_map (λ at. (take at line, drop (at + 1) line)) (position (λ byte. byte == 32) line)
 
--- the name of a session, if the word is one
+-- the name of a session, or of what is saved, if the word is one; it keeps its case
 abbrev pub session_of : List ℕ → Option (List ℕ)
 session_of word = if is_session_name word then Some word else None
 
@@ -62,7 +64,7 @@ instance_in more = do
   number ← index_of second.0
   Some (record { session = session; number = number; rest = second.1 })
 
--- what is asked of a session, of a characteristic, and of a value
+-- what is asked of a session, of a characteristic, of a value, and of a session and what is saved
 abbrev pub of_session : OfSession → List ℕ → Request
 of_session asked.Start session = requests.Start session
 of_session asked.Close session = requests.Close session
@@ -82,8 +84,12 @@ of_value done.Add session instance name value = requests.Add session instance na
 of_value done.Drop session instance name value = requests.Drop session instance name value
 of_value done.WhyNot session instance name value = requests.WhyNot session instance name value
 
--- what follows the verb: `s`, a session alone; `s i C`, a characteristic of an instance; or `s i C value`, and the rest
--- of the line as a value, which may be empty
+abbrev pub of_saved : OfSaved → List ℕ → List ℕ → Request
+of_saved kept.Save session name = requests.Save session name
+of_saved kept.Load session name = requests.Load session name
+
+-- what follows the verb: `s`, a session alone; `s i C`, a characteristic of an instance; `s i C value`, and the rest of
+-- the line as a value, which may be empty; `s name`, a session and what is saved under a name; or `name`, that alone
 abbrev pub session_request : OfSession → List ℕ → Option Request
 session_request which more = do
   session ← session_of more
@@ -102,10 +108,24 @@ value_request which more = do
   name ← name_of last.0
   Some (of_value which instance.session instance.number name last.1)
 
+abbrev pub saved_request : OfSaved → List ℕ → Option Request
+saved_request which more = do
+  words ← cut_at_space more
+  session ← session_of words.0
+  name ← session_of words.1
+  Some (of_saved which session name)
+
+abbrev pub forget_request : List ℕ → Option Request
+forget_request more = do
+  name ← session_of more
+  Some (requests.Forget name)
+
 abbrev pub request_by : Verb → List ℕ → Option Request
 request_by (verbs.Session which) more = session_request which more
 request_by (verbs.Characteristic which) more = characteristic_request which more
 request_by (verbs.Value which) more = value_request which more
+request_by (verbs.Saved which) more = saved_request which more
+request_by verbs.Forget more = forget_request more
 
 -- the request that a line spells, if it spells one
 abbrev pub request_of : List ℕ → Option Request
@@ -138,6 +158,9 @@ verb_in (requests.Conflict session) = verbs.Session asked.Conflict
 verb_in (requests.Log session) = verbs.Session asked.Log
 verb_in (requests.Bill session) = verbs.Session asked.Bill
 verb_in (requests.Routing session) = verbs.Session asked.Routing
+verb_in (requests.Save session name) = verbs.Saved kept.Save
+verb_in (requests.Load session name) = verbs.Saved kept.Load
+verb_in (requests.Forget name) = verbs.Forget
 
 abbrev pub fields_text : Request → List ℕ
 fields_text (requests.Start session) = session
@@ -153,6 +176,9 @@ fields_text (requests.Conflict session) = session
 fields_text (requests.Log session) = session
 fields_text (requests.Bill session) = session
 fields_text (requests.Routing session) = session
+fields_text (requests.Save session name) = spaced session name
+fields_text (requests.Load session name) = spaced session name
+fields_text (requests.Forget name) = name
 
 abbrev pub line_text : Request → List ℕ
 line_text request = spaced (text_of (verb_in request)) (fields_text request)

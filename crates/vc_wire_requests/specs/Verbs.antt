@@ -1,10 +1,11 @@
 -- The words by which requests begin.
-use Rattle.std.specs.Prelude.{ℕ, Bool, List, [], ◌∷◌, codes, Option, None, Some}
+use Rattle.std.specs.Prelude.{ℕ, Bool, List, [], ◌∷◌, codes, Option, None, Some, if◌then◌else◌}
 use Rattle.std.specs.List.{find}
-use Rattle.std.specs.Option.{option_map}
 use Rattle.vc_value.specs.Words.{same_ignoring_case}
 use Rattle.vc_wire_requests.specs.declared.verbs.OfCharacteristic.{OfCharacteristic}
 use Rattle.vc_wire_requests.specs.declared.verbs.OfCharacteristic.TheVariants as named
+use Rattle.vc_wire_requests.specs.declared.verbs.OfSaved.{OfSaved}
+use Rattle.vc_wire_requests.specs.declared.verbs.OfSaved.TheVariants as kept
 use Rattle.vc_wire_requests.specs.declared.verbs.OfSession.{OfSession}
 use Rattle.vc_wire_requests.specs.declared.verbs.OfSession.TheVariants as asked
 use Rattle.vc_wire_requests.specs.declared.verbs.OfValue.{OfValue}
@@ -32,10 +33,16 @@ value_text done.Add = codes "add"
 value_text done.Drop = codes "drop"
 value_text done.WhyNot = codes "whynot"
 
+abbrev pub saved_text : OfSaved → List ℕ
+saved_text kept.Save = codes "save"
+saved_text kept.Load = codes "load"
+
 abbrev pub text_of : Verb → List ℕ
 text_of (verbs.Session which) = session_text which
 text_of (verbs.Characteristic which) = characteristic_text which
 text_of (verbs.Value which) = value_text which
+text_of (verbs.Saved which) = saved_text which
+text_of verbs.Forget = codes "forget"
 
 -- a word is one of them in either case
 abbrev pub is_verb : List ℕ → Verb → Bool
@@ -53,12 +60,26 @@ abbrev pub value_verb : List ℕ → Option OfValue
 value_verb word =
     find (λ which. is_verb word (verbs.Value which)) (done.Set ∷ done.Add ∷ done.Drop ∷ done.WhyNot ∷ [])
 
+abbrev pub saved_verb : List ℕ → Option OfSaved
+saved_verb word = find (λ which. is_verb word (verbs.Saved which)) (kept.Save ∷ kept.Load ∷ [])
+
 -- the verb that a word is; no two are alike
-abbrev pub value_verb_of : Option OfValue → Option Verb
-value_verb_of which = option_map verbs.Value which
+abbrev pub forget_verb : List ℕ → Option Verb
+forget_verb word = if is_verb word verbs.Forget then Some verbs.Forget else None
+
+abbrev pub saved_verb_or : List ℕ → Option OfSaved → Option Verb
+saved_verb_or word None = forget_verb word
+saved_verb_or word (Some which) = Some (verbs.Saved which)
+
+abbrev pub keeping_verb : List ℕ → Option Verb
+keeping_verb word = saved_verb_or word (saved_verb word)
+
+abbrev pub value_verb_or : List ℕ → Option OfValue → Option Verb
+value_verb_or word None = keeping_verb word
+value_verb_or word (Some which) = Some (verbs.Value which)
 
 abbrev pub characteristic_verb_or : List ℕ → Option OfCharacteristic → Option Verb
-characteristic_verb_or word None = value_verb_of (value_verb word)
+characteristic_verb_or word None = value_verb_or word (value_verb word)
 characteristic_verb_or word (Some which) = Some (verbs.Characteristic which)
 
 abbrev pub session_verb_or : List ℕ → Option OfSession → Option Verb

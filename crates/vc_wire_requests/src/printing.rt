@@ -5,7 +5,7 @@ ghost use Rattle.vc_wire_requests.specs.Requests as asked;
 ghost use Rattle.vc_wire_requests.specs.Verbs.{text_of};
 
 use crate::request::Request;
-use crate::verbs::{OfCharacteristic, OfSession, OfValue, Verb};
+use crate::verbs::{OfCharacteristic, OfSaved, OfSession, OfValue, Verb};
 use std::alloc::{AllocError, Global};
 use vc_value::Word;
 
@@ -36,6 +36,9 @@ fn verb_in(request: &Request) -> Verb
         Request::Log { .. } => Verb::Session(OfSession::Log),
         Request::Bill { .. } => Verb::Session(OfSession::Bill),
         Request::Routing { .. } => Verb::Session(OfSession::Routing),
+        Request::Save { .. } => Verb::Saved(OfSaved::Save),
+        Request::Load { .. } => Verb::Saved(OfSaved::Load),
+        Request::Forget { .. } => Verb::Forget,
     }
 }
 
@@ -95,6 +98,10 @@ fn put_fields(alloc: Global, text: &mut Word, request: &Request) -> Result<(), A
             characteristic,
             value,
         } => put_value(alloc, text, session, *instance, characteristic, value),
+        Request::Save { session, name } | Request::Load { session, name } => put_saved(
+            text, session, name,
+        ),
+        Request::Forget { name } => text.append(name.bytes()),
     }
 }
 
@@ -141,4 +148,12 @@ fn put_value(
     put_characteristic(alloc, text, session, instance, characteristic)?;
     text.append_text(" ")?;
     text.append(value.bytes())
+}
+
+fn put_saved(text: &mut Word, session: &Word, name: &Word) -> Result<(), AllocError>
+    ensures { OnOk result (text.new ≡ text.old ++ asked.spaced session.now name.now) }
+{
+    text.append(session.bytes())?;
+    text.append_text(" ")?;
+    text.append(name.bytes())
 }

@@ -5,7 +5,7 @@ ghost use Rattle.vc_wire_requests.specs.Requests as asked;
 
 use crate::cutting::{cut_at_space, instance_in};
 use crate::request::Request;
-use crate::verbs::{OfCharacteristic, OfSession, OfValue, Verb, verb_of};
+use crate::verbs::{OfCharacteristic, OfSaved, OfSession, OfValue, Verb, verb_of};
 use std::alloc::{AllocError, Global};
 use vc_value::{Word, is_name, is_session_name};
 
@@ -82,6 +82,15 @@ fn of_value(
     }
 }
 
+fn of_saved(which: OfSaved, session: Word, name: Word) -> Request
+    ensures { result ≡ asked.of_saved which session name }
+{
+    match which {
+        OfSaved::Save => Request::Save { session, name },
+        OfSaved::Load => Request::Load { session, name },
+    }
+}
+
 // `s`
 fn session_request(
     alloc: Global,
@@ -135,6 +144,32 @@ fn value_request(alloc: Global, which: OfValue, more: &[u8]) -> Result<Option<Re
     Ok(Some(of_value(which, session, instance.number, characteristic, value)))
 }
 
+// `s name`
+fn saved_request(alloc: Global, which: OfSaved, more: &[u8]) -> Result<Option<Request>, AllocError>
+    ensures { IfOk result (λ found. found ≡ asked.saved_request which more.now) }
+{
+    let Some((session, name)) = cut_at_space(more) else {
+        return Ok(None);
+    };
+    if !is_session_name(session) || !is_session_name(name) {
+        return Ok(None);
+    }
+    let session = Word::from_bytes(alloc, session)?;
+    let name = Word::from_bytes(alloc, name)?;
+    Ok(Some(of_saved(which, session, name)))
+}
+
+// `name`
+fn forget_request(alloc: Global, more: &[u8]) -> Result<Option<Request>, AllocError>
+    ensures { IfOk result (λ found. found ≡ asked.forget_request more.now) }
+{
+    if !is_session_name(more) {
+        return Ok(None);
+    }
+    let name = Word::from_bytes(alloc, more)?;
+    Ok(Some(Request::Forget { name }))
+}
+
 fn request_by(alloc: Global, verb: Verb, more: &[u8]) -> Result<Option<Request>, AllocError>
     ensures { IfOk result (λ found. found ≡ asked.request_by verb more.now) }
 {
@@ -142,6 +177,8 @@ fn request_by(alloc: Global, verb: Verb, more: &[u8]) -> Result<Option<Request>,
         Verb::Session(which) => session_request(alloc, which, more),
         Verb::Characteristic(which) => characteristic_request(alloc, which, more),
         Verb::Value(which) => value_request(alloc, which, more),
+        Verb::Saved(which) => saved_request(alloc, which, more),
+        Verb::Forget => forget_request(alloc, more),
     }
 }
 

@@ -2,8 +2,8 @@
 
 use vc_value::Word;
 
-/// A request to the desk. An instance is the number of its slot, below 10^9; characteristics are in upper case; a value
-/// is any bytes, as they were written.
+/// A request to the desk. An instance is the number of its slot, below 10^9; characteristics are in upper case; names of
+/// sessions and of what is saved keep their case; a value is any bytes, as they were written.
 #[derive(Debug, Drop)]
 pub enum Request {
     /// Opens a session of this name.
@@ -73,5 +73,19 @@ pub enum Request {
     /// Shows the operations.
     Routing {
         session: Word,
+    },
+    /// Saves the user's values of the session under this name.
+    Save {
+        session: Word,
+        name: Word,
+    },
+    /// Gives the session the user's values that are saved under this name.
+    Load {
+        session: Word,
+        name: Word,
+    },
+    /// Forgets what is saved under this name.
+    Forget {
+        name: Word,
     },
 }

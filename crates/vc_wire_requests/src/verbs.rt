@@ -33,12 +33,21 @@ pub enum OfValue {
     WhyNot,
 }
 
+/// What is done with a session and what is saved under a name.
+#[derive(Clone, Copy, Debug, PartialEq, Eq)]
+pub enum OfSaved {
+    Save,
+    Load,
+}
+
 /// What a request wants, by what follows its word.
 #[derive(Clone, Copy, Debug, PartialEq, Eq)]
 pub enum Verb {
     Session(OfSession),
     Characteristic(OfCharacteristic),
     Value(OfValue),
+    Saved(OfSaved),
+    Forget,
 }
 
 impl OfSession {
@@ -84,6 +93,18 @@ impl OfValue {
     }
 }
 
+impl OfSaved {
+    /// The word, in lower case.
+    pub fn text(self) -> &'static str
+        ensures { result.now ≡ verbs.saved_text self }
+    {
+        match self {
+            OfSaved::Save => "save",
+            OfSaved::Load => "load",
+        }
+    }
+}
+
 impl Verb {
     /// The word, in lower case.
     pub fn text(self) -> &'static str
@@ -93,6 +114,8 @@ impl Verb {
             Verb::Session(asked) => asked.text(),
             Verb::Characteristic(named) => named.text(),
             Verb::Value(done) => done.text(),
+            Verb::Saved(kept) => kept.text(),
+            Verb::Forget => "forget",
         }
     }
 }
@@ -154,6 +177,31 @@ fn value_verb(word: &[u8]) -> Option<OfValue>
     }
 }
 
+fn saved_verb(word: &[u8]) -> Option<OfSaved>
+    ensures { result ≡ verbs.saved_verb word.now }
+{
+    if is_verb(word, Verb::Saved(OfSaved::Save)) {
+        Some(OfSaved::Save)
+    } else if is_verb(word, Verb::Saved(OfSaved::Load)) {
+        Some(OfSaved::Load)
+    } else {
+        None
+    }
+}
+
+// The verb of what is saved, in either case.
+fn keeping_verb(word: &[u8]) -> Option<Verb>
+    ensures { result ≡ verbs.keeping_verb word.now }
+{
+    if let Some(kept) = saved_verb(word) {
+        return Some(Verb::Saved(kept));
+    }
+    if is_verb(word, Verb::Forget) {
+        return Some(Verb::Forget);
+    }
+    None
+}
+
 /// The verb that the word is, in either case.
 pub fn verb_of(word: &[u8]) -> Option<Verb>
     ensures { result ≡ verbs.verb_of word.now }
@@ -164,6 +212,8 @@ pub fn verb_of(word: &[u8]) -> Option<Verb>
     if let Some(named) = characteristic_verb(word) {
         return Some(Verb::Characteristic(named));
     }
-    let done = value_verb(word)?;
-    Some(Verb::Value(done))
+    if let Some(done) = value_verb(word) {
+        return Some(Verb::Value(done));
+    }
+    keeping_verb(word)
 }
