@@ -1,6 +1,6 @@
 -- Worked replies, by computing, and the likeliest slips beside them.
-use Rattle.std.proofs.Common.{◌≡◌, [], ◌∷◌, refl, Some}
-use Rattle.std.specs.Prelude.{Box, codes}
+use Rattle.std.proofs.Common.{◌≡◌, [], ◌∷◌, ap, arith, length, refl, Some}
+use Rattle.std.specs.Prelude.{◌≢◌, Box, codes, slice_index_or}
 use Rattle.std.specs.Fmt.{digits}
 use Rattle.std.specs.declared.alloc.Global.{Global}
 use Rattle.vc_plan.specs.declared.atoms.Culprit.TheVariants as culprits
@@ -9,9 +9,10 @@ use Rattle.vc_plan.specs.declared.rules.Rule.{Rule}
 use Rattle.vc_plan.specs.declared.shown.Status.TheVariants.{Unfinished, Complete, Contradiction}
 use Rattle.vc_plan.proofs.PlanRows.WholeModels.{whole_machine, whole_paint, whole_pump}
 use Rattle.vc_wire_replies.specs.Culprits.{culprit_text, status_text}
-use Rattle.vc_wire_replies.specs.Replies.{reply_text}
+use Rattle.vc_wire_replies.specs.Replies.{refusal_text, reply_text}
 use Rattle.vc_wire_replies.specs.declared.reply.Refusal.TheVariants as refusals
 use Rattle.vc_wire_replies.specs.declared.reply.Reply.TheVariants as replies
+use Rattle.vc_wire_replies.specs.declared.reply.SavedRefusal.TheVariants as saved
 
 -- PUMP with its size S and its motor E3
 contradicted : (p : Box (Unit {0}) Global)
@@ -55,6 +56,36 @@ an_empty_bill = refl
 
 refused : reply_text whole_paint (replies.Refused refusals.NotHere) ≡ codes "refused 6 NotHere\n"
 refused = refl
+
+nothing_saved : reply_text whole_paint (replies.Refused refusals.NothingSaved) ≡ codes "refused 8 NothingSaved\n"
+nothing_saved = refl
+
+-- what is saved is refused with a number of its own behind the name
+no_json : reply_text whole_paint (replies.Refused (refusals.SavedRefused saved.NotJson))
+    ≡ codes "refused 9 SavedRefused 1\n"
+no_json = refl
+
+of_another_model : reply_text whole_paint (replies.Refused (refusals.SavedRefused saved.OtherModel))
+    ≡ codes "refused 9 SavedRefused 3\n"
+of_another_model = refl
+
+counted_from_0 : refusal_text (refusals.SavedRefused saved.NotJson) ≢ codes "9 SavedRefused 0"
+counted_from_0 e = let own : 49 ≡ 48 = ap (λ text. slice_index_or text 15 0) e in absurd (omega (arith, own))
+
+without_its_number : refusal_text (refusals.SavedRefused saved.Shape) ≢ codes "9 SavedRefused"
+without_its_number e = let own : 16 ≡ 14 = ap length e in absurd (omega (arith, own))
+
+keeper_fault : reply_text whole_paint (replies.Refused refusals.KeeperFault) ≡ codes "refused 10 KeeperFault\n"
+keeper_fault = refl
+
+saved_values : reply_text whole_paint replies.Saved ≡ codes "ok saved\n"
+saved_values = refl
+
+forgotten : reply_text whole_paint replies.Forgotten ≡ codes "ok forgotten\n"
+forgotten = refl
+
+closed_for_saved : reply_text whole_paint replies.Saved ≢ codes "ok closed\n"
+closed_for_saved e = let first : 115 ≡ 99 = ap (λ text. slice_index_or text 3 0) e in absurd (omega (arith, first))
 
 no_request : reply_text whole_paint replies.NotARequest ≡ codes "refused 0 NotARequest\n"
 no_request = refl

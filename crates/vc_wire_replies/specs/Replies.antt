@@ -8,8 +8,16 @@ use Rattle.vc_wire_replies.specs.declared.reply.Refusal.{Refusal}
 use Rattle.vc_wire_replies.specs.declared.reply.Refusal.TheVariants as refusals
 use Rattle.vc_wire_replies.specs.declared.reply.Reply.{Reply}
 use Rattle.vc_wire_replies.specs.declared.reply.Reply.TheVariants as replies
+use Rattle.vc_wire_replies.specs.declared.reply.SavedRefusal.{SavedRefusal}
+use Rattle.vc_wire_replies.specs.declared.reply.SavedRefusal.TheVariants as saved
 
--- the number and the name of a refusal
+-- the number and the name of a refusal; of what is saved its own number follows
+abbrev pub saved_refusal_text : SavedRefusal → List ℕ
+saved_refusal_text saved.NotJson = codes "9 SavedRefused 1"
+saved_refusal_text saved.Shape = codes "9 SavedRefused 2"
+saved_refusal_text saved.OtherModel = codes "9 SavedRefused 3"
+saved_refusal_text saved.UnknownName = codes "9 SavedRefused 4"
+
 abbrev pub refusal_text : Refusal → List ℕ
 refusal_text refusals.NoSession = codes "1 NoSession"
 refusal_text refusals.TooManySessions = codes "2 TooManySessions"
@@ -18,6 +26,9 @@ refusal_text refusals.UnknownCharacteristic = codes "4 UnknownCharacteristic"
 refusal_text refusals.NotInList = codes "5 NotInList"
 refusal_text refusals.NotHere = codes "6 NotHere"
 refusal_text refusals.NotSet = codes "7 NotSet"
+refusal_text refusals.NothingSaved = codes "8 NothingSaved"
+refusal_text (refusals.SavedRefused fault) = saved_refusal_text fault
+refusal_text refusals.KeeperFault = codes "10 KeeperFault"
 refusal_text refusals.OutOfMemory = codes "11 OutOfMemory"
 refusal_text refusals.NoConflict = codes "12 NoConflict"
 refusal_text refusals.NotInferred = codes "13 NotInferred"
@@ -26,7 +37,7 @@ refusal_text refusals.NameTaken = codes "14 NameTaken"
 abbrev pub refused_text : Refusal → List ℕ
 refused_text refusal = codes "refused " ++ (refusal_text refusal ++ codes "\n")
 
--- how the session stands that is open, or edited
+-- how the session stands that is open, edited or loaded
 abbrev pub done_text : Plan → Status → List ℕ
 done_text plan status = codes "ok " ++ (status_text plan status ++ codes "\n")
 
@@ -41,6 +52,8 @@ listed_text plan status lines = status_line plan status ++ (lines ++ codes "end\
 abbrev pub reply_text : Plan → Reply → List ℕ
 reply_text plan (replies.Done status) = done_text plan status
 reply_text plan replies.Closed = codes "ok closed\n"
+reply_text plan replies.Saved = codes "ok saved\n"
+reply_text plan replies.Forgotten = codes "ok forgotten\n"
 reply_text plan (replies.Shown status rows) = listed_text plan status rows
 reply_text plan (replies.Chain steps) = chain_text plan steps
 reply_text plan (replies.Whole steps) = whole_text plan steps

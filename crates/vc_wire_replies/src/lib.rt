@@ -7,4 +7,4 @@ pub mod printing;
 pub mod reply;
 
 pub use printing::reply_text;
-pub use reply::{Refusal, Reply};
+pub use reply::{Refusal, Reply, SavedRefusal};

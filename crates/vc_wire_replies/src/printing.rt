@@ -61,6 +61,8 @@ pub fn reply_text(alloc: Global, plan: &Plan, reply: &Reply) -> Result<Word, All
     match reply {
         Reply::Done { status } => done(alloc, plan, *status),
         Reply::Closed => line(alloc, "ok closed\n"),
+        Reply::Saved => line(alloc, "ok saved\n"),
+        Reply::Forgotten => line(alloc, "ok forgotten\n"),
         Reply::Shown { status, rows } => listed(alloc, plan, *status, rows),
         Reply::Chain { steps } => chain(alloc, plan, steps.as_slice()),
         Reply::Whole { steps } => whole(alloc, plan, steps.as_slice()),
