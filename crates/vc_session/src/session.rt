@@ -52,10 +52,11 @@ impl Model for Session {
 impl Session {
     ghost use Rattle.std.specs.Prelude.{◌≡◌, ◌<◌, false, length, slice_index_or, IfOk, None};
     ghost use Rattle.vc_plan.specs.Valid.{IsValid};
-    ghost use Rattle.vc_plan_users.specs.Choosing.{none_chosen};
+    ghost use Rattle.vc_plan_users.specs.Choosing.{none_chosen, users_of};
+    ghost use Rattle.vc_session_evaluation.specs.Costing.{EvaluationCosts};
     ghost use Rattle.vc_session.specs.Costing.{EditCosts, HasStarted};
     ghost use Rattle.vc_session.specs.Edits as edits;
-    ghost use Rattle.vc_session.specs.Sessions.{Gives, IsSessionOf, Takes, outcome_of};
+    ghost use Rattle.vc_session.specs.Sessions.{AreUsersOf, Gives, IsSessionOf, Takes, outcome_of};
 
     /// Nothing chosen, evaluated.
     pub fn start(alloc: Global, plan: &Plan) -> Result<Session, AllocError>
@@ -159,6 +160,20 @@ impl Session {
         take_value(&mut self.users, named, value);
         self.stages.evaluate(plan, &self.users, steps);
         Ok(())
+    }
+
+    /// Replaces what the user chose by this, and evaluates it.
+    pub fn restore<L: Ledger>(&mut self, plan: &Plan, users: UserValues, steps: &mut Steps<L>)
+        requires valid { IsValid plan.now }
+        requires of { IsSessionOf plan.now self.old }
+        requires users { AreUsersOf plan.now users }
+        ensures of { IsSessionOf plan.now self.new }
+        ensures users { self.new.users ≡ users }
+        ensures cost { EvaluationCosts plan.now (users_of self.new.users) self.old.stages.nets.items
+            self.new.stages steps.old steps.new }
+    {
+        self.users = users;
+        self.stages.evaluate(plan, &self.users, steps);
     }
 
     /// What the user chose.
