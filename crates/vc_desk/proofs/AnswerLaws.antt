@@ -14,11 +14,12 @@ use Rattle.vc_wire_replies.specs.declared.reply.Refusal.{Refusal}
 use Rattle.vc_wire_replies.specs.declared.reply.Refusal.TheVariants.{NameTaken, NoSession, TooManySessions}
 use Rattle.vc_wire_replies.specs.declared.reply.Reply.{Reply}
 use Rattle.vc_wire_replies.specs.declared.reply.Reply.TheVariants.{Closed, Refused}
-use Rattle.vc_desk.specs.Answers.{Closes, EditsSession, EditsTo, Tells, TellsSession, start_refusal}
-use Rattle.vc_desk.specs.Desks.{Edited, RepliesTo, state_of}
+use Rattle.vc_desk.specs.Answers.{Closes, EditsSession, Tells, TellsSession, start_refusal}
+use Rattle.vc_desk.specs.Editing.{EditsTo}
+use Rattle.vc_desk.specs.Desks.{Edited, RepliesTo, open_of}
 use Rattle.vc_desk.specs.Reasons.{Asked, AsksSession, IsAnswerTo}
 use Rattle.vc_desk.specs.States.{ByName, chosen_in, open_count}
-use Rattle.vc_desk.proofs.StateLaws.{chosen_of, count_is, is_none_at, state_kept, state_put, state_removed}
+use Rattle.vc_desk.proofs.OpenLaws.{chosen_of, count_is, is_none_at, open_kept, open_put, open_removed}
 
 some_mapped : (o : Option Opened) → is_some (option_map (λ session. session.users) o) ≡ is_some o
 some_mapped None = refl
@@ -30,109 +31,114 @@ pub some_copied : (lent : Option (Bor Opened)) (found : Option Opened) (b : Bool
 some_copied None found b e is = ap is_some (sym e) ∙ is
 some_copied (Some session) found b e is = ap is_some (sym e) ∙ is
 
+pub one_copied : (lent : Option (Bor Opened)) (found : Option Opened) → option_copied lent ≡ found
+    → is_some lent ≡ true → (session : Opened) × (found ≡ Some session)
+one_copied None found e some = absurd (cc)
+one_copied (Some session) found e some = (session.now, sym e)
+
 -- what is chosen in the session of a name, if one is open
 module _ (sessions : ByName Opened) (name : List ℕ) where
-  pub none_chosen_in : get sessions name ≡ None → chosen_in (state_of sessions) name ≡ None
+  pub none_chosen_in : get sessions name ≡ None → chosen_in (open_of sessions) name ≡ None
   none_chosen_in none = chosen_of sessions name
       ∙ ap (λ (o : Option Opened). option_map (λ session. session.users) o) none
 
   pub one_chosen_in : (found : Opened) → get sessions name ≡ Some found
-      → chosen_in (state_of sessions) name ≡ Some found.users
+      → chosen_in (open_of sessions) name ≡ Some found.users
   one_chosen_in found there =
       chosen_of sessions name ∙ ap (λ (o : Option Opened). option_map (λ session. session.users) o) there
 
   -- an edit, where none is open, and of one that is
   pub edits_none : (plan : Plan) (edit : Chosen → Result Chosen Refusal) (reply : Reply) → get sessions name ≡ None
       → reply ≡ Refused NoSession
-      → EditsSession plan (state_of sessions) name edit (chosen_in (state_of sessions) name) reply (state_of sessions)
+      → EditsSession plan (open_of sessions) name edit (chosen_in (open_of sessions) name) reply (open_of sessions)
   edits_none plan edit reply none is =
-      subst (λ o. EditsSession plan (state_of sessions) name edit o reply (state_of sessions))
+      subst (λ o. EditsSession plan (open_of sessions) name edit o reply (open_of sessions))
       (sym (none_chosen_in none)) (is, refl)
 
   pub edits_one : (plan : Plan) (edit : Chosen → Result Chosen Refusal) (old new : Opened) (done : Result Unit Refusal)
       (reply : Reply) → get sessions name ≡ Some old → Edited old.users (edit old.users) new.users done
       → RepliesTo plan new.users done reply
-      → EditsSession plan (state_of sessions) name edit (chosen_in (state_of sessions) name) reply
-      (state_of (insert sessions name new))
+      → EditsSession plan (open_of sessions) name edit (chosen_in (open_of sessions) name) reply
+      (open_of (insert sessions name new))
   edits_one plan edit old new done reply there edited replies =
-      subst (λ o. EditsSession plan (state_of sessions) name edit o reply (state_of (insert sessions name new)))
+      subst (λ o. EditsSession plan (open_of sessions) name edit o reply (open_of (insert sessions name new)))
       (sym (one_chosen_in old there)) (by done edited replies)
     where
       by : (done : Result Unit Refusal) → Edited old.users (edit old.users) new.users done
           → RepliesTo plan new.users done reply
-          → EditsTo plan (state_of sessions) name (edit old.users) reply (state_of (insert sessions name new))
+          → EditsTo plan (open_of sessions) name (edit old.users) reply (open_of (insert sessions name new))
       by (Ok unit) edited replies =
-          subst (λ after. EditsTo plan (state_of sessions) name after reply (state_of (insert sessions name new)))
-          (sym edited) (replies.0, replies.1, replies.2, state_put sessions name new)
+          subst (λ after. EditsTo plan (open_of sessions) name after reply (open_of (insert sessions name new)))
+          (sym edited) (replies.0, replies.1, replies.2, open_put sessions name new)
       by (Err refusal) edited replies =
-          subst (λ after. EditsTo plan (state_of sessions) name after reply (state_of (insert sessions name new)))
-          (sym edited.0) (replies, state_kept sessions name old new there edited.1)
+          subst (λ after. EditsTo plan (open_of sessions) name after reply (open_of (insert sessions name new)))
+          (sym edited.0) (replies, open_kept sessions name old new there edited.1)
 
   -- closing
   pub closes_none : (reply : Reply) → is_some (get sessions name) ≡ false → reply ≡ Refused NoSession
-      → Closes (state_of sessions) name (chosen_in (state_of sessions) name) reply (state_of sessions)
+      → Closes (open_of sessions) name (chosen_in (open_of sessions) name) reply (open_of sessions)
   closes_none reply none is =
-      subst (λ o. Closes (state_of sessions) name o reply (state_of sessions))
+      subst (λ o. Closes (open_of sessions) name o reply (open_of sessions))
       (sym (none_chosen_in (is_none_at (get sessions name) none))) (is, refl)
 
   pub closes_one : is_some (get sessions name) ≡ true
-      → Closes (state_of sessions) name (chosen_in (state_of sessions) name) Closed (state_of (remove sessions name))
+      → Closes (open_of sessions) name (chosen_in (open_of sessions) name) Closed (open_of (remove sessions name))
   closes_one some = by (get sessions name) refl some
     where
       by : (found : Option Opened) → get sessions name ≡ found → is_some found ≡ true
-          → Closes (state_of sessions) name (chosen_in (state_of sessions) name) Closed
-          (state_of (remove sessions name))
+          → Closes (open_of sessions) name (chosen_in (open_of sessions) name) Closed
+          (open_of (remove sessions name))
       by None there some = absurd (cc)
       by (Some found) there some =
-          subst (λ o. Closes (state_of sessions) name o Closed (state_of (remove sessions name)))
-          (sym (one_chosen_in found there)) (refl, state_removed sessions name)
+          subst (λ o. Closes (open_of sessions) name o Closed (open_of (remove sessions name)))
+          (sym (one_chosen_in found there)) (refl, open_removed sessions name)
 
   -- telling
   pub tells_none : (plan : Plan) (tell : Status → List ℕ → Reply) (text : Plan → Users → List ℕ) (reply : Reply)
       → get sessions name ≡ None → reply ≡ Refused NoSession
-      → TellsSession plan tell text (chosen_in (state_of sessions) name) reply
+      → TellsSession plan tell text (chosen_in (open_of sessions) name) reply
   tells_none plan tell text reply none is =
       subst (λ o. TellsSession plan tell text o reply) (sym (none_chosen_in none)) is
 
   pub tells_one : (plan : Plan) (tell : Status → List ℕ → Reply) (text : Plan → Users → List ℕ) (found : Opened)
       (reply : Reply) → get sessions name ≡ Some found
       → Tells plan (users_of found.users) tell (text plan (users_of found.users)) reply
-      → TellsSession plan tell text (chosen_in (state_of sessions) name) reply
+      → TellsSession plan tell text (chosen_in (open_of sessions) name) reply
   tells_one plan tell text found reply there tells =
       subst (λ o. TellsSession plan tell text o reply) (sym (one_chosen_in found there)) tells
 
   -- explaining
   pub asks_none : (plan : Plan) (asked : Asked) (reply : Reply) → get sessions name ≡ None → reply ≡ Refused NoSession
-      → AsksSession plan asked (chosen_in (state_of sessions) name) reply
+      → AsksSession plan asked (chosen_in (open_of sessions) name) reply
   asks_none plan asked reply none is = subst (λ o. AsksSession plan asked o reply) (sym (none_chosen_in none)) is
 
   pub asks_one : (plan : Plan) (asked : Asked) (found : Opened) (reply : Reply) → get sessions name ≡ Some found
-      → IsAnswerTo plan asked found.users reply → AsksSession plan asked (chosen_in (state_of sessions) name) reply
+      → IsAnswerTo plan asked found.users reply → AsksSession plan asked (chosen_in (open_of sessions) name) reply
   asks_one plan asked found reply there answers =
       subst (λ o. AsksSession plan asked o reply) (sym (one_chosen_in found there)) answers
 
   -- why no session of the name is opened, and that one may be
   abbrev if_full : Option Refusal
-  if_full = if nat_lt (open_count (state_of sessions)) 32 then None else Some TooManySessions
+  if_full = if nat_lt (open_count (open_of sessions)) 32 then None else Some TooManySessions
 
-  pub name_taken : is_some (get sessions name) ≡ true → start_refusal (state_of sessions) name ≡ Some NameTaken
+  pub name_taken : is_some (get sessions name) ≡ true → start_refusal (open_of sessions) name ≡ Some NameTaken
   name_taken taken =
       ap (λ b. if b then Some NameTaken else if_full)
       (ap is_some (chosen_of sessions name) ∙ some_mapped (get sessions name) ∙ taken)
 
-  by_count : (few : Bool) → is_some (get sessions name) ≡ false → nat_lt (open_count (state_of sessions)) 32 ≡ few
-      → start_refusal (state_of sessions) name ≡ (if few then None else Some TooManySessions)
+  by_count : (few : Bool) → is_some (get sessions name) ≡ false → nat_lt (open_count (open_of sessions)) 32 ≡ few
+      → start_refusal (open_of sessions) name ≡ (if few then None else Some TooManySessions)
   by_count few free counted =
       ap (λ b. if b then Some NameTaken else if_full)
       (ap is_some (chosen_of sessions name) ∙ some_mapped (get sessions name) ∙ free)
       ∙ ap (λ b. if b then None else Some TooManySessions) counted
 
   pub too_many : is_some (get sessions name) ≡ false → 32 ≤ len sessions
-      → start_refusal (state_of sessions) name ≡ Some TooManySessions
-  too_many free full = by (nat_lt (open_count (state_of sessions)) 32) refl
+      → start_refusal (open_of sessions) name ≡ Some TooManySessions
+  too_many free full = by (nat_lt (open_count (open_of sessions)) 32) refl
     where
-      by : (b : Bool) → nat_lt (open_count (state_of sessions)) 32 ≡ b
-          → start_refusal (state_of sessions) name ≡ Some TooManySessions
+      by : (b : Bool) → nat_lt (open_count (open_of sessions)) 32 ≡ b
+          → start_refusal (open_of sessions) name ≡ Some TooManySessions
       by true e =
           let below = ltb-true _ _ e in
           let many = count_is sessions in
@@ -140,11 +146,11 @@ module _ (sessions : ByName Opened) (name : List ℕ) where
       by false e = by_count false free e
 
   pub may_open : is_some (get sessions name) ≡ false → len sessions < 32
-      → start_refusal (state_of sessions) name ≡ None
-  may_open free room = by (nat_lt (open_count (state_of sessions)) 32) refl
+      → start_refusal (open_of sessions) name ≡ None
+  may_open free room = by (nat_lt (open_count (open_of sessions)) 32) refl
     where
-      by : (b : Bool) → nat_lt (open_count (state_of sessions)) 32 ≡ b
-          → start_refusal (state_of sessions) name ≡ None
+      by : (b : Bool) → nat_lt (open_count (open_of sessions)) 32 ≡ b
+          → start_refusal (open_of sessions) name ≡ None
       by true e = by_count true free e
       by false e =
           let past = ltb-false _ _ e in

@@ -2,4 +2,5 @@ pub mod AnswerLaws
 pub mod AskingLaws
 pub mod CostLaws
 pub mod EditLaws
-pub mod StateLaws
+pub mod OpenLaws
+pub mod SavedLaws

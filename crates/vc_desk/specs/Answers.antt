@@ -1,7 +1,6 @@
 -- The desk's step: what it answers to a request, and what it keeps then. Each answer is read off an evaluation of what
--- the
--- user chose, from nothing.
-use Rattle.std.specs.Prelude.{◌≡◌, ℕ, nat_lt, is_some, if◌then◌else◌, List, Option, None, Some, Result, Ok, Err}
+-- the user chose, from nothing, or off what is saved.
+use Rattle.std.specs.Prelude.{◌≡◌, ℕ, nat_lt, is_some, if◌then◌else◌, List, Option, None, Some, Result}
 use Rattle.vc_plan.specs.declared.plans.Plan.{Plan}
 use Rattle.vc_plan.specs.declared.shown.Status.{Status}
 use Rattle.vc_plan.specs.Evaluate.{Users}
@@ -15,43 +14,39 @@ use Rattle.vc_wire_replies.specs.declared.reply.Reply.{Reply}
 use Rattle.vc_wire_replies.specs.declared.reply.Reply.TheVariants.{BillShown, Closed, Done, Refused, RoutingShown}
 use Rattle.vc_wire_replies.specs.declared.reply.Reply.TheVariants.{Shown}
 use Rattle.vc_desk_shown.specs.Shown.{bill_shown, routing_shown, shown}
+use Rattle.vc_desk.specs.Editing.{EditsTo}
 use Rattle.vc_desk.specs.Edits.{after_add, after_drop, after_retract, after_set}
 use Rattle.vc_desk.specs.Reasons.{AsksSession, Conflict, Log, Why, WhyNot}
-use Rattle.vc_desk.specs.States.{State, chosen_in, open_count, with_session, without_session}
+use Rattle.vc_desk.specs.Saved.{ForgetsSaved, LoadsSession, SavesSession}
+use Rattle.vc_desk.specs.States.{KeeperStays, OpenSessions, State, chosen_in, open_count, with_session}
+use Rattle.vc_desk.specs.States.{without_session}
 use Rattle.vc_desk.specs.declared.sessions.TheConstants.{SESSION_LIMIT}
 
 -- the first reason against opening a session of this name
-abbrev pub start_refusal : State → List ℕ → Option Refusal
-start_refusal state name =
-    let full = if nat_lt (open_count state) SESSION_LIMIT then None else Some TooManySessions in
-    if is_some (chosen_in state name) then Some NameTaken else full
+abbrev pub start_refusal : OpenSessions → List ℕ → Option Refusal
+start_refusal sessions name =
+    let full = if nat_lt (open_count sessions) SESSION_LIMIT then None else Some TooManySessions in
+    if is_some (chosen_in sessions name) then Some NameTaken else full
 
 -- `open`: a session with nothing chosen; memory may be wanting
-pub data Starts (plan : Plan) (state : State) (name : List ℕ) (reply : Reply) (next : State) : Type 0 where
-  refused : (refusal : Refusal) → start_refusal state name ≡ Some refusal → reply ≡ Refused refusal → next ≡ state
-      → Starts plan state name reply next
-  exhausted : start_refusal state name ≡ None → reply ≡ Refused OutOfMemory → next ≡ state
-      → Starts plan state name reply next
-  started : (status : Status) → start_refusal state name ≡ None → IsStatus plan (users_of (none_chosen plan)) status
-      → reply ≡ Done status → next ≡ with_session state name (none_chosen plan) → Starts plan state name reply next
+pub data Starts (plan : Plan) (sessions : OpenSessions) (name : List ℕ) (reply : Reply) (next : OpenSessions) : Type 0 where
+  refused : (refusal : Refusal) → start_refusal sessions name ≡ Some refusal → reply ≡ Refused refusal → next ≡ sessions
+      → Starts plan sessions name reply next
+  exhausted : start_refusal sessions name ≡ None → reply ≡ Refused OutOfMemory → next ≡ sessions
+      → Starts plan sessions name reply next
+  started : (status : Status) → start_refusal sessions name ≡ None → IsStatus plan (users_of (none_chosen plan)) status
+      → reply ≡ Done status → next ≡ with_session sessions name (none_chosen plan) → Starts plan sessions name reply next
 
 -- `close` of the session of this name, if one is open
-abbrev pub Closes : State → List ℕ → Option Chosen → Reply → State → Type 0
-Closes state name None reply next = (reply ≡ Refused NoSession) × (next ≡ state)
-Closes state name (Some chosen) reply next = (reply ≡ Closed) × (next ≡ without_session state name)
+abbrev pub Closes : OpenSessions → List ℕ → Option Chosen → Reply → OpenSessions → Type 0
+Closes sessions name None reply next = (reply ≡ Refused NoSession) × (next ≡ sessions)
+Closes sessions name (Some chosen) reply next = (reply ≡ Closed) × (next ≡ without_session sessions name)
 
--- an edit is refused, and nothing changes; or it is done, and the reply says how what is chosen then stands
-abbrev pub EditsTo : Plan → State → List ℕ → Result Chosen Refusal → Reply → State → Type 0
-EditsTo plan state name (Err refusal) reply next = (reply ≡ Refused refusal) × (next ≡ state)
-EditsTo plan state name (Ok after) reply next =
-    (status : Status) × IsStatus plan (users_of after) status × (reply ≡ Done status)
-    × (next ≡ with_session state name after)
-
--- of the session of this name, if one is open
-abbrev pub EditsSession : Plan → State → List ℕ → (Chosen → Result Chosen Refusal) → Option Chosen → Reply → State
+-- an edit of the session of this name, if one is open
+abbrev pub EditsSession : Plan → OpenSessions → List ℕ → (Chosen → Result Chosen Refusal) → Option Chosen → Reply → OpenSessions
     → Type 0
-EditsSession plan state name edit None reply next = (reply ≡ Refused NoSession) × (next ≡ state)
-EditsSession plan state name edit (Some chosen) reply next = EditsTo plan state name (edit chosen) reply next
+EditsSession plan sessions name edit None reply next = (reply ≡ Refused NoSession) × (next ≡ sessions)
+EditsSession plan sessions name edit (Some chosen) reply next = EditsTo plan sessions name (edit chosen) reply next
 
 -- what is told of what is chosen: how it stands, and a text that it determines; memory may be wanting
 pub data Tells (plan : Plan) (users : Users) (tell : Status → List ℕ → Reply) (text : List ℕ) (reply : Reply) : Type 0
@@ -66,26 +61,38 @@ TellsSession plan tell text (Some chosen) reply = Tells plan (users_of chosen) t
 
 -- the step
 abbrev pub Apply : Plan → State → Request → Reply → State → Type 0
-Apply plan state (requests.Start name) reply next = Starts plan state name reply next
-Apply plan state (requests.Close name) reply next = Closes state name (chosen_in state name) reply next
+Apply plan state (requests.Start name) reply next = Starts plan state.sessions name reply next.sessions
+    × KeeperStays state next
+Apply plan state (requests.Close name) reply next = Closes state.sessions name (chosen_in state.sessions name) reply next.sessions
+    × KeeperStays state next
 Apply plan state (requests.Set name i characteristic word) reply next =
-    EditsSession plan state name (after_set plan i characteristic word) (chosen_in state name) reply next
+    EditsSession plan state.sessions name (after_set plan i characteristic word) (chosen_in state.sessions name) reply next.sessions
+    × KeeperStays state next
 Apply plan state (requests.Add name i characteristic word) reply next =
-    EditsSession plan state name (after_add plan i characteristic word) (chosen_in state name) reply next
+    EditsSession plan state.sessions name (after_add plan i characteristic word) (chosen_in state.sessions name) reply next.sessions
+    × KeeperStays state next
 Apply plan state (requests.Retract name i characteristic) reply next =
-    EditsSession plan state name (after_retract plan i characteristic) (chosen_in state name) reply next
+    EditsSession plan state.sessions name (after_retract plan i characteristic) (chosen_in state.sessions name) reply next.sessions
+    × KeeperStays state next
 Apply plan state (requests.Drop name i characteristic word) reply next =
-    EditsSession plan state name (after_drop plan i characteristic word) (chosen_in state name) reply next
-Apply plan state (requests.Show name) reply next = TellsSession plan Shown shown (chosen_in state name) reply
+    EditsSession plan state.sessions name (after_drop plan i characteristic word) (chosen_in state.sessions name) reply
+    next.sessions × KeeperStays state next
+Apply plan state (requests.Show name) reply next = TellsSession plan Shown shown (chosen_in state.sessions name) reply
     × (next ≡ state)
-Apply plan state (requests.Bill name) reply next = TellsSession plan BillShown bill_shown (chosen_in state name) reply
-    × (next ≡ state)
+Apply plan state (requests.Bill name) reply next =
+    TellsSession plan BillShown bill_shown (chosen_in state.sessions name) reply × (next ≡ state)
 Apply plan state (requests.Routing name) reply next =
-    TellsSession plan RoutingShown routing_shown (chosen_in state name) reply × (next ≡ state)
+    TellsSession plan RoutingShown routing_shown (chosen_in state.sessions name) reply × (next ≡ state)
 Apply plan state (requests.Why name i characteristic) reply next =
-    AsksSession plan (Why i characteristic) (chosen_in state name) reply × (next ≡ state)
+    AsksSession plan (Why i characteristic) (chosen_in state.sessions name) reply × (next ≡ state)
 Apply plan state (requests.WhyNot name i characteristic word) reply next =
-    AsksSession plan (WhyNot i characteristic word) (chosen_in state name) reply × (next ≡ state)
-Apply plan state (requests.Conflict name) reply next = AsksSession plan Conflict (chosen_in state name) reply
+    AsksSession plan (WhyNot i characteristic word) (chosen_in state.sessions name) reply × (next ≡ state)
+Apply plan state (requests.Conflict name) reply next = AsksSession plan Conflict (chosen_in state.sessions name) reply
     × (next ≡ state)
-Apply plan state (requests.Log name) reply next = AsksSession plan Log (chosen_in state name) reply × (next ≡ state)
+Apply plan state (requests.Log name) reply next = AsksSession plan Log (chosen_in state.sessions name) reply
+    × (next ≡ state)
+Apply plan state (requests.Save name saved_name) reply next =
+    SavesSession plan state saved_name (chosen_in state.sessions name) reply next
+Apply plan state (requests.Load name saved_name) reply next =
+    LoadsSession plan state name saved_name (chosen_in state.sessions name) reply next
+Apply plan state (requests.Forget saved_name) reply next = ForgetsSaved state saved_name reply next

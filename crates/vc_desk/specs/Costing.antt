@@ -51,3 +51,7 @@ AnswerSpends plan old (requests.WhyNot name i characteristic word) reply new bef
     (new ≡ old) × (after ≡ before)
 AnswerSpends plan old (requests.Conflict name) reply new before after = (new ≡ old) × (after ≡ before)
 AnswerSpends plan old (requests.Log name) reply new before after = (new ≡ old) × (after ≡ before)
+AnswerSpends plan old (requests.Save name saved_name) reply new before after = (new ≡ old) × (after ≡ before)
+AnswerSpends plan old (requests.Load name saved_name) reply new before after =
+    SpendsOnEdit plan name old new reply before after
+AnswerSpends plan old (requests.Forget saved_name) reply new before after = (new ≡ old) × (after ≡ before)

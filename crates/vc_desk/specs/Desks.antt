@@ -1,6 +1,7 @@
 -- A desk of a plan, and what it keeps.
-use Rattle.std.specs.Prelude.{◌≡◌, ◌≤◌, ℕ, List, map, Vec, IfSome, Result, Ok, Err}
+use Rattle.std.specs.Prelude.{◌≡◌, ◌≤◌, ℕ, List, Option, map, Vec, IfSome, Result, Ok, Err}
 use Rattle.std.specs.FinMap.{entries, from_entries, get, insert, len}
+use Rattle.vc_outside.specs.Keepers.{Texts}
 use Rattle.vc_plan.specs.declared.plans.Plan.{Plan}
 use Rattle.vc_plan.specs.declared.shown.Status.{Status}
 use Rattle.vc_plan.specs.Valid.{IsValid}
@@ -11,7 +12,7 @@ use Rattle.vc_session.specs.Sessions.{IsSessionOf, Opened}
 use Rattle.vc_wire_replies.specs.declared.reply.Refusal.{Refusal}
 use Rattle.vc_wire_replies.specs.declared.reply.Reply.{Reply}
 use Rattle.vc_wire_replies.specs.declared.reply.Reply.TheVariants.{Done, Refused}
-use Rattle.vc_desk.specs.States.{ByName, State}
+use Rattle.vc_desk.specs.States.{ByName, OpenSessions, State, kept}
 use Rattle.vc_desk.specs.declared.sessions.TheConstants.{SESSION_LIMIT}
 
 -- a plan, and the open sessions
@@ -27,8 +28,12 @@ named_entry entry = (entry.0.items, entry.1)
 abbrev pub chosen_entry : List ℕ × Opened → List ℕ × Chosen
 chosen_entry entry = (entry.0, entry.1.users)
 
-abbrev pub state_of : ByName Opened → State
-state_of sessions = record { sessions = from_entries (map chosen_entry (entries sessions)) }
+abbrev pub open_of : ByName Opened → OpenSessions
+open_of sessions = from_entries (map chosen_entry (entries sessions))
+
+-- with what the keeper tells, and its count of faults
+abbrev pub state_of : ByName Opened → Option Texts → ℕ → State
+state_of sessions saved faults = kept (open_of sessions) saved faults
 
 -- sessions of the plan, no more than may be open
 pub record AreSessionsOf (plan : Plan) (sessions : ByName Opened) : Type 0 where

@@ -1,5 +1,5 @@
 -- What each edit makes of what a user chose, or the first reason against it.
-use Rattle.std.specs.Prelude.{ℕ, Bool, false, not, nat_lt, if◌then◌else◌, List, length, Result, Ok, Err}
+use Rattle.std.specs.Prelude.{⊤, ℕ, Bool, false, not, nat_lt, if◌then◌else◌, List, length, Result, Ok, Err}
 use Rattle.std.specs.Option.{ok_or}
 use Rattle.vc_plan.specs.declared.plans.Named.{Named}
 use Rattle.vc_plan.specs.declared.plans.Plan.{Plan}
@@ -8,6 +8,7 @@ use Rattle.vc_plan.specs.Seen.{seen_of}
 use Rattle.vc_plan.specs.Showing.{is_named_here}
 use Rattle.vc_plan_users.specs.Choosing.{Chosen, users_of}
 use Rattle.vc_session.specs.Edits.{given, given_alone, has_choice, has_chosen, taken, taken_value}
+use Rattle.vc_session.specs.Sessions.{AreUsersOf}
 use Rattle.vc_session.specs.declared.session.SetFault.{SetFault}
 use Rattle.vc_session.specs.declared.session.SetFault.TheVariants as faults
 use Rattle.vc_desk_names.specs.Meant.{find_named, value_named}
@@ -72,9 +73,18 @@ after_drop plan i name word chosen = do
   a ← ok_or (value_named plan named word) NotInList
   where_set (has_chosen chosen named a) (taken_value chosen named a)
 
--- what a request asks for
-abbrev pub after_edit : Edit → Plan → ℕ → List ℕ → Chosen → Result Chosen Refusal
-after_edit (edits.Set word) plan i name = after_set plan i name word.now
-after_edit (edits.Add word) plan i name = after_add plan i name word.now
-after_edit edits.Retract plan i name = after_retract plan i name
-after_edit (edits.Drop word) plan i name = after_drop plan i name word.now
+-- what a request asks for; what is restored is chosen whatever was
+abbrev pub after_edit : Edit → Plan → Chosen → Result Chosen Refusal
+after_edit (edits.Set i name word) plan = after_set plan i name.now word.now
+after_edit (edits.Add i name word) plan = after_add plan i name.now word.now
+after_edit (edits.Retract i name) plan = after_retract plan i name.now
+after_edit (edits.Drop i name word) plan = after_drop plan i name.now word.now
+after_edit (edits.Restore users) plan = λ chosen. Ok users
+
+-- what is restored may be chosen
+abbrev pub MayEdit : Plan → Edit → Type 0
+MayEdit plan (edits.Set i name word) = ⊤
+MayEdit plan (edits.Add i name word) = ⊤
+MayEdit plan (edits.Retract i name) = ⊤
+MayEdit plan (edits.Drop i name word) = ⊤
+MayEdit plan (edits.Restore users) = AreUsersOf plan users

@@ -1,7 +1,9 @@
 pub mod Answers
 pub mod Costing
 pub mod Desks
+pub mod Editing
 pub mod Edits
 pub mod Reasons
+pub mod Saved
 pub mod States
 pub mod Telling

@@ -1,6 +1,6 @@
 //! The desk of a plan.
 
-ghost use Rattle.std.specs.Prelude.{◌≡◌};
+ghost use Rattle.std.specs.Prelude.{◌≡◌, IsSome};
 ghost use Rattle.vc_plan.specs.Valid.{IsValid};
 ghost use Rattle.vc_desk.specs.Answers.{Apply};
 ghost use Rattle.vc_desk.specs.Costing.{AnswerSpends};
@@ -8,17 +8,19 @@ ghost use Rattle.vc_desk.specs.Desks.{AreSessionsOf, state_of};
 
 use crate::edits::Edit;
 use crate::reasons::Question;
+use crate::saved::{forget, load, save};
 use crate::sessions::Sessions;
 use crate::telling::Told;
 use std::alloc::Global;
 use std::marker::Model;
 use std::sync::ledger::Ledger;
+use vc_outside::Keeper;
 use vc_plan::Plan;
 use vc_value_steps::Steps;
 use vc_wire_replies::Reply;
 use vc_wire_requests::Request;
 
-/// A plan with the sessions that are open.
+/// A plan with the sessions that are open. What is saved is with a keeper.
 #[derive(Drop)]
 pub struct Desk {
     plan: Plan,
@@ -40,19 +42,23 @@ impl Model for Desk {
     ghost view = { λ d. record { plan = d.plan; sessions = d.sessions } };
 }
 
-// What is answered to a request about the open sessions of a plan.
-fn answer_with<L: Ledger>(
+// What is answered to a request about the open sessions of a plan, and about those that are saved.
+fn answer_with<K: Keeper, L: Ledger>(
     alloc: Global,
     plan: &Plan,
     sessions: &mut Sessions,
+    keeper: &mut K,
     request: &Request,
     steps: &mut Steps<L>,
 ) -> Reply
     requires valid { IsValid plan.now }
     requires of { AreSessionsOf plan.now sessions.old }
-    ensures applies { Apply plan.now (state_of sessions.old) request.now result (state_of sessions.new) }
+    requires begun { IsSome (K.begun keeper.old) }
+    ensures applies { Apply plan.now (state_of sessions.old (K.texts keeper.old) (K.faults keeper.old)) request.now
+        result (state_of sessions.new (K.texts keeper.new) (K.faults keeper.new)) }
     ensures of { AreSessionsOf plan.now sessions.new }
     ensures spends { AnswerSpends plan.now sessions.old request.now result sessions.new steps.old steps.new }
+    ensures begun { K.begun keeper.new ≡ K.begun keeper.old }
 {
     match request {
         Request::Start { session } => sessions.open(alloc, plan, session),
@@ -65,9 +71,11 @@ fn answer_with<L: Ledger>(
         } => sessions.edit(
             plan,
             session,
-            *instance,
-            characteristic,
-            Edit::Set(value),
+            Edit::Set {
+                instance: *instance,
+                characteristic,
+                value,
+            },
             steps,
         ),
         Request::Add {
@@ -78,9 +86,11 @@ fn answer_with<L: Ledger>(
         } => sessions.edit(
             plan,
             session,
-            *instance,
-            characteristic,
-            Edit::Add(value),
+            Edit::Add {
+                instance: *instance,
+                characteristic,
+                value,
+            },
             steps,
         ),
         Request::Retract {
@@ -90,9 +100,10 @@ fn answer_with<L: Ledger>(
         } => sessions.edit(
             plan,
             session,
-            *instance,
-            characteristic,
-            Edit::Retract,
+            Edit::Retract {
+                instance: *instance,
+                characteristic,
+            },
             steps,
         ),
         Request::Drop {
@@ -103,9 +114,11 @@ fn answer_with<L: Ledger>(
         } => sessions.edit(
             plan,
             session,
-            *instance,
-            characteristic,
-            Edit::Drop(value),
+            Edit::Drop {
+                instance: *instance,
+                characteristic,
+                value,
+            },
             steps,
         ),
         Request::Show { session } => sessions.tell(alloc, plan, session, Told::Rows),
@@ -141,22 +154,27 @@ fn answer_with<L: Ledger>(
         ),
         Request::Conflict { session } => sessions.explain(alloc, plan, session, Question::Conflict),
         Request::Log { session } => sessions.explain(alloc, plan, session, Question::Log),
+        Request::Save { session, name } => save(alloc, plan, sessions, keeper, session, name),
+        Request::Load { session, name } => {
+            load(alloc, plan, sessions, keeper, session, name, steps)
+        }
+        Request::Forget { name } => forget(keeper, name),
     }
 }
 
 impl Desk {
-    ghost use Rattle.std.specs.Prelude.{◌≡◌};
+    ghost use Rattle.std.specs.Prelude.{◌≡◌, IsSome};
+    ghost use Rattle.std.specs.FinMap.{empty};
     ghost use Rattle.vc_plan.specs.Valid.{IsValid};
     ghost use Rattle.vc_desk.specs.Answers.{Apply};
     ghost use Rattle.vc_desk.specs.Costing.{AnswerSpends};
-    ghost use Rattle.vc_desk.specs.Desks.{IsDesk, state_of};
-    ghost use Rattle.vc_desk.specs.States.{start_state};
+    ghost use Rattle.vc_desk.specs.Desks.{IsDesk, open_of, state_of};
 
     /// A desk of the plan at which no session is open.
     pub fn new(alloc: Global, plan: Plan) -> Desk
         requires { IsValid plan }
         ensures plan { result.plan ≡ plan }
-        ensures none { state_of result.sessions ≡ start_state }
+        ensures none { open_of result.sessions ≡ empty }
         ensures is { IsDesk result }
     {
         Desk {
@@ -172,22 +190,34 @@ impl Desk {
         &self.plan
     }
 
-    /// Answers a request. Close, Set, Add, Retract and Drop take no memory. Rules are evaluated by an edit that is done
-    /// alone, within the works of its session's nets, and all other sessions stay as they are.
-    pub fn answer<L: Ledger>(
+    /// Answers a request. Close, Set, Add, Retract and Drop take no memory, and Save, Load and Forget alone call the
+    /// keeper, once. Rules are evaluated by an edit or a Load that is done alone, within the works of its session's
+    /// nets, and all other sessions stay as they are.
+    pub fn answer<K: Keeper, L: Ledger>(
         &mut self,
         alloc: Global,
+        keeper: &mut K,
         request: &Request,
         steps: &mut Steps<L>,
     ) -> Reply
-        requires { IsDesk self.old }
-        ensures applies { Apply self.old.plan (state_of self.old.sessions) request.now result
-            (state_of self.new.sessions) }
+        requires is { IsDesk self.old }
+        requires begun { IsSome (K.begun keeper.old) }
+        ensures applies { Apply self.old.plan
+            (state_of self.old.sessions (K.texts keeper.old) (K.faults keeper.old)) request.now result
+            (state_of self.new.sessions (K.texts keeper.new) (K.faults keeper.new)) }
         ensures is { IsDesk self.new }
         ensures plan { self.new.plan ≡ self.old.plan }
         ensures spends { AnswerSpends self.old.plan self.old.sessions request.now result self.new.sessions
             steps.old steps.new }
+        ensures begun { K.begun keeper.new ≡ K.begun keeper.old }
     {
-        answer_with(alloc, &self.plan, &mut self.sessions, request, steps)
+        answer_with(
+            alloc,
+            &self.plan,
+            &mut self.sessions,
+            keeper,
+            request,
+            steps,
+        )
     }
 }

@@ -10,22 +10,42 @@ ghost use Rattle.vc_desk.specs.Edits as edits;
 use crate::words::{named_for, value_for};
 use std::sync::ledger::Ledger;
 use vc_plan::Plan;
+use vc_plan_users::UserValues;
 use vc_session::{NotSet, Session, SetFault};
 use vc_value::Word;
 use vc_value_steps::Steps;
 use vc_wire_replies::Refusal;
 
-/// What is to become of a characteristic's value.
-#[derive(Clone, Copy)]
+/// What is to become of what the user chose in a session.
+#[derive(Drop)]
 pub enum Edit<'a> {
-    /// It is this, of a set this alone.
-    Set(&'a Word),
-    /// It is this, of a set this beside those that it holds.
-    Add(&'a Word),
+    /// The characteristic's value is this, a set's this alone.
+    Set {
+        instance: u32,
+        characteristic: &'a Word,
+        value: &'a Word,
+    },
+    /// The characteristic's value is this, a set's this beside those that it holds.
+    Add {
+        instance: u32,
+        characteristic: &'a Word,
+        value: &'a Word,
+    },
     /// All of the user's values there are taken back.
-    Retract,
+    Retract {
+        instance: u32,
+        characteristic: &'a Word,
+    },
     /// This value is taken back, and no other.
-    Drop(&'a Word),
+    Drop {
+        instance: u32,
+        characteristic: &'a Word,
+        value: &'a Word,
+    },
+    /// All that was chosen is replaced by this.
+    Restore {
+        users: UserValues,
+    },
 }
 
 fn refusal_of(fault: SetFault) -> Refusal
@@ -131,26 +151,44 @@ fn drop_value<L: Ledger>(
     }
 }
 
-/// Edits the session so, by the words of a request.
+/// Edits the session so.
 pub fn apply<L: Ledger>(
     plan: &Plan,
     session: &mut Session,
-    instance: u32,
-    name: &Word,
     which: Edit<'_>,
     steps: &mut Steps<L>,
 ) -> Result<(), Refusal>
     requires valid { IsValid plan.now }
     requires of { IsSessionOf plan.now session.old }
-    ensures edited { Edited session.old.users
-        (edits.after_edit which.entry plan.now instance name.now session.old.users) session.new.users result }
+    requires may { edits.MayEdit plan.now which }
+    ensures edited { Edited session.old.users (edits.after_edit which.entry plan.now session.old.users)
+        session.new.users result }
     ensures of { IsSessionOf plan.now session.new }
     ensures cost { EditCosts plan.now session.old session.new result steps.old steps.new }
 {
     match which {
-        Edit::Set(word) => set(plan, session, instance, name, word, steps),
-        Edit::Add(word) => add(plan, session, instance, name, word, steps),
-        Edit::Retract => retract(plan, session, instance, name, steps),
-        Edit::Drop(word) => drop_value(plan, session, instance, name, word, steps),
+        Edit::Set {
+            instance,
+            characteristic,
+            value,
+        } => set(plan, session, instance, characteristic, value, steps),
+        Edit::Add {
+            instance,
+            characteristic,
+            value,
+        } => add(plan, session, instance, characteristic, value, steps),
+        Edit::Retract {
+            instance,
+            characteristic,
+        } => retract(plan, session, instance, characteristic, steps),
+        Edit::Drop {
+            instance,
+            characteristic,
+            value,
+        } => drop_value(plan, session, instance, characteristic, value, steps),
+        Edit::Restore { users } => {
+            session.restore(plan, users, steps);
+            Ok(())
+        }
     }
 }

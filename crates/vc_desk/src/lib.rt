@@ -1,9 +1,10 @@
-//! The desk: open sessions of a plan by their names, and what is answered to a request.
+//! The desk: open sessions of a plan by their names, texts that are saved, and what is answered to a request.
 #![tactic(auto)]
 
 pub mod desk;
 pub mod edits;
 pub mod reasons;
+pub mod saved;
 pub mod sessions;
 pub mod telling;
 pub mod words;

@@ -6,8 +6,8 @@ ghost use Rattle.std.specs.Option.{option_copied};
 ghost use Rattle.vc_plan.specs.Valid.{IsValid};
 ghost use Rattle.vc_session.specs.Sessions.{IsSessionOf};
 ghost use Rattle.vc_desk.specs.Answers.{Closes, EditsSession, Starts, TellsSession};
-ghost use Rattle.vc_desk.specs.Desks.{AreSessionsOf, Opens, RepliesTo, state_of};
-ghost use Rattle.vc_desk.specs.Edits.{after_edit};
+ghost use Rattle.vc_desk.specs.Desks.{AreSessionsOf, Opens, RepliesTo, open_of};
+ghost use Rattle.vc_desk.specs.Edits.{MayEdit, after_edit};
 ghost use Rattle.vc_desk.specs.States.{chosen_in};
 ghost use Rattle.vc_desk.specs.Telling.{text_told, told_as};
 
@@ -49,10 +49,17 @@ impl Model for Sessions {
     ghost view = { λ s. from_entries (map named_entry s.by_name.entries) };
 }
 
-fn refused(refusal: Refusal) -> Reply
+pub(crate) fn refused(refusal: Refusal) -> Reply
     ensures { result ≡ Reply.Refused refusal }
 {
     Reply::Refused { refusal }
+}
+
+// What is replied to an edit of no session.
+fn refuse(_which: Edit<'_>) -> Reply
+    ensures { result ≡ Reply.Refused Refusal.NoSession }
+{
+    refused(Refusal::NoSession)
 }
 
 // What is replied to an edit: how the session stands then, or why it is refused.
@@ -76,8 +83,8 @@ impl Sessions {
     ghost use Rattle.vc_plan.specs.Valid.{IsValid};
     ghost use Rattle.vc_desk.specs.Costing.{OpensOne, SpendsOnEdit};
     ghost use Rattle.vc_desk.specs.Answers.{Closes, EditsSession, Starts, TellsSession};
-    ghost use Rattle.vc_desk.specs.Desks.{AreSessionsOf, Opens, state_of};
-    ghost use Rattle.vc_desk.specs.Edits.{after_edit};
+    ghost use Rattle.vc_desk.specs.Desks.{AreSessionsOf, Opens, open_of};
+    ghost use Rattle.vc_desk.specs.Edits.{MayEdit, after_edit};
     ghost use Rattle.vc_desk.specs.Reasons.{AsksSession, asked_by};
     ghost use Rattle.vc_desk.specs.States.{chosen_in};
     ghost use Rattle.vc_desk.specs.Telling.{text_told, told_as};
@@ -97,7 +104,7 @@ impl Sessions {
         self.by_name.len()
     }
 
-    fn find(&self, name: &Word) -> Option<&Session>
+    pub(crate) fn find(&self, name: &Word) -> Option<&Session>
         ensures { option_copied result ≡ get self.now name.now }
     {
         self.by_name.get(name.bytes())
@@ -120,7 +127,7 @@ impl Sessions {
     pub fn open(&mut self, alloc: Global, plan: &Plan, name: &Word) -> Reply
         requires valid { IsValid plan.now }
         requires of { AreSessionsOf plan.now self.old }
-        ensures starts { Starts plan.now (state_of self.old) name.now result (state_of self.new) }
+        ensures starts { Starts plan.now (open_of self.old) name.now result (open_of self.new) }
         ensures opens { OpensOne plan.now name.now self.old self.new }
         ensures of { AreSessionsOf plan.now self.new }
     {
@@ -139,8 +146,8 @@ impl Sessions {
     /// Closes the session of this name.
     pub fn close(&mut self, plan: &Plan, name: &Word) -> Reply
         requires of { AreSessionsOf plan.now self.old }
-        ensures closes { Closes (state_of self.old) name.now (chosen_in (state_of self.old) name.now) result
-            (state_of self.new) }
+        ensures closes { Closes (open_of self.old) name.now (chosen_in (open_of self.old) name.now) result
+            (open_of self.new) }
         ensures of { AreSessionsOf plan.now self.new }
         ensures gone { self.new ≡ remove self.old name.now }
     {
@@ -161,25 +168,23 @@ impl Sessions {
         &mut self,
         plan: &Plan,
         name: &Word,
-        instance: u32,
-        characteristic: &Word,
         which: Edit<'_>,
         steps: &mut Steps<L>,
     ) -> Reply
         requires valid { IsValid plan.now }
         requires of { AreSessionsOf plan.now self.old }
-        ensures edits { EditsSession plan.now (state_of self.old) name.now
-            (after_edit which.entry plan.now instance characteristic.now)
-            (chosen_in (state_of self.old) name.now) result (state_of self.new) }
+        requires may { MayEdit plan.now which }
+        ensures edits { EditsSession plan.now (open_of self.old) name.now (after_edit which.entry plan.now)
+            (chosen_in (open_of self.old) name.now) result (open_of self.new) }
         ensures of { AreSessionsOf plan.now self.new }
         ensures spends { SpendsOnEdit plan.now name.now self.old self.new result steps.old steps.new }
     {
         match self.by_name.get_mut(name.bytes()) {
             Some(session) => {
-                let edited = apply(plan, session, instance, characteristic, which, steps);
+                let edited = apply(plan, session, which, steps);
                 reply_to_edit(plan, session, edited)
             }
-            None => refused(Refusal::NoSession),
+            None => refuse(which),
         }
     }
 
@@ -188,7 +193,7 @@ impl Sessions {
         requires valid { IsValid plan.now }
         requires of { AreSessionsOf plan.now self.now }
         ensures { TellsSession plan.now (told_as what) (text_told what)
-            (chosen_in (state_of self.now) name.now) result }
+            (chosen_in (open_of self.now) name.now) result }
     {
         match self.find(name) {
             Some(session) => tell(alloc, plan, session, what),
@@ -200,7 +205,7 @@ impl Sessions {
     pub fn explain(&self, alloc: Global, plan: &Plan, name: &Word, question: Question<'_>) -> Reply
         requires valid { IsValid plan.now }
         requires of { AreSessionsOf plan.now self.now }
-        ensures { AsksSession plan.now (asked_by question.entry) (chosen_in (state_of self.now) name.now) result }
+        ensures { AsksSession plan.now (asked_by question.entry) (chosen_in (open_of self.now) name.now) result }
     {
         match self.find(name) {
             Some(session) => answer(alloc, plan, session, question),

@@ -7,8 +7,10 @@ use Rattle.vc_desk.proofs.desk.answer_with.Goals as goal
 
 pub returns-in-Start-clause-applies : goal.returns-in-Start-clause-applies
 returns-in-Start-clause-applies g c =
-    subst (λ request. Apply c.args.plan.now (state_of c.args.sessions.now) request c.open.result
-    (state_of c.open.new.self)) (sym c.in-Start.is) c.open.ensures.starts
+    let texts = g.K.Keeper.texts c.args.keeper.now in
+    let faults = g.K.Keeper.faults c.args.keeper.now in
+    subst (λ request. Apply c.args.plan.now (state_of c.args.sessions.now texts faults) request c.open.result
+    (state_of c.open.new.self texts faults)) (sym c.in-Start.is) (c.open.ensures.starts, (refl, refl))
 
 pub returns-in-Start-clause-spends : goal.returns-in-Start-clause-spends
 returns-in-Start-clause-spends g c =
@@ -35,3 +37,8 @@ pub returns-in-Drop-clause-spends : goal.returns-in-Drop-clause-spends
 returns-in-Drop-clause-spends g c =
     subst (λ request. AnswerSpends c.args.plan.now c.args.sessions.now request c.edit-in-Drop.result
     c.edit-in-Drop.new.self c.args.steps.now c.edit-in-Drop.new.steps) (sym c.in-Drop.is) c.edit-in-Drop.ensures.spends
+
+pub returns-in-Load-clause-spends : goal.returns-in-Load-clause-spends
+returns-in-Load-clause-spends g c =
+    subst (λ request. AnswerSpends c.args.plan.now c.args.sessions.now request c.load.result c.load.new.sessions
+    c.args.steps.now c.load.new.steps) (sym c.in-Load.is) c.load.ensures.spends

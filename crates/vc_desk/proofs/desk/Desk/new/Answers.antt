@@ -1,11 +1,11 @@
 -- No session is open.
 use Rattle.std.proofs.Common.{◌∙◌, ap, subst, sym}
-use Rattle.vc_desk.specs.Desks.{AreSessionsOf, state_of}
-use Rattle.vc_desk.proofs.StateLaws.{no_sessions, state_none}
+use Rattle.vc_desk.specs.Desks.{AreSessionsOf, open_of}
+use Rattle.vc_desk.proofs.OpenLaws.{no_sessions, none_open}
 use Rattle.vc_desk.proofs.desk.Desk.new.Goals as goal
 
 pub returns-clause-none : goal.returns-clause-none
-returns-clause-none c = ap state_of c.new.ensures ∙ state_none
+returns-clause-none c = ap open_of c.new.ensures ∙ none_open
 
 pub returns-clause-is : goal.returns-clause-is
 returns-clause-is c = record {

@@ -7,13 +7,13 @@ use Rattle.vc_desk.specs.Answers.{EditsSession}
 use Rattle.vc_session.specs.Costing.{EditCosts}
 use Rattle.vc_wire_replies.specs.declared.reply.Refusal.TheVariants.{NoSession}
 use Rattle.vc_desk.specs.Costing.{SpendsOnEdit, unedited}
-use Rattle.vc_desk.specs.Desks.{AreSessionsOf, RepliesTo, named_entry, state_of}
+use Rattle.vc_desk.specs.Desks.{AreSessionsOf, RepliesTo, named_entry, open_of}
 use Rattle.vc_desk.proofs.CostLaws.{edits_spend}
 use Rattle.vc_desk.specs.Edits.{after_edit}
 use Rattle.vc_desk.specs.States.{chosen_in}
 use Rattle.vc_desk.proofs.AnswerLaws.{edits_none, edits_one}
 use Rattle.vc_outside.proofs.NameLaws.{found, value_set}
-use Rattle.vc_desk.proofs.StateLaws.{changed_sessions, one_of}
+use Rattle.vc_desk.proofs.OpenLaws.{changed_sessions, one_of}
 use Rattle.vc_desk.proofs.sessions.Sessions.edit.Goals as goal
 use Rattle.vc_desk.proofs.sessions.Sessions.edit.Goals.{in-Some, in-None}
 
@@ -28,18 +28,18 @@ pub returns-clause-edits : goal.returns-clause-edits
 returns-clause-edits g c =
     let old = c.args.self.now in
     let plan = c.args.plan.now in
-    let edit = after_edit c.args.which plan c.args.instance c.args.characteristic.now in
+    let edit = after_edit c.args.which plan in
     let name = c.bytes.result.now in
     let entries = c.self.inside.by_name.entries in
     let seen = ap (λ m. get m name) (sym c.self.view_is) ∙ found (λ key. key.items) entries name in
-    subst (λ name. EditsSession plan (state_of old) name edit (chosen_in (state_of old) name) c.match-get_mut.result
-    (state_of (from_entries (map named_entry c.match-get_mut.self-inside.by_name.entries)))) c.bytes.ensures
+    subst (λ name. EditsSession plan (open_of old) name edit (chosen_in (open_of old) name) c.match-get_mut.result
+    (open_of (from_entries (map named_entry c.match-get_mut.self-inside.by_name.entries)))) c.bytes.ensures
     (elim c.match-get_mut.branch [
       | in-Some w ↦
           let there = sym c.get_mut.ensures.value ∙ ap option_copied_mut w.in-Some.is in
           let new = w.apply-edited.new.session in
-          subst (λ sessions. EditsSession plan (state_of old) name edit (chosen_in (state_of old) name)
-          c.match-get_mut.result (state_of sessions))
+          subst (λ sessions. EditsSession plan (open_of old) name edit (chosen_in (open_of old) name)
+          c.match-get_mut.result (open_of sessions))
           (sym (ap (λ i. from_entries (map named_entry i.by_name.entries)) w.self-inside-is
           ∙ ap (λ es. from_entries (map named_entry es)) (c.get_mut.follows.holds new).0
           ∙ value_set (λ key. key.items) entries name new w.in-Some.session.now there
@@ -49,11 +49,11 @@ returns-clause-edits g c =
           (subst (RepliesTo plan new.users w.apply-edited.result) (sym w.result-is) w.reply_to_edit.ensures))
       | in-None w ↦
           let there = sym c.get_mut.ensures.value ∙ ap option_copied_mut w.in-None.is in
-          subst (λ sessions. EditsSession plan (state_of old) name edit (chosen_in (state_of old) name)
-          c.match-get_mut.result (state_of sessions))
+          subst (λ sessions. EditsSession plan (open_of old) name edit (chosen_in (open_of old) name)
+          c.match-get_mut.result (open_of sessions))
           (sym (ap (λ i. from_entries (map named_entry i.by_name.entries)) w.self-inside-is
           ∙ ap (λ m. from_entries (map named_entry m.entries)) c.get_mut.follows.holds-at-none ∙ c.self.view_is))
-          (edits_none old name plan edit c.match-get_mut.result (seen ∙ there) (w.result-is ∙ w.refused.ensures))
+          (edits_none old name plan edit c.match-get_mut.result (seen ∙ there) (w.result-is ∙ w.refuse.ensures))
     ])
 
 pub returns-clause-of : goal.returns-clause-of
@@ -107,7 +107,7 @@ returns-clause-spends g c =
           w.apply-edited.ensures.cost)
           (subst (RepliesTo plan new.users w.apply-edited.result) (sym w.result-is) w.reply_to_edit.ensures))
       | in-None w ↦
-          unedited NoSession (w.result-is ∙ w.refused.ensures)
+          unedited NoSession (w.result-is ∙ w.refuse.ensures)
           (ap (λ i. from_entries (map named_entry i.by_name.entries)) w.self-inside-is
           ∙ ap (λ m. from_entries (map named_entry m.entries)) c.get_mut.follows.holds-at-none ∙ c.self.view_is)
           w.steps-is

@@ -6,10 +6,10 @@ use Rattle.vc_plan_users.specs.Choosing.{users_of}
 use Rattle.vc_wire_replies.specs.declared.reply.Refusal.TheVariants.{NameTaken, TooManySessions}
 use Rattle.vc_desk.specs.Answers.{exhausted, refused, started}
 use Rattle.vc_desk.specs.Costing.{opened, unopened}
-use Rattle.vc_desk.specs.Desks.{AreSessionsOf, state_of}
+use Rattle.vc_desk.specs.Desks.{AreSessionsOf, open_of}
 use Rattle.vc_desk.specs.States.{with_session}
 use Rattle.vc_desk.proofs.AnswerLaws.{may_open, name_taken, some_copied, too_many}
-use Rattle.vc_desk.proofs.StateLaws.{opened_sessions, state_put}
+use Rattle.vc_desk.proofs.OpenLaws.{opened_sessions, open_put}
 use Rattle.vc_desk.proofs.sessions.Sessions.open.Goals as goal
 
 pub returns-then-is_some-clause-starts : goal.returns-then-is_some-clause-starts
@@ -36,9 +36,9 @@ returns-in-Ok-clause-starts c =
     let opens = c.in-Ok.ensures.opened in
     started c.in-Ok.status (may_open c.args.self.now c.args.name.now free room)
     (subst (λ chosen. IsStatus c.args.plan.now (users_of chosen) c.in-Ok.status) opens.none opens.stands) refl
-    (ap state_of opens.put
-    ∙ state_put c.args.self.now c.args.name.now opens.session
-    ∙ ap (with_session (state_of c.args.self.now) c.args.name.now) opens.none)
+    (ap open_of opens.put
+    ∙ open_put c.args.self.now c.args.name.now opens.session
+    ∙ ap (with_session (open_of c.args.self.now) c.args.name.now) opens.none)
 
 pub returns-in-Ok-clause-of : goal.returns-in-Ok-clause-of
 returns-in-Ok-clause-of c =
@@ -53,7 +53,7 @@ returns-in-Err-clause-starts c =
     (sym c.is_some.ensures ∙ c.if-is_some.false) in
     let room : len c.args.self.now < 32 = omega (arith, c.count.ensures, c.if-count-ge-SESSION_LIMIT.false) in
     exhausted (may_open c.args.self.now c.args.name.now free room) c.refused-in-Err.ensures
-    (ap state_of c.in-Err.ensures.as_before)
+    (ap open_of c.in-Err.ensures.as_before)
 
 pub returns-then-is_some-clause-opens : goal.returns-then-is_some-clause-opens
 returns-then-is_some-clause-opens c = unopened refl

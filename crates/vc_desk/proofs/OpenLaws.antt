@@ -14,8 +14,8 @@ use Rattle.std.specs.Ordering.{is_lt, nat_cmp}
 use Rattle.vc_plan.specs.declared.plans.Plan.{Plan}
 use Rattle.vc_plan_users.specs.Choosing.{Chosen}
 use Rattle.vc_session.specs.Sessions.{IsSessionOf, Opened}
-use Rattle.vc_desk.specs.Desks.{AreSessionsOf, chosen_entry, state_of}
-use Rattle.vc_desk.specs.States.{ByName, State, chosen_in, open_count, start_state, with_session, without_session}
+use Rattle.vc_desk.specs.Desks.{AreSessionsOf, chosen_entry, open_of}
+use Rattle.vc_desk.specs.States.{ByName, chosen_in, open_count, with_session, without_session}
 use Rattle.vc_outside.proofs.NameLaws.{is_name, name_is, same_answers}
 
 abbrev users_in : Option Opened → Option Chosen
@@ -34,64 +34,60 @@ found_chosen q (entry ∷ sessions) = by (is_name q entry.0) (found_chosen q ses
     by true rest = refl
     by false rest = rest
 
-pub chosen_of : (sessions : ByName Opened) (q : List ℕ) → chosen_in (state_of sessions) q ≡ users_in (get sessions q)
+pub chosen_of : (sessions : ByName Opened) (q : List ℕ) → chosen_in (open_of sessions) q ≡ users_in (get sessions q)
 chosen_of sessions q =
     get-from_entries nat_list_cmp_total (map chosen_entry (entries sessions)) q
     ∙ found_chosen q (entries sessions)
     ∙ ap users_in (sym (get-entries sessions q))
-
--- two states that answer alike
-same_states : (m n : State) → ((q : List ℕ) → chosen_in m q ≡ chosen_in n q) → m ≡ n
-same_states m n same = ap (λ sessions. record { sessions = sessions }) (same_answers m.sessions n.sessions same)
 
 users_cond : (b : Bool) (new other : Option Opened)
     → users_in (cond b new other) ≡ cond b (users_in new) (users_in other)
 users_cond true new other = refl
 users_cond false new other = refl
 
-pub state_none : state_of empty ≡ start_state
-state_none = same_states (state_of empty) start_state (λ q.
+pub none_open : open_of empty ≡ empty
+none_open = same_answers (open_of empty) empty (λ q.
     chosen_of empty q ∙ ap users_in (get-empty (slice_cmp nat_cmp) q) ∙ sym (get-empty (slice_cmp nat_cmp) q))
 
-pub state_put : (sessions : ByName Opened) (name : List ℕ) (new : Opened)
-    → state_of (insert sessions name new) ≡ with_session (state_of sessions) name new.users
-state_put sessions name new =
-    same_states (state_of (insert sessions name new)) (with_session (state_of sessions) name new.users) (λ q.
+pub open_put : (sessions : ByName Opened) (name : List ℕ) (new : Opened)
+    → open_of (insert sessions name new) ≡ with_session (open_of sessions) name new.users
+open_put sessions name new =
+    same_answers (open_of (insert sessions name new)) (with_session (open_of sessions) name new.users) (λ q.
     chosen_of (insert sessions name new) q
     ∙ ap users_in (get-insert nat_list_cmp_total sessions name new q)
     ∙ users_cond (is_name q name) (Some new) (get sessions q)
     ∙ ap (cond (is_name q name) (Some new.users)) (sym (chosen_of sessions q))
-    ∙ sym (get-insert nat_list_cmp_total (state_of sessions).sessions name new.users q))
+    ∙ sym (get-insert nat_list_cmp_total (open_of sessions) name new.users q))
 
-pub state_removed : (sessions : ByName Opened) (name : List ℕ)
-    → state_of (remove sessions name) ≡ without_session (state_of sessions) name
-state_removed sessions name =
-    same_states (state_of (remove sessions name)) (without_session (state_of sessions) name) (λ q.
+pub open_removed : (sessions : ByName Opened) (name : List ℕ)
+    → open_of (remove sessions name) ≡ without_session (open_of sessions) name
+open_removed sessions name =
+    same_answers (open_of (remove sessions name)) (without_session (open_of sessions) name) (λ q.
     chosen_of (remove sessions name) q
     ∙ ap users_in (get-remove nat_list_cmp_total sessions name q)
     ∙ users_cond (is_name q name) None (get sessions q)
     ∙ ap (cond (is_name q name) none) (sym (chosen_of sessions q))
-    ∙ sym (get-remove nat_list_cmp_total (state_of sessions).sessions name q))
+    ∙ sym (get-remove nat_list_cmp_total (open_of sessions) name q))
   where
     none : Option Chosen
     none = None
 
 -- another session in the place of one in which the same is chosen
-pub state_kept : (sessions : ByName Opened) (name : List ℕ) (old new : Opened) → get sessions name ≡ Some old
-    → new.users ≡ old.users → state_of (insert sessions name new) ≡ state_of sessions
-state_kept sessions name old new there same =
-    state_put sessions name new
-    ∙ same_states (with_session (state_of sessions) name new.users) (state_of sessions) (λ q.
-    get-insert nat_list_cmp_total (state_of sessions).sessions name new.users q ∙ by q (is_name q name) refl)
+pub open_kept : (sessions : ByName Opened) (name : List ℕ) (old new : Opened) → get sessions name ≡ Some old
+    → new.users ≡ old.users → open_of (insert sessions name new) ≡ open_of sessions
+open_kept sessions name old new there same =
+    open_put sessions name new
+    ∙ same_answers (with_session (open_of sessions) name new.users) (open_of sessions) (λ q.
+    get-insert nat_list_cmp_total (open_of sessions) name new.users q ∙ by q (is_name q name) refl)
   where
     by : (q : List ℕ) (b : Bool) → is_name q name ≡ b
-        → cond b (Some new.users) (chosen_in (state_of sessions) q) ≡ chosen_in (state_of sessions) q
+        → cond b (Some new.users) (chosen_in (open_of sessions) q) ≡ chosen_in (open_of sessions) q
     by q true e =
         ap Some same
-        ∙ sym (ap (chosen_in (state_of sessions)) (name_is q name e) ∙ chosen_of sessions name ∙ ap users_in there)
+        ∙ sym (ap (chosen_in (open_of sessions)) (name_is q name e) ∙ chosen_of sessions name ∙ ap users_in there)
     by q false e = refl
 
--- as many are open in the state; the entries ascend by the same names
+-- as many are open; the entries ascend by the same names
 below_chosen : (name : List ℕ) (sessions : List (List ℕ × Opened))
     → below_all (slice_cmp nat_cmp) name (map chosen_entry sessions) ≡ below_all (slice_cmp nat_cmp) name sessions
 below_chosen name [] = refl
@@ -117,7 +113,7 @@ count_chosen : (sessions : List (List ℕ × Opened)) → length (map chosen_ent
 count_chosen [] = refl
 count_chosen (entry ∷ sessions) = ap suc (count_chosen sessions)
 
-pub count_is : (sessions : ByName Opened) → open_count (state_of sessions) ≡ len sessions
+pub count_is : (sessions : ByName Opened) → open_count (open_of sessions) ≡ len sessions
 count_is sessions =
     length_sorted (map chosen_entry (entries sessions))
     (subst T (sym (sorted_chosen (entries sessions))) (entries_sorted sessions))
@@ -133,13 +129,15 @@ is_none_at None e = refl
 is_none_at (Some x) e = absurd (cc)
 
 -- nothing is taken out where there is nothing
-pub removed_none : (sessions : ByName Opened) (name : List ℕ) → is_some (get sessions name) ≡ false
-    → remove sessions name ≡ sessions
-removed_none sessions name none = same_answers (remove sessions name) sessions (λ q.
-    get-remove nat_list_cmp_total sessions name q ∙ by q (is_name q name) refl)
+pub removed_none : {X : Type 0} (m : ByName X) (name : List ℕ) → is_some (get m name) ≡ false → remove m name ≡ m
+removed_none {X = X} m name gone = same_answers (remove m name) m (λ q.
+    get-remove nat_list_cmp_total m name q ∙ by q (is_name q name) refl)
   where
-    by : (q : List ℕ) (b : Bool) → is_name q name ≡ b → cond b nobody (get sessions q) ≡ get sessions q
-    by q true e = sym (ap (get sessions) (name_is q name e) ∙ is_none_at (get sessions name) none)
+    nothing : Option X
+    nothing = None
+
+    by : (q : List ℕ) (b : Bool) → is_name q name ≡ b → cond b nothing (get m q) ≡ get m q
+    by q true e = sym (ap (get m) (name_is q name e) ∙ is_none_at (get m name) gone)
     by q false e = refl
 
 pub no_sessions : (plan : Plan) → AreSessionsOf plan empty
