@@ -1,4 +1,5 @@
-//! The program `configd`: hands the words, the files and standard output to the top call, and ends with its status.
+//! The program `configd`: hands the words, the files, a database of saved sessions and standard output to the top call,
+//! and ends with its status.
 #![tactic(auto)]
 
 use std::alloc::AllocError;
@@ -6,6 +7,7 @@ use std::env;
 use std::process::ExitCode;
 use vc_app::desk;
 use vc_outside::{FileShelf, StdSink};
+use vc_store_sqlite::SqlKeeper;
 
 /// The words of the command line, the program's name first; none where they can't be had.
 fn arguments(rt: &HostRuntime) -> Vec<String> {
@@ -22,7 +24,9 @@ fn main(rt: HostRuntime) -> ExitCode {
         [_, words @ ..] => words,
         [] => &[],
     };
+    let alloc = rt.alloc();
     let mut shelf = FileShelf::new(&rt);
     let mut sink = StdSink::new(rt.stdout());
-    ExitCode::from(desk(rt.alloc(), words, &mut shelf, &mut sink))
+    let mut keeper = SqlKeeper::new(rt);
+    ExitCode::from(desk(alloc, words, &mut shelf, &mut keeper, &mut sink))
 }

@@ -1,6 +1,6 @@
 -- Laws of endings.
 use Rattle.std.proofs.Common.{◌≡◌, ℕ, ◌<◌, ◌≤◌, Bool, true, List, [], ◌∷◌, length, get_or, sym, ap, ◌∙◌, arith, subst}
-use Rattle.std.proofs.Common.{Option, Result, Ok, Err, IfOk, IfErr, OnOk, OnErr}
+use Rattle.std.proofs.Common.{Option, Some, Result, Ok, Err, IfOk, IfErr, OnOk, OnErr}
 use Rattle.std.specs.Prelude.{codes, string_bytes}
 use Rattle.std.specs.Str.{bytes_eq}
 use Rattle.std.specs.declared.string.String.{String}
@@ -11,10 +11,9 @@ use Rattle.vc_outside.specs.Faults.{HasCause}
 use Rattle.vc_outside.specs.Shelves.{Files}
 use Rattle.vc_outside.specs.Sinks.{AppendsFront}
 use Rattle.vc_outside.specs.declared.fault.Failed.{Failed}
-use Rattle.vc_app_models.specs.declared.stop.ModelStop.{ModelStop}
-use Rattle.vc_app_models.specs.declared.stop.ModelStop.TheVariants.{OutOfMemory}
-use Rattle.vc_app.specs.Endings.{Words, Outside, IsCheck, IsRun, IsToldAs, LoadsJob, LoadsRun, StopsJob, Causes}
-use Rattle.vc_app.specs.Endings.{EndsJob, EndsStop, Ends, HasSinkCause, exhausted, itself, said, stop_line}
+use Rattle.vc_app.specs.Endings.{Words, Outside, Keeping, IsCheck, IsRun, IsToldAs, LoadsJob, LoadsRun, StopsJob}
+use Rattle.vc_app.specs.Endings.{Causes, StopCauses, EndsJob, EndsStop, Ends, HasSinkCause, exhausted, itself}
+use Rattle.vc_app.specs.Endings.{keep_file, said, stop_line, without_job, without_keeper}
 use Rattle.vc_app.specs.declared.loading.Job.{Job}
 use Rattle.vc_app.specs.declared.ending.Stop.{Stop}
 use Rattle.vc_app.specs.declared.ending.Stop.TheVariants as stops
@@ -27,6 +26,7 @@ run_stops : (words : Words) (files : Option Files) (before after : ℕ) (model s
 run_stops words files before after model script stops.Usage command h = absurd h
 run_stops words files before after model script (stops.Model stop) command h = (model, script, command, h)
 run_stops words files before after model script (stops.ScriptUnread fault) command h = (model, script, command, h)
+run_stops words files before after model script (stops.Keeper fault) command h = absurd h
 
 pub run_causes : {A : Type 0} (r : Result A Stop) (words : Words) (files : Option Files) (before after : ℕ)
     (model script : List ℕ)
@@ -42,18 +42,19 @@ run_loads (Ok job) words files model script command h = (model, script, command,
 run_loads (Err e) words files model script command h = tt
 
 -- a job that the words ask for ends so
-pub job_ends : (words : Words) (o : Outside) (job : Job) (ending : Ending)
-    → LoadsRun words o.files job → EndsJob job o.written_before o.written_after ending → Ends words o ending
-job_ends words o job endings.Answered loads ends = (job, loads, ends)
-job_ends words o job endings.Exhausted loads ends = (job, loads, ends)
-job_ends words o job endings.AnswerCut loads ends = (job, loads, ends)
-job_ends words o job endings.ExhaustedCut loads ends = (job, loads, ends)
-job_ends words o job (endings.Stopped stop) loads ends = absurd ends
-job_ends words o job (endings.MessageCut stop) loads ends = absurd ends
+pub job_ends : (words : Words) (o : Outside) (k : Keeping) (job : Job) (ending : Ending)
+    → LoadsRun words o.files job → k.begun ≡ Some (keep_file words)
+    → EndsJob job k o.written_before o.written_after ending → Ends words o k ending
+job_ends words o k job endings.Answered loads begun ends = (job, loads, begun, ends)
+job_ends words o k job endings.Exhausted loads begun ends = (job, loads, begun, ends)
+job_ends words o k job endings.AnswerCut loads begun ends = (job, loads, begun, ends)
+job_ends words o k job endings.ExhaustedCut loads begun ends = (job, loads, begun, ends)
+job_ends words o k job (endings.Stopped stop) loads begun ends = absurd ends
+job_ends words o k job (endings.MessageCut stop) loads begun ends = absurd ends
 
--- three words of which the first is `run`
+-- three words or four, of which the first is `run`
 pub run_words : (words : Words) (a b d : String Global) (command model script : List ℕ) (is_run : Bool)
-    → 3 ≤ length words → length words < 4 → a ≡ get_or words 0 a → b ≡ get_or words 1 b → d ≡ get_or words 2 d
+    → 3 ≤ length words → length words < 5 → a ≡ get_or words 0 a → b ≡ get_or words 1 b → d ≡ get_or words 2 d
     → command ≡ string_bytes a → model ≡ string_bytes b → script ≡ string_bytes d
     → is_run ≡ bytes_eq command (codes "run") → is_run ≡ true → IsRun words model script
 run_words [] a b d command model script is_run least most p q r s t u test holds = absurd (omega arith)
@@ -62,7 +63,10 @@ run_words (x ∷ y ∷ []) a b d command model script is_run least most p q r s 
 run_words (x ∷ y ∷ z ∷ []) a b d command model script is_run least most p q r s t u test holds =
     let run : command ≡ codes "run" = (bytes_eq-Decides command (codes "run")).0 (sym test ∙ holds) in
     cc
-run_words (x ∷ y ∷ z ∷ w ∷ more) a b d command model script is_run least most p q r s t u test holds = absurd
+run_words (x ∷ y ∷ z ∷ w ∷ []) a b d command model script is_run least most p q r s t u test holds =
+    let run : command ≡ codes "run" = (bytes_eq-Decides command (codes "run")).0 (sym test ∙ holds) in
+    cc
+run_words (x ∷ y ∷ z ∷ w ∷ v ∷ more) a b d command model script is_run least most p q r s t u test holds = absurd
     (omega arith)
 
 -- two words of which the first is `check`
@@ -83,24 +87,27 @@ one_name words a b p q =
     let e : codes "check" ∷ (a ∷ []) ≡ codes "check" ∷ (b ∷ []) = sym p ∙ q in ap (λ xs. get_or xs 1 a) e
 
 -- what is told of a stop has its cause
-told_causes : (words : Words) (files : Option Files) (before after : ℕ) (stop told : Stop) → IsToldAs stop told
-    → Causes words files before after stop → Causes words files before after told
-told_causes words files before after stop told (itself same) c = subst (Causes words files before after) (sym same) c
-told_causes words files before after stop told (exhausted of is same) c =
-    let run : Causes words files before after (stops.Model of) = subst (Causes words files before after) is c in
-    subst (Causes words files before after) (sym same) (run.0, run.1, run.2, tt)
+told_causes : (words : Words) (o : Outside) (k : Keeping) (stop told : Stop) → IsToldAs stop told
+    → StopCauses words o k stop → StopCauses words o k told
+told_causes words o k stop told (itself same) c = subst (StopCauses words o k) (sym same) c
+told_causes words o k stop told (exhausted of is same) (without_job c) =
+    let run : Causes words o.files o.shelf_before o.shelf_after (stops.Model of) =
+    subst (Causes words o.files o.shelf_before o.shelf_after) is c in
+    without_job (subst (Causes words o.files o.shelf_before o.shelf_after) (sym same) (run.0, run.1, run.2, tt))
+told_causes words o k stop told (exhausted of is same) (without_keeper job fault loads raises keeper) =
+    absurd (let no : stops.Model of ≡ stops.Keeper fault = sym is ∙ keeper in cc)
 
-pub stop_ends : (words : Words) (o : Outside) (stop : Stop) (ending : Ending)
-    → Causes words o.files o.shelf_before o.shelf_after stop
-    → EndsStop words stop o.written_before o.written_after ending → Ends words o ending
-stop_ends words o stop (endings.Stopped told) c ends =
-    (told_causes words o.files o.shelf_before o.shelf_after stop told ends.0 c, ends.1)
-stop_ends words o stop (endings.MessageCut told) c ends =
-    (told_causes words o.files o.shelf_before o.shelf_after stop told ends.0 c, ends.1)
-stop_ends words o stop endings.Answered c ends = absurd ends
-stop_ends words o stop endings.Exhausted c ends = absurd ends
-stop_ends words o stop endings.AnswerCut c ends = absurd ends
-stop_ends words o stop endings.ExhaustedCut c ends = absurd ends
+pub stop_ends : (words : Words) (o : Outside) (k : Keeping) (stop : Stop) (ending : Ending)
+    → StopCauses words o k stop → k.saved_after ≡ k.saved_before
+    → EndsStop words stop o.written_before o.written_after ending → Ends words o k ending
+stop_ends words o k stop (endings.Stopped told) c saved ends =
+    (record { cause = told_causes words o k stop told ends.0 c; saved = saved }, ends.1)
+stop_ends words o k stop (endings.MessageCut told) c saved ends =
+    (record { cause = told_causes words o k stop told ends.0 c; saved = saved }, ends.1)
+stop_ends words o k stop endings.Answered c saved ends = absurd ends
+stop_ends words o k stop endings.Exhausted c saved ends = absurd ends
+stop_ends words o k stop endings.AnswerCut c saved ends = absurd ends
+stop_ends words o k stop endings.ExhaustedCut c saved ends = absurd ends
 
 -- how saying it ends, by whether its line was written
 pub said_ends : (words : Words) (stop told : Stop) (old new : Option (List ℕ)) (written : Result Unit Failed)

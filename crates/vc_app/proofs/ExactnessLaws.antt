@@ -1,16 +1,19 @@
 -- Words and files decide one thing alone: what they come to, and so what is said and the status.
 use Rattle.std.proofs.Common.{◌≡◌, ◌≢◌, ℕ, List, refl, ap, subst, ◌∙◌, Some}
 use Rattle.vc_outside.specs.Faults.{Raised}
+use Rattle.vc_outside.specs.Keepers.{RaisesFor}
 use Rattle.vc_outside.specs.Shelves.{Files}
 use Rattle.vc_outside.specs.declared.file.FileFault.{FileFault}
+use Rattle.vc_outside.specs.declared.keeper.KeepFault.{KeepFault}
+use Rattle.vc_outside.specs.declared.keeper.KeepFault.TheVariants as keep_faults
 use Rattle.vc_compile_plan.specs.Trees.{Spot}
 use Rattle.vc_app_models.specs.Loading.{IsPlanIn, IsStop, IsUnread}
 use Rattle.vc_app_models.specs.declared.stop.ModelStop.{ModelStop}
 use Rattle.vc_app_models.proofs.OneLaws.{IsHeldFault, held, is_held, no_stop, one_held_fault, one_stop, unread_is}
 use Rattle.vc_app_check.specs.Statuses as statuses
 use Rattle.vc_app_check.proofs.CheckLaws.{told_fault, told_stop}
-use Rattle.vc_app.specs.Endings.{Words, Outside, IsRun, LoadsRun, Causes, Ends, EndsWith, HasSinkCause, status_of}
-use Rattle.vc_app.specs.Endings.{stop_status}
+use Rattle.vc_app.specs.Endings.{Words, Outside, Keeping, IsRun, LoadsRun, Causes, StopCauses, Ends, EndsWith}
+use Rattle.vc_app.specs.Endings.{HasSinkCause, status_of, stop_status, without_job, without_keeper}
 use Rattle.vc_app.specs.Statuses.{Says}
 use Rattle.vc_app.specs.Exactness.{IsExact, IsQuiet, IsStopped}
 use Rattle.vc_app.specs.declared.loading.Job.{Job}
@@ -50,6 +53,10 @@ module _ (p : Spot) (words : Words) (files : Files) (before after : ℕ) (quiet 
   one_cause stops.Usage stops.Usage memory_a memory_b x y = refl
   one_cause stops.Usage (stops.Model b) memory_a memory_b x y = absurd (x y.0 y.1 y.2)
   one_cause stops.Usage (stops.ScriptUnread b) memory_a memory_b x y = absurd (x y.0 y.1 y.2)
+  one_cause stops.Usage (stops.Keeper b) memory_a memory_b x y = absurd y
+  one_cause (stops.Keeper a) b memory_a memory_b x y = absurd x
+  one_cause (stops.Model a) (stops.Keeper b) memory_a memory_b x y = absurd y
+  one_cause (stops.ScriptUnread a) (stops.Keeper b) memory_a memory_b x y = absurd y
   one_cause (stops.Model a) stops.Usage memory_a memory_b x y = absurd (y x.0 x.1 x.2)
   one_cause (stops.Model a) (stops.Model b) memory_a memory_b x y =
       ap stops.Model
@@ -69,6 +76,7 @@ module _ (p : Spot) (words : Words) (files : Files) (before after : ℕ) (quiet 
   no_cause : (job : Job) (stop : Stop) → stop_status stop ≢ 8 → LoadsRun words (Some files) job
       → Causes words (Some files) before after stop → ⊥
   no_cause job stops.Usage memory x y = y x.0 x.1 x.2
+  no_cause job (stops.Keeper fault) memory x y = absurd y
   no_cause job (stops.Model stop) memory x y =
       plan_or_stop (x.0, x.1, x.2) (y.0, y.1, y.2) stop memory (job.plan, x.3.loads) y.3
   no_cause job (stops.ScriptUnread fault) memory x y =
@@ -76,7 +84,8 @@ module _ (p : Spot) (words : Words) (files : Files) (before after : ℕ) (quiet 
       (fault_is (x.0, x.1, x.2) (y.0, y.1, y.2) fault memory y.3.2)
 
 -- so an ending is that of the cause, or of the job
-module _ (p : Spot) (words : Words) (files : Files) (o : Outside) (status : ℕ) (q : IsQuiet o files status) where
+module _ (p : Spot) (words : Words) (files : Files) (o : Outside) (k : Keeping) (status : ℕ)
+    (q : IsQuiet o files status) where
   caused : (stop : Stop) → Causes words o.files o.shelf_before o.shelf_after stop
       → Causes words (Some files) o.shelf_before o.shelf_after stop
   caused stop cause = subst (λ fs. Causes words fs o.shelf_before o.shelf_after stop) q.told cause
@@ -85,35 +94,54 @@ module _ (p : Spot) (words : Words) (files : Files) (o : Outside) (status : ℕ)
   loaded job loads = subst (λ fs. LoadsRun words fs job) q.told loads
 
   stopped_by : (stop : Stop) → stop_status stop ≢ 8 → Causes words o.files o.shelf_before o.shelf_after stop
-      → (ending : Ending) → status ≡ status_of ending → Ends words o ending
+      → (ending : Ending) → status ≡ status_of ending → Ends words o k ending
       → HasSinkCause o.sink_before o.sink_after ending → IsStopped words o status stop
   stopped_by stop memory cause endings.Answered number ends sink =
       absurd (no_cause p words files o.shelf_before o.shelf_after q.shelf ends.0 stop memory (loaded ends.0 ends.1)
       (caused stop cause))
-  stopped_by stop memory cause (endings.Stopped other) number ends sink =
-      let same : other ≡ stop
-      = one_cause p words files o.shelf_before o.shelf_after q.shelf other stop (λ eight. q.memory (number ∙ eight))
-      memory (caused other ends.0) (caused stop cause) in
-      record { ends = number ∙ ap stop_status same; says = subst (Says words o) same ends.1 }
+  stopped_by stop memory cause (endings.Stopped other) number ends sink = by ends.0.cause
+    where
+      by : StopCauses words o k other → IsStopped words o status stop
+      by (without_job c) =
+          let same : other ≡ stop
+          = one_cause p words files o.shelf_before o.shelf_after q.shelf other stop
+          (λ eight. q.memory (number ∙ eight)) memory (caused other c) (caused stop cause) in
+          record { ends = number ∙ ap stop_status same; says = subst (Says words o) same ends.1 }
+      by (without_keeper job fault loads raises same) =
+          absurd (no_cause p words files o.shelf_before o.shelf_after q.shelf job stop memory (loaded job loads)
+          (caused stop cause))
   stopped_by stop memory cause endings.Exhausted number ends sink = absurd (q.memory number)
   stopped_by stop memory cause (endings.MessageCut other) number ends sink = absurd (q.sink sink)
   stopped_by stop memory cause endings.AnswerCut number ends sink = absurd (q.sink sink)
   stopped_by stop memory cause endings.ExhaustedCut number ends sink = absurd (q.sink sink)
 
-  done_by : (job : Job) → LoadsRun words o.files job → (ending : Ending) → status ≡ status_of ending
-      → Ends words o ending → HasSinkCause o.sink_before o.sink_after ending → status ≡ 0
-  done_by job loads endings.Answered number ends sink = number
-  done_by job loads (endings.Stopped other) number ends sink =
-      absurd (no_cause p words files o.shelf_before o.shelf_after q.shelf job other (λ eight. q.memory (number ∙ eight))
-      (loaded job loads) (caused other ends.0))
-  done_by job loads endings.Exhausted number ends sink = absurd (q.memory number)
-  done_by job loads (endings.MessageCut other) number ends sink = absurd (q.sink sink)
-  done_by job loads endings.AnswerCut number ends sink = absurd (q.sink sink)
-  done_by job loads endings.ExhaustedCut number ends sink = absurd (q.sink sink)
+  no_keeper_fault : (fault : KeepFault) → ¬ Raised k.faults_before k.faults_after
+      → RaisesFor k.faults_before k.faults_after fault → status ≡ stop_status (stops.Keeper fault) → ⊥
+  no_keeper_fault keep_faults.Failed calm raises number = calm raises
+  no_keeper_fault keep_faults.OutOfMemory calm raises number = q.memory number
 
-pub exactly : Spot → (words : Words) (o : Outside) (status : ℕ) → EndsWith words o status → IsExact words o status
-exactly p words o status e = record {
+  done_by : ¬ Raised k.faults_before k.faults_after → (job : Job) → LoadsRun words o.files job → (ending : Ending)
+      → status ≡ status_of ending → Ends words o k ending → HasSinkCause o.sink_before o.sink_after ending
+      → status ≡ 0
+  done_by calm job loads endings.Answered number ends sink = number
+  done_by calm job loads (endings.Stopped other) number ends sink = absurd (by ends.0.cause)
+    where
+      by : StopCauses words o k other → ⊥
+      by (without_job c) =
+          no_cause p words files o.shelf_before o.shelf_after q.shelf job other (λ eight. q.memory (number ∙ eight))
+          (loaded job loads) (caused other c)
+      by (without_keeper done fault ready raises same) =
+          no_keeper_fault fault calm raises (number ∙ ap stop_status same)
+  done_by calm job loads endings.Exhausted number ends sink = absurd (q.memory number)
+  done_by calm job loads (endings.MessageCut other) number ends sink = absurd (q.sink sink)
+  done_by calm job loads endings.AnswerCut number ends sink = absurd (q.sink sink)
+  done_by calm job loads endings.ExhaustedCut number ends sink = absurd (q.sink sink)
+
+pub exactly : Spot → (words : Words) (o : Outside) (k : Keeping) (status : ℕ) → EndsWith words o k status
+    → IsExact words o k status
+exactly p words o k status e = record {
   stopped = λ files stop q memory cause.
-      stopped_by p words files o status q stop memory cause e.ending e.number e.ends e.cause;
-  complete = λ files job q loads. done_by p words files o status q job loads e.ending e.number e.ends e.cause;
+      stopped_by p words files o k status q stop memory cause e.ending e.number e.ends e.cause;
+  complete = λ files job q calm loads.
+      done_by p words files o k status q calm job loads e.ending e.number e.ends e.cause;
 }

@@ -1,7 +1,10 @@
 -- What an ending's status promises.
-use Rattle.std.proofs.Common.{◌≡◌, ℕ, true, refl, subst, arith, sym}
+use Rattle.std.proofs.Common.{◌≡◌, ◌≢◌, ℕ, true, refl, subst, arith, sym}
 use Rattle.vc_outside.specs.Faults.{Raised}
+use Rattle.vc_outside.specs.Keepers.{RaisesFor}
 use Rattle.vc_outside.specs.declared.file.FileFault.{FileFault}
+use Rattle.vc_outside.specs.declared.keeper.KeepFault.{KeepFault}
+use Rattle.vc_outside.specs.declared.keeper.KeepFault.TheVariants as keep_faults
 use Rattle.vc_outside.specs.declared.file.FileFault.TheVariants as faults
 use Rattle.vc_table.specs.declared.table.TableFault.{TableFault}
 use Rattle.vc_table.specs.declared.table.TableFault.TheVariants as tables
@@ -10,17 +13,17 @@ use Rattle.vc_compile_plan.specs.declared.fault.CompileFault.TheVariants as comp
 use Rattle.vc_app_models.specs.declared.stop.ModelStop.{ModelStop}
 use Rattle.vc_app_models.specs.declared.stop.ModelStop.TheVariants as model
 use Rattle.vc_app_check.specs.Statuses as statuses
-use Rattle.vc_app.specs.Endings.{Words, Outside, IsNoCommand, StopsRun, EndsRun, Ends, EndsWith, HasSinkCause}
-use Rattle.vc_app.specs.Endings.{status_of, stop_status}
-use Rattle.vc_app.specs.Statuses.{Says, SaysStop, is_cut, IsStatus}
+use Rattle.vc_app.specs.Endings.{Words, Outside, Keeping, IsNoCommand, Causes, StopCauses, StopsRun, EndsRun, Ends}
+use Rattle.vc_app.specs.Endings.{EndsWith, HasSinkCause, status_of, stop_status, without_job, without_keeper}
+use Rattle.vc_app.specs.Statuses.{Says, SaysKeeper, SaysStop, is_cut, IsStatus}
 use Rattle.vc_app.specs.declared.ending.Stop.{Stop}
 use Rattle.vc_app.specs.declared.ending.Stop.TheVariants as stops
 use Rattle.vc_app.specs.declared.ending.Ending.{Ending}
 use Rattle.vc_app.specs.declared.ending.Ending.TheVariants as endings
 
 -- the promise of status 0
-done_alone : (words : Words) (o : Outside) → (EndsRun words o endings.Answered) → IsStatus words o 0
-done_alone words o claim = record {
+done_alone : (words : Words) (o : Outside) (k : Keeping) → (EndsRun words o k endings.Answered) → IsStatus words o k 0
+done_alone words o k claim = record {
   known = refl;
   done = λ _. claim;
   usage = λ e. absurd (omega arith);
@@ -28,13 +31,14 @@ done_alone words o claim = record {
   no_such_file = λ e. absurd (omega arith);
   shelf_fault = λ e. absurd (omega arith);
   sink_fault = λ e. absurd (omega arith);
+  keeper_fault = λ e. absurd (omega arith);
   no_memory = λ e. absurd (omega arith);
   too_large = λ e. absurd (omega arith);
 }
 
 -- the promise of status 1
-usage_alone : (words : Words) (o : Outside) → (IsNoCommand words × Says words o stops.Usage) → IsStatus words o 1
-usage_alone words o claim = record {
+usage_alone : (words : Words) (o : Outside) (k : Keeping) → (IsNoCommand words × Says words o stops.Usage) → IsStatus words o k 1
+usage_alone words o k claim = record {
   known = refl;
   done = λ e. absurd (omega arith);
   usage = λ _. claim;
@@ -42,13 +46,14 @@ usage_alone words o claim = record {
   no_such_file = λ e. absurd (omega arith);
   shelf_fault = λ e. absurd (omega arith);
   sink_fault = λ e. absurd (omega arith);
+  keeper_fault = λ e. absurd (omega arith);
   no_memory = λ e. absurd (omega arith);
   too_large = λ e. absurd (omega arith);
 }
 
 -- the promise of status 2
-model_refused_alone : (words : Words) (o : Outside) → (SaysStop words o 2) → IsStatus words o 2
-model_refused_alone words o claim = record {
+model_refused_alone : (words : Words) (o : Outside) (k : Keeping) → (SaysStop words o 2) → IsStatus words o k 2
+model_refused_alone words o k claim = record {
   known = refl;
   done = λ e. absurd (omega arith);
   usage = λ e. absurd (omega arith);
@@ -56,13 +61,14 @@ model_refused_alone words o claim = record {
   no_such_file = λ e. absurd (omega arith);
   shelf_fault = λ e. absurd (omega arith);
   sink_fault = λ e. absurd (omega arith);
+  keeper_fault = λ e. absurd (omega arith);
   no_memory = λ e. absurd (omega arith);
   too_large = λ e. absurd (omega arith);
 }
 
 -- the promise of status 3
-no_such_file_alone : (words : Words) (o : Outside) → (SaysStop words o 3) → IsStatus words o 3
-no_such_file_alone words o claim = record {
+no_such_file_alone : (words : Words) (o : Outside) (k : Keeping) → (SaysStop words o 3) → IsStatus words o k 3
+no_such_file_alone words o k claim = record {
   known = refl;
   done = λ e. absurd (omega arith);
   usage = λ e. absurd (omega arith);
@@ -70,14 +76,15 @@ no_such_file_alone words o claim = record {
   no_such_file = λ _. claim;
   shelf_fault = λ e. absurd (omega arith);
   sink_fault = λ e. absurd (omega arith);
+  keeper_fault = λ e. absurd (omega arith);
   no_memory = λ e. absurd (omega arith);
   too_large = λ e. absurd (omega arith);
 }
 
 -- the promise of status 4
-shelf_fault_alone : (words : Words) (o : Outside) → (SaysStop words o 4 × Raised o.shelf_before o.shelf_after)
-    → IsStatus words o 4
-shelf_fault_alone words o claim = record {
+shelf_fault_alone : (words : Words) (o : Outside) (k : Keeping) → (SaysStop words o 4 × Raised o.shelf_before o.shelf_after)
+    → IsStatus words o k 4
+shelf_fault_alone words o k claim = record {
   known = refl;
   done = λ e. absurd (omega arith);
   usage = λ e. absurd (omega arith);
@@ -85,15 +92,16 @@ shelf_fault_alone words o claim = record {
   no_such_file = λ e. absurd (omega arith);
   shelf_fault = λ _. claim;
   sink_fault = λ e. absurd (omega arith);
+  keeper_fault = λ e. absurd (omega arith);
   no_memory = λ e. absurd (omega arith);
   too_large = λ e. absurd (omega arith);
 }
 
 -- the promise of status 5
-sink_fault_alone : (words : Words) (o : Outside)
-    → (Raised o.sink_before o.sink_after × (ending : Ending) × (is_cut ending ≡ true) × Ends words o ending)
-    → IsStatus words o 5
-sink_fault_alone words o claim = record {
+sink_fault_alone : (words : Words) (o : Outside) (k : Keeping)
+    → (Raised o.sink_before o.sink_after × (ending : Ending) × (is_cut ending ≡ true) × Ends words o k ending)
+    → IsStatus words o k 5
+sink_fault_alone words o k claim = record {
   known = refl;
   done = λ e. absurd (omega arith);
   usage = λ e. absurd (omega arith);
@@ -101,14 +109,30 @@ sink_fault_alone words o claim = record {
   no_such_file = λ e. absurd (omega arith);
   shelf_fault = λ e. absurd (omega arith);
   sink_fault = λ _. claim;
+  keeper_fault = λ e. absurd (omega arith);
+  no_memory = λ e. absurd (omega arith);
+  too_large = λ e. absurd (omega arith);
+}
+
+-- the promise of status 7
+keeper_fault_alone : (words : Words) (o : Outside) (k : Keeping) → SaysKeeper words o k → IsStatus words o k 7
+keeper_fault_alone words o k claim = record {
+  known = refl;
+  done = λ e. absurd (omega arith);
+  usage = λ e. absurd (omega arith);
+  model_refused = λ e. absurd (omega arith);
+  no_such_file = λ e. absurd (omega arith);
+  shelf_fault = λ e. absurd (omega arith);
+  sink_fault = λ e. absurd (omega arith);
+  keeper_fault = λ _. claim;
   no_memory = λ e. absurd (omega arith);
   too_large = λ e. absurd (omega arith);
 }
 
 -- the promise of status 8
-no_memory_alone : (words : Words) (o : Outside) → ((ending : Ending) × (status_of ending ≡ 8) × Ends words o ending)
-    → IsStatus words o 8
-no_memory_alone words o claim = record {
+no_memory_alone : (words : Words) (o : Outside) (k : Keeping) → ((ending : Ending) × (status_of ending ≡ 8) × Ends words o k ending)
+    → IsStatus words o k 8
+no_memory_alone words o k claim = record {
   known = refl;
   done = λ e. absurd (omega arith);
   usage = λ e. absurd (omega arith);
@@ -116,13 +140,14 @@ no_memory_alone words o claim = record {
   no_such_file = λ e. absurd (omega arith);
   shelf_fault = λ e. absurd (omega arith);
   sink_fault = λ e. absurd (omega arith);
+  keeper_fault = λ e. absurd (omega arith);
   no_memory = λ _. claim;
   too_large = λ e. absurd (omega arith);
 }
 
 -- the promise of status 11
-too_large_alone : (words : Words) (o : Outside) → (SaysStop words o 11) → IsStatus words o 11
-too_large_alone words o claim = record {
+too_large_alone : (words : Words) (o : Outside) (k : Keeping) → (SaysStop words o 11) → IsStatus words o k 11
+too_large_alone words o k claim = record {
   known = refl;
   done = λ e. absurd (omega arith);
   usage = λ e. absurd (omega arith);
@@ -130,12 +155,13 @@ too_large_alone words o claim = record {
   no_such_file = λ e. absurd (omega arith);
   shelf_fault = λ e. absurd (omega arith);
   sink_fault = λ e. absurd (omega arith);
+  keeper_fault = λ e. absurd (omega arith);
   no_memory = λ e. absurd (omega arith);
   too_large = λ _. claim;
 }
 
 -- what each reason not to answer promises, once it is said
-module _ (words : Words) (o : Outside) where
+module _ (words : Words) (o : Outside) (k : Keeping) where
   fault_raised : (stop : Stop) → StopsRun words o.files o.shelf_before o.shelf_after stop → stop_status stop ≡ 4
       → Raised o.shelf_before o.shelf_after
   fault_raised stops.Usage c e = absurd (omega arith)
@@ -161,6 +187,7 @@ module _ (words : Words) (o : Outside) where
   fault_raised (stops.Model (model.Uncompiled (compile.Typing kind line))) c e = absurd (omega arith)
   fault_raised (stops.Model (model.Uncompiled compile.OutOfMemory)) c e = absurd (omega arith)
   fault_raised (stops.Model model.OutOfMemory) c e = absurd (omega arith)
+  fault_raised (stops.Keeper fault) c e = absurd c.3
   fault_raised (stops.ScriptUnread faults.Failed) c e = c.3.2
   fault_raised (stops.ScriptUnread faults.Missing) c e = absurd (omega arith)
   fault_raised (stops.ScriptUnread faults.TooLarge) c e = absurd (omega arith)
@@ -168,82 +195,110 @@ module _ (words : Words) (o : Outside) where
 
   refused_by : (stop : Stop) → StopsRun words o.files o.shelf_before o.shelf_after stop → Says words o stop
       → stop_status stop ≡ 2
-      → IsStatus words o 2
-  refused_by stop c says e = model_refused_alone words o (record { stop = stop; its = e; stops = c; says = says })
+      → IsStatus words o k 2
+  refused_by stop c says e = model_refused_alone words o k (record { stop = stop; its = e; stops = c; says = says })
 
   missing_by : (stop : Stop) → StopsRun words o.files o.shelf_before o.shelf_after stop → Says words o stop
       → stop_status stop ≡ 3
-      → IsStatus words o 3
-  missing_by stop c says e = no_such_file_alone words o (record { stop = stop; its = e; stops = c; says = says })
+      → IsStatus words o k 3
+  missing_by stop c says e = no_such_file_alone words o k (record { stop = stop; its = e; stops = c; says = says })
 
   failed_by : (stop : Stop) → StopsRun words o.files o.shelf_before o.shelf_after stop → Says words o stop
       → stop_status stop ≡ 4
-      → IsStatus words o 4
+      → IsStatus words o k 4
   failed_by stop c says e =
-      shelf_fault_alone words o (record { stop = stop; its = e; stops = c; says = says }, fault_raised stop c e)
+      shelf_fault_alone words o k (record { stop = stop; its = e; stops = c; says = says }, fault_raised stop c e)
 
   large_by : (stop : Stop) → StopsRun words o.files o.shelf_before o.shelf_after stop → Says words o stop
       → stop_status stop ≡ 11
-      → IsStatus words o 11
-  large_by stop c says e = too_large_alone words o (record { stop = stop; its = e; stops = c; says = says })
+      → IsStatus words o k 11
+  large_by stop c says e = too_large_alone words o k (record { stop = stop; its = e; stops = c; says = says })
 
   fault_by : (stop : Stop) (fault : FileFault) → stop_status stop ≡ statuses.file_status fault
-      → StopsRun words o.files o.shelf_before o.shelf_after stop → Ends words o (endings.Stopped stop)
+      → StopsRun words o.files o.shelf_before o.shelf_after stop → Ends words o k (endings.Stopped stop)
       → Says words o stop
-      → IsStatus words o (statuses.file_status fault)
+      → IsStatus words o k (statuses.file_status fault)
   fault_by stop faults.Missing e c ends says = missing_by stop c says e
   fault_by stop faults.Failed e c ends says = failed_by stop c says e
   fault_by stop faults.TooLarge e c ends says = large_by stop c says e
-  fault_by stop faults.OutOfMemory e c ends says = no_memory_alone words o (endings.Stopped stop, e, ends)
+  fault_by stop faults.OutOfMemory e c ends says = no_memory_alone words o k (endings.Stopped stop, e, ends)
 
   table_by : (stop : Stop) (fault : TableFault) → stop_status stop ≡ statuses.table_status fault
-      → StopsRun words o.files o.shelf_before o.shelf_after stop → Ends words o (endings.Stopped stop)
+      → StopsRun words o.files o.shelf_before o.shelf_after stop → Ends words o k (endings.Stopped stop)
       → Says words o stop
-      → IsStatus words o (statuses.table_status fault)
+      → IsStatus words o k (statuses.table_status fault)
   table_by stop (tables.Columns row) e c ends says = refused_by stop c says e
   table_by stop (tables.Cell row) e c ends says = refused_by stop c says e
   table_by stop (tables.DoubleKey row) e c ends says = refused_by stop c says e
   table_by stop tables.TooManyRows e c ends says = refused_by stop c says e
-  table_by stop tables.OutOfMemory e c ends says = no_memory_alone words o (endings.Stopped stop, e, ends)
+  table_by stop tables.OutOfMemory e c ends says = no_memory_alone words o k (endings.Stopped stop, e, ends)
 
   compile_by : (stop : Stop) (fault : CompileFault) → stop_status stop ≡ statuses.compile_status fault
-      → StopsRun words o.files o.shelf_before o.shelf_after stop → Ends words o (endings.Stopped stop)
+      → StopsRun words o.files o.shelf_before o.shelf_after stop → Ends words o k (endings.Stopped stop)
       → Says words o stop
-      → IsStatus words o (statuses.compile_status fault)
+      → IsStatus words o k (statuses.compile_status fault)
   compile_by stop compile.TooDeep e c ends says = refused_by stop c says e
   compile_by stop compile.TooManySlots e c ends says = refused_by stop c says e
   compile_by stop compile.TooManyRules e c ends says = refused_by stop c says e
   compile_by stop compile.TooManyAtoms e c ends says = refused_by stop c says e
   compile_by stop compile.TooManyCells e c ends says = refused_by stop c says e
   compile_by stop (compile.Typing kind line) e c ends says = refused_by stop c says e
-  compile_by stop compile.OutOfMemory e c ends says = no_memory_alone words o (endings.Stopped stop, e, ends)
+  compile_by stop compile.OutOfMemory e c ends says = no_memory_alone words o k (endings.Stopped stop, e, ends)
 
-  stopped : (stop : Stop) → Ends words o (endings.Stopped stop) → IsStatus words o (stop_status stop)
-  stopped stops.Usage ends = usage_alone words o (ends.0, ends.1)
-  stopped (stops.Model (model.Unread fault)) ends = fault_by
-      (stops.Model (model.Unread fault)) fault refl ends.0 ends ends.1
-  stopped (stops.Model (model.TextRefused kind line)) ends = refused_by
-      (stops.Model (model.TextRefused kind line)) ends.0 ends.1 refl
-  stopped (stops.Model (model.TableUnread file fault)) ends = fault_by
-      (stops.Model (model.TableUnread file fault)) fault refl ends.0 ends ends.1
-  stopped (stops.Model (model.TableRefused table fault)) ends = table_by
-      (stops.Model (model.TableRefused table fault)) fault refl ends.0 ends ends.1
-  stopped (stops.Model (model.Uncompiled fault)) ends = compile_by
-      (stops.Model (model.Uncompiled fault)) fault refl ends.0 ends ends.1
-  stopped (stops.Model model.OutOfMemory) ends = no_memory_alone words o
-      (endings.Stopped (stops.Model model.OutOfMemory), refl, ends)
-  stopped (stops.ScriptUnread fault) ends = fault_by (stops.ScriptUnread fault) fault refl ends.0 ends ends.1
+  -- where the keeper was never begun, there is no job
+  jobless : (stop : Stop) → ((fault : KeepFault) → stop ≢ stops.Keeper fault) → StopCauses words o k stop
+      → Causes words o.files o.shelf_before o.shelf_after stop
+  jobless stop other (without_job c) = c
+  jobless stop other (without_keeper job fault loads raises same) = absurd (other fault same)
+
+  keeper_by : StopCauses words o k (stops.Keeper keep_faults.Failed) → Says words o (stops.Keeper keep_faults.Failed)
+      → IsStatus words o k 7
+  keeper_by (without_job c) says = absurd c
+  keeper_by (without_keeper job fault loads raises same) says =
+      let is : fault ≡ keep_faults.Failed = cc in
+      keeper_fault_alone words o k (record {
+        job = job;
+        loads = loads;
+        raised = subst (RaisesFor k.faults_before k.faults_after) is raises;
+        says = says;
+      })
+
+  stopped_model : (stop : ModelStop) → Ends words o k (endings.Stopped (stops.Model stop))
+      → IsStatus words o k (stop_status (stops.Model stop))
+  stopped_model stop ends = by stop (jobless (stops.Model stop) (λ fault e. cc) ends.0.cause) ends
+    where
+      by : (stop : ModelStop) → StopsRun words o.files o.shelf_before o.shelf_after (stops.Model stop)
+          → Ends words o k (endings.Stopped (stops.Model stop)) → IsStatus words o k (stop_status (stops.Model stop))
+      by (model.Unread fault) c ends = fault_by (stops.Model (model.Unread fault)) fault refl c ends ends.1
+      by (model.TextRefused kind line) c ends = refused_by (stops.Model (model.TextRefused kind line)) c ends.1 refl
+      by (model.TableUnread file fault) c ends =
+          fault_by (stops.Model (model.TableUnread file fault)) fault refl c ends ends.1
+      by (model.TableRefused table fault) c ends =
+          table_by (stops.Model (model.TableRefused table fault)) fault refl c ends ends.1
+      by (model.Uncompiled fault) c ends = compile_by (stops.Model (model.Uncompiled fault)) fault refl c ends ends.1
+      by model.OutOfMemory c ends =
+          no_memory_alone words o k (endings.Stopped (stops.Model model.OutOfMemory), refl, ends)
+
+  stopped : (stop : Stop) → Ends words o k (endings.Stopped stop) → IsStatus words o k (stop_status stop)
+  stopped stops.Usage ends = usage_alone words o k (jobless stops.Usage (λ fault e. cc) ends.0.cause, ends.1)
+  stopped (stops.Model stop) ends = stopped_model stop ends
+  stopped (stops.ScriptUnread fault) ends =
+      fault_by (stops.ScriptUnread fault) fault refl
+      (jobless (stops.ScriptUnread fault) (λ other e. cc) ends.0.cause) ends ends.1
+  stopped (stops.Keeper keep_faults.Failed) ends = keeper_by ends.0.cause ends.1
+  stopped (stops.Keeper keep_faults.OutOfMemory) ends =
+      no_memory_alone words o k (endings.Stopped (stops.Keeper keep_faults.OutOfMemory), refl, ends)
 
   -- what each ending promises
-  ended : (ending : Ending) → Ends words o ending → HasSinkCause o.sink_before o.sink_after ending
-      → IsStatus words o (status_of ending)
-  ended endings.Answered ends cause = done_alone words o ends
+  ended : (ending : Ending) → Ends words o k ending → HasSinkCause o.sink_before o.sink_after ending
+      → IsStatus words o k (status_of ending)
+  ended endings.Answered ends cause = done_alone words o k ends
   ended (endings.Stopped stop) ends cause = stopped stop ends
-  ended endings.Exhausted ends cause = no_memory_alone words o (endings.Exhausted, refl, ends)
-  ended (endings.MessageCut stop) ends cause = sink_fault_alone words o (cause, endings.MessageCut stop, refl, ends)
-  ended endings.AnswerCut ends cause = sink_fault_alone words o (cause, endings.AnswerCut, refl, ends)
-  ended endings.ExhaustedCut ends cause = sink_fault_alone words o (cause, endings.ExhaustedCut, refl, ends)
+  ended endings.Exhausted ends cause = no_memory_alone words o k (endings.Exhausted, refl, ends)
+  ended (endings.MessageCut stop) ends cause = sink_fault_alone words o k (cause, endings.MessageCut stop, refl, ends)
+  ended endings.AnswerCut ends cause = sink_fault_alone words o k (cause, endings.AnswerCut, refl, ends)
+  ended endings.ExhaustedCut ends cause = sink_fault_alone words o k (cause, endings.ExhaustedCut, refl, ends)
 
 -- what an exit status promises
-pub promised : (words : Words) (o : Outside) (status : ℕ) → EndsWith words o status → IsStatus words o status
-promised words o status e = subst (λ s. IsStatus words o s) (sym e.number) (ended words o e.ending e.ends e.cause)
+pub promised : (words : Words) (o : Outside) (k : Keeping) (status : ℕ) → EndsWith words o k status → IsStatus words o k status
+promised words o k status e = subst (λ s. IsStatus words o k s) (sym e.number) (ended words o k e.ending e.ends e.cause)

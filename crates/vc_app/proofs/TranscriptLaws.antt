@@ -1,15 +1,17 @@
 -- Laws of transcripts: one line more, whole or cut short.
 use Rattle.std.proofs.Common.{◌≡◌, ℕ, false, List, [], ◌∷◌, ◌++◌, sym, ap, subst, ◌∙◌, append_assoc, append-nil, refl}
 use Rattle.std.proofs.Common.{Option}
+use Rattle.std.specs.FinMap.{empty}
 use Rattle.std.specs.Io.KnownBytes.{Appends}
 use Rattle.std.proofs.KnownBytes.{Appends-trans}
 use Rattle.vc_base.proofs.RunLaws.{Run-push}
+use Rattle.vc_outside.specs.Keepers.{Texts}
 use Rattle.vc_plan.specs.declared.plans.Plan.{Plan}
 use Rattle.vc_wire_requests.specs.declared.request.Request.{Request}
 use Rattle.vc_wire_replies.specs.Replies.{reply_text}
 use Rattle.vc_wire_replies.specs.declared.reply.Reply.{Reply}
-use Rattle.vc_desk.specs.Desks.{Kept, state_of}
-use Rattle.vc_desk.specs.States.{State, start_state}
+use Rattle.vc_desk.specs.Desks.{Kept, open_of, state_of}
+use Rattle.vc_desk.specs.States.{State, kept, start_state}
 use Rattle.vc_app.specs.Script.{lines_of, is_skipped}
 use Rattle.vc_app.specs.Transcript.{asked_by, RepliesAsked, AnswersAsked, LeavesAsked, AnswersLine, Transcript}
 use Rattle.vc_app.specs.Transcript.{LineStands, done_unsaid, StandsAt, LineDone, LineUnsaid, LineCut, IsAnswered}
@@ -36,11 +38,12 @@ line_unsaid plan state line request next skipped asked answer =
     done_unsaid answer.0 (line_answer plan state line request answer.0 next skipped asked answer.1)
 
 -- a desk of the plan at which no session is open has the state before the script
-pub begins : (desk : Kept) (plan : Plan) (Holds : Plan → State → Type 0) → desk.plan ≡ plan
-    → state_of desk.sessions ≡ start_state
-    → Holds desk.plan (state_of desk.sessions) → Holds plan start_state
-begins desk plan Holds its none holds =
-    subst (λ p. Holds p start_state) its (subst (Holds desk.plan) none holds)
+pub begins : (desk : Kept) (plan : Plan) (saved : Option Texts) (faults : ℕ) (Holds : Plan → State → Type 0)
+    → desk.plan ≡ plan → open_of desk.sessions ≡ empty
+    → Holds desk.plan (state_of desk.sessions saved faults) → Holds plan (start_state saved faults)
+begins desk plan saved faults Holds its none holds =
+    subst (λ p. Holds p (start_state saved faults)) its
+    (subst (Holds desk.plan) (ap (λ sessions. kept sessions saved faults) none) holds)
 
 -- what is so far, from the state before
 pub record SoFar (plan : Plan) (script left : List ℕ) (before state : State) (old new : Option (List ℕ)) : Type 0 where

@@ -3,8 +3,10 @@ use Rattle.std.specs.Prelude.{◌≡◌, ℕ, [], ◌∷◌, ◌==◌, Bool, tru
 use Rattle.std.specs.List.{list_any}
 use Rattle.std.specs.Io.KnownBytes.{Appends}
 use Rattle.vc_outside.specs.Faults.{Raised}
-use Rattle.vc_app.specs.Endings.{Words, Outside, IsNoCommand, StopsRun, EndsRun, Ends, status_of, stop_line}
-use Rattle.vc_app.specs.Endings.{stop_status}
+use Rattle.vc_outside.specs.declared.keeper.KeepFault.TheVariants.{Failed}
+use Rattle.vc_app.specs.Endings.{Words, Outside, IsNoCommand, Keeping, LoadsRun, StopsRun, EndsRun, Ends, status_of}
+use Rattle.vc_app.specs.Endings.{stop_line, stop_status}
+use Rattle.vc_app.specs.declared.loading.Job.{Job}
 use Rattle.vc_app.specs.declared.ending.Stop.{Stop}
 use Rattle.vc_app.specs.declared.ending.Stop.TheVariants as stops
 use Rattle.vc_app.specs.declared.ending.Ending.{Ending}
@@ -21,6 +23,13 @@ pub record SaysStop (words : Words) (o : Outside) (status : ℕ) : Type 0 where
   pub stops : StopsRun words o.files o.shelf_before o.shelf_after stop
   pub says : Says words o stop
 
+-- the job is there, but the keeper couldn't be begun as its count of faults rose, and it was said
+pub record SaysKeeper (words : Words) (o : Outside) (k : Keeping) : Type 0 where
+  pub job : Job
+  pub loads : LoadsRun words o.files job
+  pub raised : Raised k.faults_before k.faults_after
+  pub says : Says words o (stops.Keeper Failed)
+
 -- the sink failed in what was to be written: a message, or an answer or the word on memory behind whole answers
 abbrev pub is_cut : Ending → Bool
 is_cut (endings.MessageCut stop) = true
@@ -31,11 +40,11 @@ is_cut endings.Exhausted = false
 is_cut (endings.Stopped stop) = false
 
 -- what the statuses promise
-pub record IsStatus (words : Words) (o : Outside) (status : ℕ) : Type 0 where
+pub record IsStatus (words : Words) (o : Outside) (k : Keeping) (status : ℕ) : Type 0 where
   -- these and no others
-  pub known : list_any (λ other. status == other) (0 ∷ (1 ∷ (2 ∷ (3 ∷ (4 ∷ (5 ∷ (8 ∷ (11 ∷ [])))))))) ≡ true
-  -- all lines of the script are answered, by the plan of the model
-  pub done : status ≡ 0 → EndsRun words o endings.Answered
+  pub known : list_any (λ other. status == other) (0 ∷ (1 ∷ (2 ∷ (3 ∷ (4 ∷ (5 ∷ (7 ∷ (8 ∷ (11 ∷ []))))))))) ≡ true
+  -- all lines of the script are answered, by the plan of the model, and texts are saved where the words say
+  pub done : status ≡ 0 → EndsRun words o k endings.Answered
   -- the words are no command
   pub usage : status ≡ 1 → IsNoCommand words × Says words o stops.Usage
   -- the model's text or a table is refused, or the model is compiled to no plan
@@ -46,8 +55,10 @@ pub record IsStatus (words : Words) (o : Outside) (status : ℕ) : Type 0 where
   pub shelf_fault : status ≡ 4 → SaysStop words o 4 × Raised o.shelf_before o.shelf_after
   -- the sink's count of faults rose, and a front of what was to be written stands
   pub sink_fault : status ≡ 5 → Raised o.sink_before o.sink_after × (ending : Ending) ×
-      (is_cut ending ≡ true) × Ends words o ending
+      (is_cut ending ≡ true) × Ends words o k ending
+  -- the keeper couldn't be begun
+  pub keeper_fault : status ≡ 7 → SaysKeeper words o k
   -- before the script `no memory` alone, or whole answers and then that
-  pub no_memory : status ≡ 8 → (ending : Ending) × (status_of ending ≡ 8) × Ends words o ending
+  pub no_memory : status ≡ 8 → (ending : Ending) × (status_of ending ≡ 8) × Ends words o k ending
   -- a file has too many bytes
   pub too_large : status ≡ 11 → SaysStop words o 11

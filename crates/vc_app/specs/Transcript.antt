@@ -10,7 +10,8 @@ use Rattle.vc_wire_replies.specs.Replies.{reply_text}
 use Rattle.vc_wire_replies.specs.declared.reply.Reply.{Reply}
 use Rattle.vc_wire_replies.specs.declared.reply.Reply.TheVariants.{NotARequest}
 use Rattle.vc_desk.specs.Answers.{Apply}
-use Rattle.vc_desk.specs.States.{State, start_state}
+use Rattle.vc_desk.specs.States.{OpenSessions, State, kept, start_state}
+use Rattle.vc_app.specs.Keeping.{Keeping}
 use Rattle.vc_app.specs.Script.{lines_of, is_skipped}
 
 -- the most bytes of a line that may be a request
@@ -91,18 +92,22 @@ pub record IsCutShort (plan : Plan) (script : List ℕ) (before after : State) (
   pub answer : AnswersLine plan last line (front ++ rest) after
   pub written : Appends old new (bytes ++ front)
 
--- the same with no session open at first: all lines, the first lines, and the first lines with a front of the next
-pub record AnswersAll (plan : Plan) (script : List ℕ) (old new : Option (List ℕ)) : Type 0 where
-  pub last : State
-  pub answered : IsAnswered plan script start_state last old new
+-- the same with no session open at first, from what the keeper tells to what it tells then: all lines, the first lines,
+-- and the first lines with a front of the next
+pub record AnswersAll (plan : Plan) (script : List ℕ) (k : Keeping) (old new : Option (List ℕ)) : Type 0 where
+  pub last : OpenSessions
+  pub answered : IsAnswered plan script (start_state k.saved_before k.faults_before)
+      (kept last k.saved_after k.faults_after) old new
 
-pub record AnswersSome (plan : Plan) (script : List ℕ) (old new : Option (List ℕ)) : Type 0 where
-  pub last : State
-  pub answered : IsAnsweredSoFar plan script start_state last old new
+pub record AnswersSome (plan : Plan) (script : List ℕ) (k : Keeping) (old new : Option (List ℕ)) : Type 0 where
+  pub last : OpenSessions
+  pub answered : IsAnsweredSoFar plan script (start_state k.saved_before k.faults_before)
+      (kept last k.saved_after k.faults_after) old new
 
-pub record BreaksOff (plan : Plan) (script : List ℕ) (old new : Option (List ℕ)) : Type 0 where
-  pub last : State
-  pub answered : IsCutShort plan script start_state last old new
+pub record BreaksOff (plan : Plan) (script : List ℕ) (k : Keeping) (old new : Option (List ℕ)) : Type 0 where
+  pub last : OpenSessions
+  pub answered : IsCutShort plan script (start_state k.saved_before k.faults_before)
+      (kept last k.saved_after k.faults_after) old new
 
 -- the line is answered, and the answer written
 pub record LineDone (plan : Plan) (state : State) (line : List ℕ) (next : State)

@@ -11,7 +11,7 @@ use std::alloc::Global;
 use vc_app_check::lines::stop_line;
 use vc_app_check::stops::{file_status, stop_status};
 use vc_app_models::ModelStop;
-use vc_outside::{Failed, FileFault, Sink, write_all};
+use vc_outside::{Failed, FileFault, KeepFault, Sink, write_all};
 
 /// Why no line of a script was answered.
 #[derive(Debug, Drop)]
@@ -22,6 +22,8 @@ pub enum Stop {
     Model(ModelStop),
     /// The script's file was not read.
     ScriptUnread(FileFault),
+    /// The keeper couldn't be begun.
+    Keeper(KeepFault),
 }
 
 /// How the program ended.
@@ -49,6 +51,8 @@ impl Stop {
             Stop::Usage => 1,
             Stop::Model(stop) => stop_status(stop),
             Stop::ScriptUnread(fault) => file_status(*fault),
+            Stop::Keeper(KeepFault::Failed) => 7,
+            Stop::Keeper(KeepFault::OutOfMemory) => 8,
         }
     }
 }
@@ -113,6 +117,18 @@ fn write_fault<S: Sink>(out: &mut S, name: &str, fault: FileFault) -> Result<(),
     }
 }
 
+fn write_keeper_fault<S: Sink>(out: &mut S, fault: KeepFault) -> Result<(), Failed>
+    ensures ok { OnOk result (Appends (S.written out.old) (S.written out.new) (endings.keeper_line fault)) }
+    ensures err { OnErr result (AppendsFront (S.written out.old) (S.written out.new)
+        (endings.keeper_line fault)) }
+    ensures cause { HasCause (S.faults out.old) (S.faults out.new) result }
+{
+    match fault {
+        KeepFault::Failed => write_text(out, "keeper fault\n"),
+        KeepFault::OutOfMemory => write_text(out, "no memory\n"),
+    }
+}
+
 const USAGE: &str = "usage: configd check MODEL, run MODEL SCRIPT [KEEPFILE], \
     serve MODEL ADDRESS N [KEEPFILE], verify MODEL CHAIN, gen N\n";
 
@@ -154,5 +170,6 @@ pub fn say_stop<S: Sink>(alloc: Global, out: &mut S, words: &[String], stop: Sto
             let written = write_fault(out, word_at(words, 2), fault);
             said(written, Stop::ScriptUnread(fault))
         }
+        Stop::Keeper(fault) => said(write_keeper_fault(out, fault), Stop::Keeper(fault)),
     }
 }

@@ -1,6 +1,7 @@
 //! What a command asks for: to check a model, or a plan and the text of a script.
 
 ghost use Rattle.std.specs.Prelude.{◌≡◌, ◌≤◌, IfOk, IfErr, IfSome, IfNone};
+ghost use Rattle.std.specs.Option.{option_map};
 ghost use Rattle.vc_plan.specs.Valid.{IsValid};
 ghost use Rattle.vc_app.specs.Endings as endings;
 
@@ -50,7 +51,7 @@ pub fn load_job<F: Shelf>(alloc: Global, shelf: &mut F, words: &[String]) -> Res
     ensures later { F.faults shelf.old ≤ F.faults shelf.new }
 {
     match words {
-        [command, model, script] if command.as_str() == "run" => {
+        [command, model, script, more @ ..] if command.as_str() == "run" && more.len() < 2 => {
             load_named(alloc, shelf, model.as_str(), script.as_str())
         }
         _ => Err(Stop::Usage),
@@ -65,5 +66,15 @@ pub fn checked_name(words: &[String]) -> Option<&str>
     match words {
         [command, model] if command.as_str() == "check" => Some(model.as_str()),
         _ => None,
+    }
+}
+
+/// The name of the file that keeps what is saved, if the words name one.
+pub fn keep_file(words: &[String]) -> Option<&str>
+    ensures { option_map (λ name. name.now) result ≡ endings.keep_file words.now }
+{
+    match words.get(3) {
+        Some(name) => Some(name.as_str()),
+        None => None,
     }
 }

@@ -1,25 +1,25 @@
 //! The top call.
 
-ghost use Rattle.std.specs.Prelude.{◌≡◌, ℕ, List, ◌≤◌, ◌<◌, OnOk};
+ghost use Rattle.std.specs.Prelude.{◌≡◌, ℕ, List, ◌≤◌, ◌<◌, IsSome, OnOk};
 ghost use Rattle.std.specs.Result.{IsErrOf};
 ghost use Rattle.vc_outside.specs.Faults.{Raised};
 ghost use Rattle.vc_plan.specs.Valid.{IsValid};
 ghost use Rattle.vc_app_check.specs.Checking.{EndsCheck};
 ghost use Rattle.vc_app.specs.Endings as endings;
-ghost use Rattle.vc_app.specs.Endings.{outside};
+ghost use Rattle.vc_app.specs.Endings.{keeping, outside};
 ghost use Rattle.vc_app.specs.Exactness.{IsExact};
 ghost use Rattle.vc_app.specs.Statuses.{IsStatus};
 ghost use Rattle.vc_app.specs.Transcript as transcript;
 
-use crate::ending::{Ending, say_stop, write_text};
-use crate::loading::{Job, checked_name, load_job};
+use crate::ending::{Ending, Stop, say_stop, write_text};
+use crate::loading::{Job, checked_name, keep_file, load_job};
 use crate::transcript::{ScriptFault, answer_script};
 use std::alloc::Global;
 use std::marker::Brand;
 use std::sync::ledger::{Blank, Ledger};
 use vc_app_check::check;
 use vc_desk::Desk;
-use vc_outside::{Failed, Shelf, Sink};
+use vc_outside::{Failed, Keeper, Shelf, Sink};
 use vc_plan::Plan;
 use vc_value_steps::Steps;
 
@@ -36,42 +36,59 @@ fn say_exhausted<S: Sink>(out: &mut S) -> Ending
 }
 
 /// Answers a script with no session open at first. Steps are counted in the blank's ledger.
-fn answer_from_start<L: Ledger, S: Sink>(
+fn answer_from_start<K: Keeper, L: Ledger, S: Sink>(
     alloc: Global,
     plan: Plan,
     script: &[u8],
+    keeper: &mut K,
     out: &mut S,
     blank: Blank,
 ) -> Result<(), ScriptFault>
     requires valid { IsValid plan }
+    requires begun { IsSome (K.begun keeper.old) }
     requires name { blank.name ≡ L.name }
     requires parts { blank.parts ≡ L.parts }
     requires some { 0 < blank.parts }
-    ensures done { OnOk result (transcript.AnswersAll plan script.now (S.written out.old)
-        (S.written out.new)) }
-    ensures memory { IsErrOf result ScriptFault.OutOfMemory → transcript.AnswersSome plan
-        script.now (S.written out.old) (S.written out.new) }
+    ensures done { OnOk result (transcript.AnswersAll plan script.now
+        (keeping (K.texts keeper.old) (K.texts keeper.new) (K.faults keeper.old) (K.faults keeper.new)
+        (K.begun keeper.new)) (S.written out.old) (S.written out.new)) }
+    ensures memory { IsErrOf result ScriptFault.OutOfMemory → transcript.AnswersSome plan script.now
+        (keeping (K.texts keeper.old) (K.texts keeper.new) (K.faults keeper.old) (K.faults keeper.new)
+        (K.begun keeper.new)) (S.written out.old) (S.written out.new) }
     ensures cut { IsErrOf result ScriptFault.Sink → transcript.BreaksOff plan script.now
-        (S.written out.old) (S.written out.new) }
+        (keeping (K.texts keeper.old) (K.texts keeper.new) (K.faults keeper.old) (K.faults keeper.new)
+        (K.begun keeper.new)) (S.written out.old) (S.written out.new) }
     ensures cause { IsErrOf result ScriptFault.Sink → Raised (S.faults out.old) (S.faults out.new) }
     ensures later { S.faults out.old ≤ S.faults out.new }
+    ensures begun { K.begun keeper.new ≡ K.begun keeper.old }
 {
     let mut desk = Desk::new(alloc, plan);
     let mut steps: Steps<L> = Steps::new(blank);
-    let answered = answer_script(alloc, &mut desk, script, out, &mut steps);
+    let answered = answer_script(alloc, &mut desk, keeper, script, out, &mut steps);
     drop(steps);
     drop(desk);
     answered
 }
 
-fn run_job<S: Sink>(alloc: Global, job: Job, out: &mut S) -> Ending
-    requires { IsValid job.plan }
-    ensures ends { endings.EndsJob job (S.written out.old) (S.written out.new) result }
+fn run_job<K: Keeper, S: Sink>(alloc: Global, job: Job, keeper: &mut K, out: &mut S) -> Ending
+    requires valid { IsValid job.plan }
+    requires begun { IsSome (K.begun keeper.old) }
+    ensures ends { endings.EndsJob job
+        (keeping (K.texts keeper.old) (K.texts keeper.new) (K.faults keeper.old) (K.faults keeper.new)
+        (K.begun keeper.new)) (S.written out.old) (S.written out.new) result }
     ensures cause { endings.HasSinkCause (S.faults out.old) (S.faults out.new) result }
     ensures later { S.faults out.old ≤ S.faults out.new }
+    ensures begun { K.begun keeper.new ≡ K.begun keeper.old }
 {
     let Job { plan, script } = job;
-    match answer_from_start::<Brand, S>(alloc, plan, script.bytes(), out, Blank::new(1)) {
+    match answer_from_start::<K, Brand, S>(
+        alloc,
+        plan,
+        script.bytes(),
+        keeper,
+        out,
+        Blank::new(1),
+    ) {
         Ok(()) => Ending::Answered,
         Err(ScriptFault::Sink) => Ending::AnswerCut,
         Err(ScriptFault::OutOfMemory) => say_exhausted(out),
@@ -79,39 +96,57 @@ fn run_job<S: Sink>(alloc: Global, job: Job, out: &mut S) -> Ending
 }
 
 /// Does what the words ask, and says how it ended.
-fn end<F: Shelf, S: Sink>(alloc: Global, words: &[String], shelf: &mut F, out: &mut S) -> Ending
+fn end<F: Shelf, K: Keeper, S: Sink>(
+    alloc: Global,
+    words: &[String],
+    shelf: &mut F,
+    keeper: &mut K,
+    out: &mut S,
+) -> Ending
     ensures ends { endings.Ends words.now
         (outside (F.files shelf.old) (F.faults shelf.old) (F.faults shelf.new) (S.written out.old)
         (S.written out.new) (S.faults out.old) (S.faults out.new))
-        result }
+        (keeping (K.texts keeper.old) (K.texts keeper.new) (K.faults keeper.old) (K.faults keeper.new)
+        (K.begun keeper.new)) result }
     ensures cause { endings.HasSinkCause (S.faults out.old) (S.faults out.new) result }
 {
     match load_job(alloc, shelf, words) {
-        Ok(job) => run_job(alloc, job, out),
+        Ok(job) => match keeper.begin(keep_file(words)) {
+            Ok(()) => run_job(alloc, job, keeper, out),
+            Err(fault) => say_stop(alloc, out, words, Stop::Keeper(fault)),
+        },
         Err(stop) => say_stop(alloc, out, words, stop),
     }
 }
 
 /// Does what the words ask, which stand behind the program's name, and answers the exit status.
-pub fn desk<F: Shelf, S: Sink>(alloc: Global, words: &[String], shelf: &mut F, out: &mut S) -> u8
+pub fn desk<F: Shelf, K: Keeper, S: Sink>(
+    alloc: Global,
+    words: &[String],
+    shelf: &mut F,
+    keeper: &mut K,
+    out: &mut S,
+) -> u8
     // `check`: what the model comes to is said, and nothing else.
     ensures check { (name : List ℕ) → endings.IsCheck words.now name → EndsCheck name
         (outside (F.files shelf.old) (F.faults shelf.old) (F.faults shelf.new) (S.written out.old)
         (S.written out.new) (S.faults out.old) (S.faults out.new))
-        result }
-    // Of other words, what each status promises, one field a status: its cause, and what was written.
+        result × (K.texts keeper.new ≡ K.texts keeper.old) }
+    // Of other words, what each status promises, one field a status: its cause, and what was written and saved.
     ensures status { endings.IsNoCheck words.now → IsStatus words.now
         (outside (F.files shelf.old) (F.faults shelf.old) (F.faults shelf.new) (S.written out.old)
         (S.written out.new) (S.faults out.old) (S.faults out.new))
-        result }
+        (keeping (K.texts keeper.old) (K.texts keeper.new) (K.faults keeper.old) (K.faults keeper.new)
+        (K.begun keeper.new)) result }
     // Each cause that words and files decide has its own status, unless a count of faults rose or memory was wanting.
     ensures exact { endings.IsNoCheck words.now → IsExact words.now
         (outside (F.files shelf.old) (F.faults shelf.old) (F.faults shelf.new) (S.written out.old)
         (S.written out.new) (S.faults out.old) (S.faults out.new))
-        result }
+        (keeping (K.texts keeper.old) (K.texts keeper.new) (K.faults keeper.old) (K.faults keeper.new)
+        (K.begun keeper.new)) result }
 {
     match checked_name(words) {
         Some(name) => check(alloc, shelf, name, out),
-        None => end(alloc, words, shelf, out).status(),
+        None => end(alloc, words, shelf, keeper, out).status(),
     }
 }

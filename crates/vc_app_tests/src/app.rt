@@ -3,7 +3,7 @@
 use std::alloc::Global;
 use std::test::Fail;
 use vc_app::desk;
-use vc_outside::{MemShelf, MemSink};
+use vc_outside::{MemKeeper, MemShelf, MemSink};
 
 const PUMP: &str = "MODEL PUMP VERSION 1
 CHAR SIZE 1 RESTRICTABLE REQUIRED
@@ -66,10 +66,33 @@ fn run(alloc: Global, script: &[u8], shelf_fails: u64, sink_fails: u64) -> Resul
     run_with(alloc, &["run", "pump", "script"], &mut shelf, sink_fails)
 }
 
+/// Runs a script on the pump, the keeper's call of this number failing (0 is none).
+fn run_saving(alloc: Global, script: &[u8], keeper_fails: u64) -> Result<Ended, Fail> {
+    let mut shelf = MemShelf::new(alloc);
+    shelf.add(alloc, "pump", PUMP.as_bytes())?;
+    shelf.add(alloc, "sm.csv", ROWS_OF_SM.as_bytes())?;
+    shelf.add(alloc, "script", script)?;
+    let mut keeper = MemKeeper::new(alloc);
+    keeper.fail_at(keeper_fails)?;
+    let names = ["run", "pump", "script", "keep"];
+    run_keeping(alloc, &names, &mut shelf, &mut keeper, 0)
+}
+
 fn run_with(
     alloc: Global,
     names: &[&str],
     shelf: &mut MemShelf,
+    sink_fails: u64,
+) -> Result<Ended, Fail> {
+    let mut keeper = MemKeeper::new(alloc);
+    run_keeping(alloc, names, shelf, &mut keeper, sink_fails)
+}
+
+fn run_keeping(
+    alloc: Global,
+    names: &[&str],
+    shelf: &mut MemShelf,
+    keeper: &mut MemKeeper,
     sink_fails: u64,
 ) -> Result<Ended, Fail> {
     let mut words = Vec::new(alloc);
@@ -78,7 +101,7 @@ fn run_with(
     }
     let mut sink = MemSink::with_room(alloc, 4096)?;
     sink.fail_at(sink_fails)?;
-    let status = desk(alloc, words.as_slice(), shelf, &mut sink);
+    let status = desk(alloc, words.as_slice(), shelf, keeper, &mut sink);
     let written = Vec::from_slice(alloc, sink.written())?;
     Ok(Ended { status, written })
 }
@@ -181,6 +204,72 @@ fn a_failing_shelf_names_the_file(rt: HostRuntime) -> Result<(), Fail> {
     Ok(())
 }
 
+const SAVING: &str =
+    "open a\nset a 0 SIZE L\nsave a x\nset a 0 FLOW 5\nload a x\nload a y\nforget x\n\
+        forget x\nset a 0 MOTOR E1\nshow a\n";
+
+/// What is written before and after the five replies that the keeper's calls decide.
+const BEFORE_SAVING: &str = "ok open\nok complete\n";
+
+const AFTER_SAVING: &str = "ok contradiction constraint C_SM 1 at 0\n\
+        status contradiction constraint C_SM 1 at 0\nuser 0 SIZE = 'L'\nuser 0 MOTOR = 'E1'\n";
+
+#[test]
+fn what_is_saved_is_loaded(rt: HostRuntime) -> Result<(), Fail> {
+    let kept = "ok saved\nok complete\nok complete\nrefused 8 NothingSaved\nok forgotten\n\
+        refused 8 NothingSaved\n";
+    let ended = run_saving(rt.alloc(), SAVING.as_bytes(), 0)?;
+    let wanted = format!(in rt.alloc(); "{}{}{}end\n", BEFORE_SAVING, kept, AFTER_SAVING)?;
+    assert_eq!(rt; ended.written.as_slice(), wanted.as_bytes());
+    assert_eq!(rt; ended.status, 0);
+    Ok(())
+}
+
+/// The keeper's calls, and what is written for them and for FLOW where the call of this place fails.
+const FAILING: [(&str, &str); 5] = [
+    (
+        "refused 10 KeeperFault\nok complete\nrefused 8 NothingSaved\nrefused 8 NothingSaved\n\
+            refused 8 NothingSaved\nrefused 8 NothingSaved\n",
+        "user 0 FLOW = 5\nend\n",
+    ),
+    (
+        "ok saved\nok complete\nrefused 10 KeeperFault\nrefused 8 NothingSaved\nok forgotten\n\
+            refused 8 NothingSaved\n",
+        "user 0 FLOW = 5\nend\n",
+    ),
+    (
+        "ok saved\nok complete\nok complete\nrefused 10 KeeperFault\nok forgotten\n\
+            refused 8 NothingSaved\n",
+        "end\n",
+    ),
+    (
+        "ok saved\nok complete\nok complete\nrefused 8 NothingSaved\nrefused 10 KeeperFault\n\
+            ok forgotten\n",
+        "end\n",
+    ),
+    (
+        "ok saved\nok complete\nok complete\nrefused 8 NothingSaved\nok forgotten\n\
+            refused 10 KeeperFault\n",
+        "end\n",
+    ),
+];
+
+#[test]
+fn a_failing_keeper_changes_nothing(rt: HostRuntime) -> Result<(), Fail> {
+    let ended = run_saving(rt.alloc(), SAVING.as_bytes(), 1)?;
+    assert_eq!(rt; ended.written.as_slice(), b"keeper fault\n".as_slice());
+    assert_eq!(rt; ended.status, 7);
+    let mut call: u64 = 2;
+    for (kept, end) in FAILING.iter() {
+        let ended = run_saving(rt.alloc(), SAVING.as_bytes(), call)?;
+        let wanted = format!(in rt.alloc(); "{}{}{}{}", BEFORE_SAVING, kept, AFTER_SAVING, end)?;
+        assert_eq!(rt; ended.written.as_slice(), wanted.as_bytes());
+        assert_eq!(rt; ended.status, 0);
+        call = call.saturating_add(1);
+    }
+    Ok(())
+}
+
 const USAGE: &str =
     "usage: configd check MODEL, run MODEL SCRIPT [KEEPFILE], serve MODEL ADDRESS N [KEEPFILE], verify MODEL \
         CHAIN, gen N\n";
@@ -198,7 +287,7 @@ fn each_cause_has_its_status(rt: HostRuntime) -> Result<(), Fail> {
         (&[], 1, USAGE),
         (&["run", "pump"], 1, USAGE),
         (&["check", "pump", "script"], 1, USAGE),
-        (&["run", "pump", "script", "keep"], 1, USAGE),
+        (&["run", "pump", "script", "keep", "more"], 1, USAGE),
         (
             &["run", "unrooted", "script"],
             2,
@@ -257,9 +346,16 @@ fn a_sink_without_room_cuts_what_is_written(rt: HostRuntime) -> Result<(), Fail>
     for name in ["run", "pump", "script"].iter() {
         words.push(String::from_str(rt.alloc(), name)?)?;
     }
+    let mut keeper = MemKeeper::new(rt.alloc());
     let mut sink = MemSink::with_room(rt.alloc(), 15)?;
     assert_eq!(rt;
-        desk(rt.alloc(), words.as_slice(), &mut shelf, &mut sink),
+        desk(
+            rt.alloc(),
+            words.as_slice(),
+            &mut shelf,
+            &mut keeper,
+            &mut sink
+        ),
         5
     );
     assert_eq!(rt; sink.written(), b"ok open\nok comp".as_slice());

@@ -1,6 +1,6 @@
 //! A desk of a lamp of two colours, of which a constraint allows the first alone.
 
-ghost use Rattle.std.specs.Prelude.{◌≡◌, ◌<◌};
+ghost use Rattle.std.specs.Prelude.{◌≡◌, ◌<◌, IsSome};
 ghost use Rattle.vc_plan_lamp.specs.Lamp.{lamp};
 ghost use Rattle.vc_desk.specs.Desks.{IsDesk};
 
@@ -9,6 +9,7 @@ use std::marker::Brand;
 use std::sync::ledger::{Blank, Ledger};
 use std::test::Fail;
 use vc_desk::Desk;
+use vc_outside::{Keeper, MemKeeper};
 use vc_plan::Plan;
 use vc_plan_lamp::lamp;
 use vc_value_steps::Steps;
@@ -16,7 +17,7 @@ use vc_wire_replies::reply_text;
 use vc_wire_requests::read_line;
 
 // Requests, one after another, and what is answered to each.
-const ROWS: [(&str, &str); 17] = [
+const ROWS: [(&str, &str); 25] = [
     ("open a", "ok complete\n"),
     ("open a", "refused 14 NameTaken\n"),
     ("set b 0 COL B", "refused 1 NoSession\n"),
@@ -38,6 +39,14 @@ const ROWS: [(&str, &str); 17] = [
     ),
     ("bill a", "status complete\nend\n"),
     ("routing a", "status complete\nend\n"),
+    ("save a x", "ok saved\n"),
+    ("save b x", "refused 1 NoSession\n"),
+    ("set a 0 COL B", "ok contradiction constraint ONE 1 at 0\n"),
+    ("load a y", "refused 8 NothingSaved\n"),
+    ("load b y", "refused 1 NoSession\n"),
+    ("load a x", "ok complete\n"),
+    ("forget x", "ok forgotten\n"),
+    ("forget x", "refused 8 NothingSaved\n"),
     ("close a", "ok closed\n"),
     ("close a", "refused 1 NoSession\n"),
 ];
@@ -46,17 +55,20 @@ const ROWS: [(&str, &str); 17] = [
 fn answers<L: Ledger>(
     alloc: Global,
     desk: &mut Desk,
+    keeper: &mut MemKeeper,
     line: &str,
     wanted: &str,
     steps: &mut Steps<L>,
 ) -> Result<bool, AllocError>
-    requires { IsDesk desk.old }
-    ensures { IsDesk desk.new }
+    requires is { IsDesk desk.old }
+    requires begun { IsSome keeper.old.begun }
+    ensures is { IsDesk desk.new }
+    ensures begun { keeper.new.begun ≡ keeper.old.begun }
 {
     let Some(request) = read_line(alloc, line.as_bytes())? else {
         return Ok(false);
     };
-    let reply = desk.answer(alloc, &request, steps);
+    let reply = desk.answer(alloc, keeper, &request, steps);
     drop(request);
     let text = reply_text(alloc, desk.plan(), &reply);
     drop(reply);
@@ -66,12 +78,14 @@ fn answers<L: Ledger>(
 fn answers_all<L: Ledger>(
     alloc: Global,
     desk: &mut Desk,
+    keeper: &mut MemKeeper,
     steps: &mut Steps<L>,
 ) -> Result<bool, AllocError>
-    requires { IsDesk desk.old }
+    requires is { IsDesk desk.old }
+    requires begun { IsSome keeper.old.begun }
 {
     for (line, wanted) in ROWS.iter() {
-        if !answers(alloc, desk, line, wanted, steps)? {
+        if !answers(alloc, desk, keeper, line, wanted, steps)? {
             return Ok(false);
         }
     }
@@ -84,10 +98,15 @@ fn desk_of<L: Ledger>(alloc: Global, plan: Plan, blank: Blank) -> Result<bool, A
     requires some { 0 < blank.parts }
     requires plan { plan ≡ lamp }
 {
+    let mut keeper = MemKeeper::new(alloc);
+    let Ok(()) = keeper.begin(None) else {
+        return Ok(false);
+    };
     let mut desk = Desk::new(alloc, plan);
     let mut steps: Steps<L> = Steps::new(blank);
-    let answered = answers_all(alloc, &mut desk, &mut steps);
+    let answered = answers_all(alloc, &mut desk, &mut keeper, &mut steps);
     drop(desk);
+    drop(keeper);
     answered
 }
 

@@ -5,5 +5,10 @@ use Rattle.vc_app.proofs.transcript.answer_asked.Goals as goal
 
 pub returns-clause-leaves : goal.returns-clause-leaves
 returns-clause-leaves g c =
-    reply_leaves c.args.desk.now.plan (state_of c.args.desk.now.sessions) c.args.request c.reply_to-reply.result
-    (state_of c.reply_to-reply.new.desk.sessions) c.reply_to-reply.ensures.replies
+    let texts = g.K.Keeper.texts in
+    let faults = g.K.Keeper.faults in
+    reply_leaves c.args.desk.now.plan
+    (state_of c.args.desk.now.sessions (texts c.args.keeper.now) (faults c.args.keeper.now)) c.args.request
+    c.reply_to-reply.result
+    (state_of c.reply_to-reply.new.desk.sessions (texts c.reply_to-reply.new.keeper)
+    (faults c.reply_to-reply.new.keeper)) c.reply_to-reply.ensures.replies

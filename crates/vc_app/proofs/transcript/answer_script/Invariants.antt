@@ -6,11 +6,14 @@ use Rattle.vc_app.proofs.transcript.answer_script.Given as goal
 -- the lines before `rest` are answered
 abbrev pub invariant-loop-line : goal.invariant-loop-line
 invariant-loop-line g l = record {
-  so_far : SoFar l.fn.desk.plan l.script l.rest (state_of l.fn.desk.sessions) (state_of l.desk.sessions)
+  so_far : SoFar l.fn.desk.plan l.script l.rest
+      (state_of l.fn.desk.sessions (g.K.Keeper.texts l.fn.keeper) (g.K.Keeper.faults l.fn.keeper))
+      (state_of l.desk.sessions (g.K.Keeper.texts l.keeper) (g.K.Keeper.faults l.keeper))
       (g.S.Sink.written l.fn.out) (g.S.Sink.written l.out);
   later : g.S.Sink.faults l.fn.out ≤ g.S.Sink.faults l.out;
   is : IsDesk l.desk;
   plan : l.desk.plan ≡ l.fn.desk.plan;
+  begun : g.K.Keeper.begun l.keeper ≡ g.K.Keeper.begun l.fn.keeper;
 }
 
 abbrev pub decreases-loop-line : goal.decreases-loop-line
