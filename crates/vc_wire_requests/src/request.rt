@@ -2,8 +2,8 @@
 
 use vc_value::Word;
 
-/// A request to the desk. An instance is the number of its slot, below 10^9; characteristics are in upper case; names of
-/// sessions and of what is saved keep their case; a value is any bytes, as they were written.
+/// A request to the desk. An instance is the number of its slot, below 10^9; characteristics are in upper case; names
+/// of sessions and of what is saved keep their case; a value is any bytes, as they were written.
 #[derive(Debug, Drop)]
 pub enum Request {
     /// Opens a session of this name.
