@@ -1,0 +1,4 @@
+mod CuttingLemmas
+pub mod NumberLemmas
+pub mod RangeLemmas
+mod WritingLemmas
