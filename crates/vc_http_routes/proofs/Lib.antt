@@ -1,0 +1,4 @@
+pub mod SearchLaws
+pub mod SegmentLaws
+pub mod RouteLaws
+pub mod RouteRows
