@@ -1,0 +1,4 @@
+pub mod LineLaws
+pub mod FieldLaws
+pub mod HeadLaws
+pub mod HeadRows
