@@ -5,7 +5,7 @@ use std::test::Fail;
 use vc_plan::{Atom, Clash, Culprit, Origin, Plan, Status, Step};
 use vc_plan_lamp::lamp;
 use vc_value::{Listed, Value, Word};
-use vc_wire_replies::{Refusal, Reply, reply_text};
+use vc_wire_replies::{Refusal, Reply, SavedRefusal, reply_text};
 
 // Whether this is what is written of the reply.
 fn writes(alloc: Global, plan: &Plan, reply: Reply, wanted: &str) -> Result<bool, AllocError> {
@@ -44,6 +44,21 @@ fn says(alloc: Global, plan: &Plan) -> Result<bool, AllocError> {
     )?;
     let closed = writes(alloc, plan, Reply::Closed, "ok closed\n")?;
     Ok(whom && why && what && closed)
+}
+
+// What is said of what is saved.
+fn says_of_saved(alloc: Global, plan: &Plan) -> Result<bool, AllocError> {
+    let nothing = Reply::Refused {
+        refusal: Refusal::NothingSaved,
+    };
+    let shape = Reply::Refused {
+        refusal: Refusal::SavedRefused(SavedRefusal::Shape),
+    };
+    let saved = writes(alloc, plan, Reply::Saved, "ok saved\n")?;
+    let forgotten = writes(alloc, plan, Reply::Forgotten, "ok forgotten\n")?;
+    let none = writes(alloc, plan, nothing, "refused 8 NothingSaved\n")?;
+    let why = writes(alloc, plan, shape, "refused 9 SavedRefused 2\n")?;
+    Ok(saved && forgotten && none && why)
 }
 
 fn numbers(alloc: Global, numbers: &[u32]) -> Result<Listed<u32>, AllocError> {
@@ -139,7 +154,8 @@ fn chains_are_written(rt: HostRuntime) -> Result<(), Fail> {
 fn replies_are_written(rt: HostRuntime) -> Result<(), Fail> {
     let plan = lamp(rt.alloc())?;
     let said = says(rt.alloc(), &plan);
+    let saved = says_of_saved(rt.alloc(), &plan);
     drop(plan);
-    assert!(rt; said?);
+    assert!(rt; said? && saved?);
     Ok(())
 }

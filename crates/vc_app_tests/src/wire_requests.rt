@@ -52,6 +52,14 @@ fn lines_that_ask_for_reasons_are_read_and_written(rt: HostRuntime) -> Result<()
 }
 
 #[test]
+fn lines_of_what_is_saved_are_read_and_written(rt: HostRuntime) -> Result<(), Fail> {
+    assert!(rt; is_written(rt.alloc(), b"SAVE Desk Mine-1", b"save Desk Mine-1")?);
+    assert!(rt; is_written(rt.alloc(), b"load a b", b"load a b")?);
+    assert!(rt; is_written(rt.alloc(), b"Forget Mine", b"forget Mine")?);
+    Ok(())
+}
+
+#[test]
 fn other_lines_spell_none(rt: HostRuntime) -> Result<(), Fail> {
     assert!(rt; spells_none(rt.alloc(), b"")?);
     assert!(rt; spells_none(rt.alloc(), b"open")?);
@@ -60,6 +68,8 @@ fn other_lines_spell_none(rt: HostRuntime) -> Result<(), Fail> {
     assert!(rt; spells_none(rt.alloc(), b"set a 1000000000 C x")?);
     assert!(rt; spells_none(rt.alloc(), b"set a 0 C")?);
     assert!(rt; spells_none(rt.alloc(), b"why a 0 C x")?);
-    assert!(rt; spells_none(rt.alloc(), b"save a b")?);
+    assert!(rt; spells_none(rt.alloc(), b"save a")?);
+    assert!(rt; spells_none(rt.alloc(), b"load a b c")?);
+    assert!(rt; spells_none(rt.alloc(), b"forget a.b")?);
     Ok(())
 }
