@@ -37,7 +37,8 @@ done_alone words o k claim = record {
 }
 
 -- the promise of status 1
-usage_alone : (words : Words) (o : Outside) (k : Keeping) → (IsNoCommand words × Says words o stops.Usage) → IsStatus words o k 1
+usage_alone : (words : Words) (o : Outside) (k : Keeping) → (IsNoCommand words × Says words o stops.Usage)
+    → IsStatus words o k 1
 usage_alone words o k claim = record {
   known = refl;
   done = λ e. absurd (omega arith);
@@ -82,7 +83,8 @@ no_such_file_alone words o k claim = record {
 }
 
 -- the promise of status 4
-shelf_fault_alone : (words : Words) (o : Outside) (k : Keeping) → (SaysStop words o 4 × Raised o.shelf_before o.shelf_after)
+shelf_fault_alone : (words : Words) (o : Outside) (k : Keeping) →
+    (SaysStop words o 4 × Raised o.shelf_before o.shelf_after)
     → IsStatus words o k 4
 shelf_fault_alone words o k claim = record {
   known = refl;
@@ -130,7 +132,8 @@ keeper_fault_alone words o k claim = record {
 }
 
 -- the promise of status 8
-no_memory_alone : (words : Words) (o : Outside) (k : Keeping) → ((ending : Ending) × (status_of ending ≡ 8) × Ends words o k ending)
+no_memory_alone : (words : Words) (o : Outside) (k : Keeping) →
+    ((ending : Ending) × (status_of ending ≡ 8) × Ends words o k ending)
     → IsStatus words o k 8
 no_memory_alone words o k claim = record {
   known = refl;
@@ -300,5 +303,6 @@ module _ (words : Words) (o : Outside) (k : Keeping) where
   ended endings.ExhaustedCut ends cause = sink_fault_alone words o k (cause, endings.ExhaustedCut, refl, ends)
 
 -- what an exit status promises
-pub promised : (words : Words) (o : Outside) (k : Keeping) (status : ℕ) → EndsWith words o k status → IsStatus words o k status
+pub promised : (words : Words) (o : Outside) (k : Keeping) (status : ℕ) → EndsWith words o k status
+    → IsStatus words o k status
 promised words o k status e = subst (λ s. IsStatus words o k s) (sym e.number) (ended words o k e.ending e.ends e.cause)

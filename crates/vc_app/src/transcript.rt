@@ -113,13 +113,16 @@ fn answer_line<K: Keeper, L: Ledger, S: Sink>(
     requires begun { IsSome (K.begun keeper.old) }
     ensures done { OnOk result (transcript.LineDone desk.old.plan
         (state_of desk.old.sessions (K.texts keeper.old) (K.faults keeper.old)) line.now
-        (state_of desk.new.sessions (K.texts keeper.new) (K.faults keeper.new)) (S.written out.old) (S.written out.new)) }
+        (state_of desk.new.sessions (K.texts keeper.new) (K.faults keeper.new))
+        (S.written out.old) (S.written out.new)) }
     ensures memory { IsErrOf result ScriptFault.OutOfMemory → transcript.LineUnsaid desk.old.plan
         (state_of desk.old.sessions (K.texts keeper.old) (K.faults keeper.old)) line.now
-        (state_of desk.new.sessions (K.texts keeper.new) (K.faults keeper.new)) (S.written out.old) (S.written out.new) }
+        (state_of desk.new.sessions (K.texts keeper.new) (K.faults keeper.new))
+        (S.written out.old) (S.written out.new) }
     ensures cut { IsErrOf result ScriptFault.Sink → transcript.LineCut desk.old.plan
         (state_of desk.old.sessions (K.texts keeper.old) (K.faults keeper.old)) line.now
-        (state_of desk.new.sessions (K.texts keeper.new) (K.faults keeper.new)) (S.written out.old) (S.written out.new) }
+        (state_of desk.new.sessions (K.texts keeper.new) (K.faults keeper.new))
+        (S.written out.old) (S.written out.new) }
     ensures cause { IsErrOf result ScriptFault.Sink → Raised (S.faults out.old) (S.faults out.new) }
     ensures later { S.faults out.old ≤ S.faults out.new }
     ensures is { IsDesk desk.new }
@@ -149,13 +152,16 @@ pub fn answer_script<K: Keeper, L: Ledger, S: Sink>(
     requires begun { IsSome (K.begun keeper.old) }
     ensures done { OnOk result (transcript.IsAnswered desk.old.plan script.now
         (state_of desk.old.sessions (K.texts keeper.old) (K.faults keeper.old))
-        (state_of desk.new.sessions (K.texts keeper.new) (K.faults keeper.new)) (S.written out.old) (S.written out.new)) }
+        (state_of desk.new.sessions (K.texts keeper.new) (K.faults keeper.new))
+        (S.written out.old) (S.written out.new)) }
     ensures memory { IsErrOf result ScriptFault.OutOfMemory → transcript.IsAnsweredSoFar desk.old.plan
         script.now (state_of desk.old.sessions (K.texts keeper.old) (K.faults keeper.old))
-        (state_of desk.new.sessions (K.texts keeper.new) (K.faults keeper.new)) (S.written out.old) (S.written out.new) }
+        (state_of desk.new.sessions (K.texts keeper.new) (K.faults keeper.new))
+        (S.written out.old) (S.written out.new) }
     ensures cut { IsErrOf result ScriptFault.Sink → transcript.IsCutShort desk.old.plan script.now
         (state_of desk.old.sessions (K.texts keeper.old) (K.faults keeper.old))
-        (state_of desk.new.sessions (K.texts keeper.new) (K.faults keeper.new)) (S.written out.old) (S.written out.new) }
+        (state_of desk.new.sessions (K.texts keeper.new) (K.faults keeper.new))
+        (S.written out.old) (S.written out.new) }
     ensures cause { IsErrOf result ScriptFault.Sink → Raised (S.faults out.old) (S.faults out.new) }
     ensures later { S.faults out.old ≤ S.faults out.new }
     ensures begun { K.begun keeper.new ≡ K.begun keeper.old }

@@ -29,13 +29,15 @@ start_refusal sessions name =
     if is_some (chosen_in sessions name) then Some NameTaken else full
 
 -- `open`: a session with nothing chosen; memory may be wanting
-pub data Starts (plan : Plan) (sessions : OpenSessions) (name : List ℕ) (reply : Reply) (next : OpenSessions) : Type 0 where
+pub data Starts (plan : Plan) (sessions : OpenSessions) (name : List ℕ) (reply : Reply)
+    (next : OpenSessions) : Type 0 where
   refused : (refusal : Refusal) → start_refusal sessions name ≡ Some refusal → reply ≡ Refused refusal → next ≡ sessions
       → Starts plan sessions name reply next
   exhausted : start_refusal sessions name ≡ None → reply ≡ Refused OutOfMemory → next ≡ sessions
       → Starts plan sessions name reply next
   started : (status : Status) → start_refusal sessions name ≡ None → IsStatus plan (users_of (none_chosen plan)) status
-      → reply ≡ Done status → next ≡ with_session sessions name (none_chosen plan) → Starts plan sessions name reply next
+      → reply ≡ Done status → next ≡ with_session sessions name (none_chosen plan)
+      → Starts plan sessions name reply next
 
 -- `close` of the session of this name, if one is open
 abbrev pub Closes : OpenSessions → List ℕ → Option Chosen → Reply → OpenSessions → Type 0
@@ -43,7 +45,8 @@ Closes sessions name None reply next = (reply ≡ Refused NoSession) × (next �
 Closes sessions name (Some chosen) reply next = (reply ≡ Closed) × (next ≡ without_session sessions name)
 
 -- an edit of the session of this name, if one is open
-abbrev pub EditsSession : Plan → OpenSessions → List ℕ → (Chosen → Result Chosen Refusal) → Option Chosen → Reply → OpenSessions
+abbrev pub EditsSession : Plan → OpenSessions → List ℕ → (Chosen → Result Chosen Refusal) → Option Chosen → Reply
+    → OpenSessions
     → Type 0
 EditsSession plan sessions name edit None reply next = (reply ≡ Refused NoSession) × (next ≡ sessions)
 EditsSession plan sessions name edit (Some chosen) reply next = EditsTo plan sessions name (edit chosen) reply next
@@ -63,16 +66,20 @@ TellsSession plan tell text (Some chosen) reply = Tells plan (users_of chosen) t
 abbrev pub Apply : Plan → State → Request → Reply → State → Type 0
 Apply plan state (requests.Start name) reply next = Starts plan state.sessions name reply next.sessions
     × KeeperStays state next
-Apply plan state (requests.Close name) reply next = Closes state.sessions name (chosen_in state.sessions name) reply next.sessions
+Apply plan state (requests.Close name) reply next =
+    Closes state.sessions name (chosen_in state.sessions name) reply next.sessions
     × KeeperStays state next
 Apply plan state (requests.Set name i characteristic word) reply next =
-    EditsSession plan state.sessions name (after_set plan i characteristic word) (chosen_in state.sessions name) reply next.sessions
+    EditsSession plan state.sessions name (after_set plan i characteristic word)
+    (chosen_in state.sessions name) reply next.sessions
     × KeeperStays state next
 Apply plan state (requests.Add name i characteristic word) reply next =
-    EditsSession plan state.sessions name (after_add plan i characteristic word) (chosen_in state.sessions name) reply next.sessions
+    EditsSession plan state.sessions name (after_add plan i characteristic word)
+    (chosen_in state.sessions name) reply next.sessions
     × KeeperStays state next
 Apply plan state (requests.Retract name i characteristic) reply next =
-    EditsSession plan state.sessions name (after_retract plan i characteristic) (chosen_in state.sessions name) reply next.sessions
+    EditsSession plan state.sessions name (after_retract plan i characteristic)
+    (chosen_in state.sessions name) reply next.sessions
     × KeeperStays state next
 Apply plan state (requests.Drop name i characteristic word) reply next =
     EditsSession plan state.sessions name (after_drop plan i characteristic word) (chosen_in state.sessions name) reply

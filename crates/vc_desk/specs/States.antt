@@ -1,5 +1,5 @@
--- What the desk keeps between requests: what users chose in the open sessions, and the texts that are saved; and nothing
--- that follows from either.
+-- What the desk keeps between requests: what users chose in the open sessions, and the texts that are saved; and
+-- nothing that follows from either.
 use Rattle.std.specs.Prelude.{◌≡◌, ⊤, ℕ, List, Option, None, Some, is_some}
 use Rattle.std.specs.Cmp.Lexicographic.{slice_cmp}
 use Rattle.std.specs.Ordering.{nat_cmp}

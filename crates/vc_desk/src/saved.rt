@@ -171,8 +171,9 @@ pub fn load<K: Keeper, L: Ledger>(
 /// Forgets what is saved under the name.
 pub fn forget<K: Keeper>(keeper: &mut K, name: &Word) -> Reply
     requires begun { IsSome (K.begun keeper.old) }
-    ensures forgets { (sessions : OpenSessions) → saved.ForgetsSaved (kept sessions (K.texts keeper.old) (K.faults keeper.old))
-        name.now result (kept sessions (K.texts keeper.new) (K.faults keeper.new)) }
+    ensures forgets { (sessions : OpenSessions) → saved.ForgetsSaved
+        (kept sessions (K.texts keeper.old) (K.faults keeper.old)) name.now result
+        (kept sessions (K.texts keeper.new) (K.faults keeper.new)) }
     ensures begun { K.begun keeper.new ≡ K.begun keeper.old }
 {
     match keeper.remove(name.bytes()) {

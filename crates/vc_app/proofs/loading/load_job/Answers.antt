@@ -12,7 +12,8 @@ returns-in-len3-up-clause-job g c =
     run_words c.args.words.now c.command-item.result c.model-item.result c.script-item.result c.as_str.result.now _ _
     c.eq.result
     c.in-len3-up.len_at_least few c.command-item.is c.model-item.is c.script-item.is
-    c.as_str.ensures.value c.as_str-in-len3-up.ensures.value c.as_str-in-len3-up-2.ensures.value c.eq.ensures c.if-eq.true in
+    c.as_str.ensures.value c.as_str-in-len3-up.ensures.value c.as_str-in-len3-up-2.ensures.value c.eq.ensures
+    c.if-eq.true in
     run_loads c.load_named.result c.args.words.now (g.F.Shelf.files c.args.shelf.now) c.as_str-in-len3-up.result.now
     c.as_str-in-len3-up-2.result.now
     command c.load_named.ensures.job
@@ -26,7 +27,8 @@ returns-in-len3-up-clause-causes g c =
     run_words c.args.words.now c.command-item.result c.model-item.result c.script-item.result c.as_str.result.now _ _
     c.eq.result
     c.in-len3-up.len_at_least few c.command-item.is c.model-item.is c.script-item.is
-    c.as_str.ensures.value c.as_str-in-len3-up.ensures.value c.as_str-in-len3-up-2.ensures.value c.eq.ensures c.if-eq.true in
+    c.as_str.ensures.value c.as_str-in-len3-up.ensures.value c.as_str-in-len3-up-2.ensures.value c.eq.ensures
+    c.if-eq.true in
     run_causes c.load_named.result c.args.words.now (g.F.Shelf.files c.args.shelf.now) (faults c.args.shelf.now)
     (faults c.load_named.new.shelf)
     c.as_str-in-len3-up.result.now c.as_str-in-len3-up-2.result.now command c.load_named.ensures.stops
