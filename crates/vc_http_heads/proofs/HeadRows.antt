@@ -1,5 +1,6 @@
 -- Worked rows of heads, by computing. Beside what is so stands what would be so by a likely slip, and isn't.
-use Rattle.std.proofs.Common.{◌≡◌, ℕ, zero, suc, ◌+◌, List, [], ◌∷◌, ◌++◌, length, take, refl, subst, sym, ap, ◌∙◌, arith}
+use Rattle.std.proofs.Common.{◌≡◌, ℕ, zero, suc, ◌+◌, List, [], ◌∷◌, ◌++◌, length, take, refl, subst, sym, ap, ◌∙◌}
+use Rattle.std.proofs.Common.{arith}
 use Rattle.std.proofs.Common.{true, false, None, Some}
 use Rattle.std.specs.Prelude.{codes, if◌then◌else◌, nat_le, nat_lt}
 use Rattle.vc_http_heads.specs.declared.ends.Place.TheVariants as place

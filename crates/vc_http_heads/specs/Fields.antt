@@ -1,5 +1,6 @@
 -- The fields of a head, by name. Names are the same in either case.
-use Rattle.std.specs.Prelude.{ℕ, Bool, false, true, not, ◌&&◌, ◌||◌, ◌==◌, nat_le, List, [], ◌∷◌, codes, length, Option, None}
+use Rattle.std.specs.Prelude.{ℕ, Bool, false, true, not, ◌&&◌, ◌||◌, ◌==◌, nat_le, List, [], ◌∷◌, codes, length, Option}
+use Rattle.std.specs.Prelude.{None}
 use Rattle.std.specs.Prelude.{Some, is_some, if◌then◌else◌}
 use Rattle.std.specs.List.{list_any}
 use Rattle.vc_value.specs.Decimals.{are_digits, number_of}

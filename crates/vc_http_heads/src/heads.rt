@@ -102,7 +102,8 @@ fn judge_fields<'b>(
 
 fn judge_text(size: usize, text: &[u8]) -> HeadJudged<'_>
     requires { ends.count_lines text.now ≤ 66 }
-    ensures { (read : Option RequestHead) × heads.Reads text.now read × (heads.said result ≡ heads.head_said size read) }
+    ensures { (read : Option RequestHead) × heads.Reads text.now read
+        × (heads.said result ≡ heads.head_said size read) }
 {
     let mut fields = [EMPTY_HEADER_SPAN; 64];
     match read_head(text, &mut fields) {

@@ -1,5 +1,6 @@
 -- The message with which bytes begin: a request and the bytes behind it, a refusal, or bytes that end before it does.
-use Rattle.std.specs.Prelude.{◌≡◌, ◌≤◌, ℕ, Bool, true, false, nat_lt, if◌then◌else◌, List, [], length, take, drop, Option}
+use Rattle.std.specs.Prelude.{◌≡◌, ◌≤◌, ℕ, Bool, true, false, nat_lt, if◌then◌else◌, List, [], length, take, drop}
+use Rattle.std.specs.Prelude.{Option}
 use Rattle.std.specs.Prelude.{None, Some, Result, Ok, Err}
 use Rattle.vc_wire_requests.specs.Requests.{◌>>=◌}
 use Rattle.vc_wire_requests.specs.declared.request.Request.{Request}
