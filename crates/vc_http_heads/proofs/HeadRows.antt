@@ -43,6 +43,20 @@ fits = refl
 large : is_large (codes "a\n\n") 8193 ≡ true
 large = refl
 
+abbrev line_feeds : ℕ → List ℕ
+line_feeds zero = []
+line_feeds (suc n) = 10 ∷ line_feeds n
+
+as_many_lines : is_large (line_feeds 66) 66 ≡ false
+as_many_lines = refl
+
+too_many_lines : is_large (line_feeds 67) 67 ≡ true
+too_many_lines = refl
+
+-- those behind the head don't count
+lines_behind : is_large (line_feeds 67) 66 ≡ false
+lines_behind = refl
+
 -- fields
 abbrev host : List ℕ × List ℕ
 host = (codes "HOST", codes "d")
