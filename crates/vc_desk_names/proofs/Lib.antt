@@ -1,2 +1,3 @@
 pub mod MeantLaws
 pub mod MeantRows
+pub mod NameLaws

@@ -5,5 +5,5 @@ pub mod laws;
 pub mod naming;
 pub mod valuing;
 
-pub use naming::find_named;
+pub use naming::{find_named, find_named_near};
 pub use valuing::value_named;

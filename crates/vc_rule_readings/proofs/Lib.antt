@@ -1,4 +1,6 @@
 pub mod BesideLemmas
+pub mod FindingLemmas
+pub mod KeyLemmas
 pub mod PartLemmas
 pub mod RangeLemmas
 pub mod ReadingLemmas

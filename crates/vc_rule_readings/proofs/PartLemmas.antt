@@ -223,4 +223,5 @@ valid_sums_fit plan valid =
       };
       few_slots = leb-true (length plan.slots) 40 valid.slot_limit;
       few_vars = omega (arith, atoms, vars);
+      vars_by_slot = valid.vars_by_slot;
     }

@@ -1,6 +1,6 @@
 -- Walks over the numbers below a limit: what the numbers from one on give, by the first of them and those after it.
-use Rattle.std.proofs.Common.{◌≡◌, ℕ, suc, ◌+◌, ◌-◌, ◌<◌, ◌≤◌, ℤ, Bool, true, false, cond, ◌&&◌, List, [], ◌∷◌, map}
-use Rattle.std.proofs.Common.{refl, sym, ◌∙◌, ap, arith}
+use Rattle.std.proofs.Common.{◌≡◌, ℕ, zero, suc, ◌+◌, ◌-◌, ◌<◌, ◌≤◌, ℤ, Bool, true, false, cond, ◌&&◌, List, [], ◌∷◌}
+use Rattle.std.proofs.Common.{map, refl, sym, ◌∙◌, ap, arith}
 use Rattle.std.specs.Prelude.{if◌then◌else◌, Option, None, Some}
 use Rattle.std.specs.List.{filter, find, range_with_len}
 use Rattle.vc_plan.specs.declared.terms.Operator.TheVariants.{Plus}
@@ -27,6 +27,28 @@ pub find_done : (p : ℕ → Bool) (g n : ℕ) → n ≤ g → find p (range_wit
 find_done p g n past = ap (find p) (range_done g n past)
 
 pub ruleset finding = (find_next, find_here, find_done)
+
+-- where none before a number passes, the first from there on is the first
+pub find_from : (p : ℕ → Bool) (s n : ℕ) → s ≤ n → ((k : ℕ) → k < s → p k ≡ false)
+    → find p (range_with_len s (n - s)) ≡ find p (range_with_len 0 n)
+find_from p zero n low out = let whole : n - 0 ≡ n = omega arith in ap (λ m. find p (range_with_len 0 m)) whole
+find_from p (suc s) n low out =
+    let next : s + 1 ≡ suc s = omega arith in
+    ap (λ t. find p (range_with_len t (n - t))) (sym next)
+    ∙ (sym (find_next p s n (omega (arith, low)) (out s (omega arith)))
+    ∙ find_from p s n (omega (arith, low)) (λ k h. out k (omega (arith, h))))
+
+-- and where none from there on passes, there is none
+pub find_past : (p : ℕ → Bool) (m s : ℕ) → ((k : ℕ) → s ≤ k → p k ≡ false) → find p (range_with_len s m) ≡ None
+find_past p zero s out = refl
+find_past p (suc m) s out =
+    ap (λ b. cond b (Some s) (find p (range_with_len (s + 1) m))) (out s (omega arith))
+    ∙ find_past p m (s + 1) (λ k h. out k (omega (arith, h)))
+
+pub find_alike : (p q : ℕ → Bool) → ((k : ℕ) → p k ≡ q k) → (gs : List ℕ) → find p gs ≡ find q gs
+find_alike p q same [] = refl
+find_alike p q same (g ∷ gs) =
+    ap (λ b. cond b (Some g) (find p gs)) (same g) ∙ ap (λ o. cond (q g) (Some g) o) (find_alike p q same gs)
 
 -- a total over the numbers that pass: that over those from one on, with the number before it
 pub total_next : (w : ℕ → Option ℤ) (p : ℕ → Bool) (g n : ℕ) → g < n

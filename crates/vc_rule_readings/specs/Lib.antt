@@ -1,4 +1,5 @@
 pub mod Beside
+pub mod Finding
 pub mod Laws
 pub mod Parted
 pub mod Summing

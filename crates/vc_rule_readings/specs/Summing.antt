@@ -1,5 +1,5 @@
 -- What the parts of an instance add to a sum over them: their quantities, or these times their values.
-use Rattle.std.specs.Prelude.{ℕ, ℤ, ◌≤◌, ◌<◌, ◌^◌, Bool, true, ◌&&◌, length, map, Option, None, Some, is_some}
+use Rattle.std.specs.Prelude.{◌≡◌, ℕ, ℤ, ◌≤◌, ◌<◌, ◌^◌, Bool, true, ◌&&◌, length, map, Option, None, Some, is_some}
 use Rattle.std.specs.Prelude.{option_map}
 use Rattle.std.specs.List.{filter}
 use Rattle.vc_value.specs.declared.decimal.Dec.{Dec}
@@ -9,12 +9,15 @@ use Rattle.vc_plan.specs.Parts.{is_part, part_quantity, part_weight, total, var_
 use Rattle.vc_plan.specs.Readings.{Reading}
 use Rattle.vc_plan.specs.Seen.{Seen}
 use Rattle.vc_rule_terms.specs.Computing.{TermsFit}
+use Rattle.vc_rule_readings.specs.Finding.{stands_by}
 
--- no step of a term is too wide, no sum over the slots is, and numbers of 32 bits tell the variables
+-- no step of a term is too wide, no sum over the slots is, numbers of 32 bits tell the variables, and these come by
+-- their slots
 pub record SumsFit (plan : Plan) : Type 0 where
   pub terms : TermsFit plan
   pub few_slots : length plan.slots ≤ 40
   pub few_vars : length plan.vars < 2 ^ 32
+  pub vars_by_slot : stands_by (λ x. x.slot) plan.vars ≡ true
 
 -- the count of millionths of a stored number, where there is one
 abbrev pub stored_count : Option Dec → Option ℤ

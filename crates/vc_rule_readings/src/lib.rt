@@ -4,6 +4,7 @@
 
 pub mod beside;
 pub mod facts;
+pub mod finding;
 pub mod laws;
 pub mod numbers;
 pub mod parts;

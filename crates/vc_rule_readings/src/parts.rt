@@ -1,16 +1,18 @@
 //! Sums over the parts of an instance.
 
-ghost use Rattle.std.specs.Prelude.{◌≡◌, ◌^◌, ◌<◌, ◌&&◌, if◌then◌else◌, length, slice_get};
+ghost use Rattle.std.specs.Prelude.{◌≡◌, ◌^◌, ◌<◌, ◌&&◌, if◌then◌else◌, true, length, slice_get};
 ghost use Rattle.vc_plan.specs.declared.terms.Operator.TheVariants.{Plus, Times};
 ghost use Rattle.vc_plan.specs.Numbers.{joined};
-ghost use Rattle.vc_plan.specs.Parts.{amount_at, amount_of, count_of_parts, is_part, is_var_of, part_quantity};
-ghost use Rattle.vc_plan.specs.Parts.{part_weight, quantity_of, sum_of_parts, var_of};
+ghost use Rattle.vc_plan.specs.Parts.{amount_at, amount_of, count_of_parts, is_part, part_quantity};
+ghost use Rattle.vc_plan.specs.Parts.{part_weight, quantity_of, sum_of_parts};
 ghost use Rattle.vc_plan.specs.Readings.{full_reading};
 ghost use Rattle.vc_plan.specs.Truth.{number_of_value};
 ghost use Rattle.vc_rule_terms.specs.Computing.{LiesInGrains, OperandsFit, TermsFit};
 ghost use Rattle.vc_rule_terms.specs.Values.{count_if, meant_if};
+ghost use Rattle.vc_rule_readings.specs.Finding.{stands_by};
 ghost use Rattle.vc_rule_readings.specs.Summing.{SumsFit, addend, adds, has_it, part_total, stored_count};
 
+use crate::finding::var_of;
 use crate::numbers::{joined, number_of_value};
 use vc_plan::{Operator, Plan, Reading};
 use vc_rule_terms::elements::element;
@@ -71,29 +73,6 @@ fn part_quantity<R: Reading>(plan: &Plan, reading: &R, part: u32) -> Option<Dec>
     }
 }
 
-fn is_var_of(plan: &Plan, slot: u32, characteristic: u32, var: u32) -> bool
-    ensures { result ≡ is_var_of slot characteristic (slice_get plan.now.vars var) }
-{
-    match element(plan.vars.as_slice(), var) {
-        Some(x) => x.slot == slot && x.characteristic == characteristic,
-        None => false,
-    }
-}
-
-/// The slot's variable of the characteristic, if its class has that.
-#[tactic(auto, using(crate::proofs::RangeLemmas::finding))]
-pub fn var_of(plan: &Plan, slot: u32, characteristic: u32) -> Option<u32>
-    requires { length plan.now.vars < 2 ^ 32 }
-    ensures { result ≡ var_of plan.now slot characteristic }
-{
-    for var in 0..plan.vars.len() as u32 {
-        if is_var_of(plan, slot, characteristic, var) {
-            return Some(var);
-        }
-    }
-    None
-}
-
 fn wide_if(number: Option<Dec>) -> Option<Wide>
     ensures { count_if result ≡ stored_count number }
 {
@@ -144,7 +123,8 @@ fn addend<R: Reading>(plan: &Plan, reading: &R, named: Option<u32>, part: u32) -
 }
 
 fn has_it(plan: &Plan, named: Option<u32>, part: u32) -> bool
-    requires { length plan.now.vars < 2 ^ 32 }
+    requires few { length plan.now.vars < 2 ^ 32 }
+    requires order { stands_by (λ x. x.slot) plan.now.vars ≡ true }
     ensures { result ≡ has_it plan.now named part }
 {
     match named {
@@ -166,7 +146,8 @@ fn is_part<R: Reading>(plan: &Plan, reading: &R, slot: u32, part: u32) -> bool
 }
 
 fn adds<R: Reading>(plan: &Plan, reading: &R, slot: u32, named: Option<u32>, part: u32) -> bool
-    requires { length plan.now.vars < 2 ^ 32 }
+    requires few { length plan.now.vars < 2 ^ 32 }
+    requires order { stands_by (λ x. x.slot) plan.now.vars ≡ true }
     ensures { result ≡ adds plan.now (R.seen reading.now) slot named part }
 {
     is_part(plan, reading, slot, part) && has_it(plan, named, part)

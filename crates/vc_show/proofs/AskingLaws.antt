@@ -23,6 +23,12 @@ use Rattle.vc_show.specs.Asking.{is_bare, is_demanding, lacks_demanded, lacks_ma
 use Rattle.vc_show.proofs.HidingLemmas.{same_is, same_itself}
 use Rattle.vc_show.proofs.RangeLemmas.{some_below}
 
+-- two tests may be made in either order
+pub in_turn : (a b c : Bool) → (a && (b && c)) ≡ (b && (a && c))
+in_turn true b c = refl
+in_turn false true c = refl
+in_turn false false c = refl
+
 -- here, and marked or demanded, and not hidden, and without value
 parted : (h v m d hid : Bool)
     → (h && (m || d) && not hid && not v) ≡ ((h && not v && (m && not hid)) || (h && not v && (d && not hid)))

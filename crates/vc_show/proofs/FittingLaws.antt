@@ -222,4 +222,6 @@ valid_plans_show plan valid =
       guards = guards_rise plan valid;
       vars = omega (arith, vars);
       sets = omega (arith, sets);
+      vars_by_slot = valid.vars_by_slot;
+      sets_by_slot = valid.sets_by_slot;
     }

@@ -1,5 +1,5 @@
 -- Listed values by their places, and where preconditions stand.
-use Rattle.std.specs.Prelude.{ℕ, Bool, nat_le, List, map, slice_get, Option}
+use Rattle.std.specs.Prelude.{ℕ, Bool, List, map, slice_get, Option}
 use Rattle.vc_plan.specs.declared.conditions.Piece.{Piece}
 use Rattle.vc_plan.specs.declared.conditions.Piece.TheVariants.{OneText}
 use Rattle.vc_plan.specs.declared.plans.Guard.{Guard}
@@ -8,9 +8,9 @@ use Rattle.vc_plan.specs.declared.plans.Named.TheVariants.{Var, Set}
 use Rattle.vc_plan.specs.declared.plans.Plan.{Plan}
 use Rattle.vc_plan.specs.Classes.{number_or_zero}
 use Rattle.vc_plan.specs.Domains.{grains_of, passes, texts_of}
-use Rattle.vc_plan.specs.Orders.{are_in_order}
 use Rattle.vc_plan.specs.Readings.{Reading}
 use Rattle.vc_plan.specs.Showing.{is_value_hidden, slot_of_named}
+use Rattle.vc_rule_readings.specs.Finding.{stands_by}
 
 -- the grain of a variable, or the text of a set's list, of this number
 abbrev pub piece_of : Plan → Named → ℕ → Option Piece
@@ -29,4 +29,4 @@ abbrev pub slot_of_guard : Plan → Guard → ℕ
 slot_of_guard plan guard = slot_of plan guard.at
 
 abbrev pub are_by_slot : Plan → List Guard → Bool
-are_by_slot plan guards = are_in_order (λ a b. nat_le (slot_of_guard plan a) (slot_of_guard plan b)) guards
+are_by_slot plan guards = stands_by (slot_of_guard plan) guards

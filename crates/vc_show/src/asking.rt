@@ -9,7 +9,7 @@ ghost use Rattle.vc_plan.specs.Showing.{characteristic_of, has_open, is_hidden, 
 ghost use Rattle.vc_plan.specs.Truth.{truth_at};
 ghost use Rattle.vc_plan.specs.declared.plans.Named.TheVariants.{Set, Var};
 ghost use Rattle.vc_rule_terms.specs.Computing.{LiesInGrains, TermsFit};
-ghost use Rattle.vc_show.specs.Asking.{is_demanding, lacks_demanded, lacks_marked, lacks_some};
+ghost use Rattle.vc_show.specs.Asking.{is_bare, is_demanding, lacks_demanded, lacks_marked, lacks_some};
 ghost use Rattle.vc_show.specs.Fitting.{ShownFits};
 
 use crate::hiding::hidden;
@@ -109,22 +109,25 @@ fn is_shown<R: Reading>(plan: &Plan, reading: &R, named: Named) -> bool
     !hidden(plan, reading, named)
 }
 
-fn is_marked_and_shown<R: Reading>(plan: &Plan, reading: &R, named: Named) -> bool
+fn is_bare_and_shown<R: Reading>(plan: &Plan, reading: &R, named: Named) -> bool
     requires fit { ShownFits plan.now }
     requires values { LiesInGrains plan.now (R.seen reading.now) }
-    ensures { result ≡ is_marked (characteristic_of plan.now named) && not (is_hidden plan.now
-        (full_reading plan.now (R.seen reading.now) (R.holdings reading.now)) named) }
+    ensures { result ≡ is_bare plan.now (R.seen reading.now)
+        (full_reading plan.now (R.seen reading.now) (R.holdings reading.now)) named
+        && not (is_hidden plan.now (full_reading plan.now (R.seen reading.now) (R.holdings reading.now)) named) }
 {
-    is_marked(plan, named) && is_shown(plan, reading, named)
+    is_bare(plan, reading, named) && is_shown(plan, reading, named)
 }
 
+// The mark is asked first: it is the plan's, and few have it.
+#[tactic(auto, using(crate::proofs::AskingLaws::in_turn))]
 fn lacks_marked<R: Reading>(plan: &Plan, reading: &R, named: Named) -> bool
     requires fit { ShownFits plan.now }
     requires values { LiesInGrains plan.now (R.seen reading.now) }
     ensures { result ≡ lacks_marked plan.now (R.seen reading.now)
         (full_reading plan.now (R.seen reading.now) (R.holdings reading.now)) named }
 {
-    is_bare(plan, reading, named) && is_marked_and_shown(plan, reading, named)
+    is_marked(plan, named) && is_bare_and_shown(plan, reading, named)
 }
 
 #[tactic(auto, using(crate::proofs::RangeLemmas::some_passes))]

@@ -1,3 +1,4 @@
+pub mod FindingLemmas
 pub mod FittingLaws
 pub mod JoinLemmas
 pub mod RowRows

@@ -1,35 +1,23 @@
 //! What a slot has for a characteristic.
 
-ghost use Rattle.std.specs.Prelude.{◌≡◌, ◌<◌, ◌^◌, length, slice_get};
+ghost use Rattle.std.specs.Prelude.{◌≡◌, ◌<◌, ◌^◌, true, length, slice_get};
 ghost use Rattle.vc_plan.specs.Classes.{class_in};
+ghost use Rattle.vc_rule_readings.specs.Finding.{stands_by};
 ghost use Rattle.vc_show.specs.Fitting.{ShownFits};
-ghost use Rattle.vc_show_rows.specs.Rows.{class_of, is_set_of, named_by, named_of, set_named, set_of};
+ghost use Rattle.vc_show_rows.specs.Rows.{class_of, named_by, named_of, set_named, set_of};
 
 use vc_plan::{Named, Plan};
-use vc_rule_readings::parts::var_of;
+use vc_rule_readings::finding::{number_at, var_of};
 use vc_rule_terms::elements::element;
 
-fn is_set_of(plan: &Plan, slot: u32, characteristic: u32, set: u32) -> bool
-    ensures { result ≡ is_set_of slot characteristic (slice_get plan.now.sets set) }
-{
-    match element(plan.sets.as_slice(), set) {
-        Some(x) => x.slot == slot && x.characteristic == characteristic,
-        None => false,
-    }
-}
-
 // The slot's set of the characteristic, if its class has that.
-#[tactic(auto, using(vc_rule_readings::proofs::RangeLemmas::finding))]
+#[tactic(auto, using(crate::proofs::FindingLemmas::first_set))]
 fn set_of(plan: &Plan, slot: u32, characteristic: u32) -> Option<u32>
-    requires { length plan.now.sets < 2 ^ 32 }
+    requires few { length plan.now.sets < 2 ^ 32 }
+    requires order { stands_by (λ x. x.slot) plan.now.sets ≡ true }
     ensures { result ≡ set_of plan.now slot characteristic }
 {
-    for set in 0..plan.sets.len() as u32 {
-        if is_set_of(plan, slot, characteristic, set) {
-            return Some(set);
-        }
-    }
-    None
+    number_at(plan.sets.as_slice(), slot, characteristic)
 }
 
 fn set_named(set: Option<u32>) -> Option<Named>

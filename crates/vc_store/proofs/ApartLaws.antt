@@ -22,9 +22,10 @@ use Rattle.vc_plan.specs.Valid.{IsValid}
 use Rattle.vc_plan_users.specs.Choosing.{Chosen, held_texts, set_at}
 use Rattle.vc_plan_users.specs.declared.users.SetText.{SetText}
 use Rattle.vc_show_rows.specs.Rows.{class_of, named_of}
+use Rattle.vc_desk_names.proofs.NameLaws.{all_get}
 use Rattle.vc_store.specs.Marking.{AreFor}
 use Rattle.vc_store.specs.Meaning.{Place, at_text, at_var, same_place}
-use Rattle.vc_store.proofs.FoundLaws.{all_get, class_apart}
+use Rattle.vc_store.proofs.FoundLaws.{class_apart}
 use Rattle.vc_store.proofs.GivensLaws.{flat_append, given_of, givens, givens_at, givens_if, place_of, set_stands}
 use Rattle.vc_store.proofs.GivensLaws.{var_stands}
 

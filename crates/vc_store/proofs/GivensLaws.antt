@@ -19,13 +19,14 @@ use Rattle.vc_plan.specs.Valid.{IsValid}
 use Rattle.vc_plan_users.specs.Choosing.{Chosen}
 use Rattle.vc_session.specs.Edits.{may_be_given}
 use Rattle.vc_desk_names.specs.Meant.{characteristic_named, find_named, named_if}
+use Rattle.vc_desk_names.proofs.NameLaws.{all_get}
 use Rattle.vc_show_rows.specs.Rows.{class_of, is_set_of, named_by as by_either, named_of, set_named, set_of}
 use Rattle.vc_show_rows.specs.Texts.{name_in, name_of}
 use Rattle.vc_store_forms.specs.Forms.{Choice}
 use Rattle.vc_store.specs.Meaning.{Given, Place, at_text, at_var, given_if, meaning, meaning_at, place, place_at}
 use Rattle.vc_store.specs.Meaning.{text_place}
 use Rattle.vc_store.specs.Saving.{choice_of, choices_at, choices_of, plain_text, saved_of, values_of}
-use Rattle.vc_store.proofs.FoundLaws.{all_get, class_has_set, class_has_var, name_found, set_named_at, var_named}
+use Rattle.vc_store.proofs.FoundLaws.{class_has_set, class_has_var, name_found, set_named_at, var_named}
 use Rattle.vc_store.proofs.ValueLaws.{value_read}
 
 -- what is found of a range passes the test

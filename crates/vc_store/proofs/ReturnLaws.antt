@@ -17,11 +17,12 @@ use Rattle.vc_plan.specs.Valid.{IsValid}
 use Rattle.vc_plan_users.specs.Choosing.{Chosen, held_texts, set_at}
 use Rattle.vc_plan_users.specs.declared.users.SetText.{SetText}
 use Rattle.vc_show_rows.specs.Rows.{class_of, named_of}
+use Rattle.vc_desk_names.proofs.NameLaws.{all_get}
 use Rattle.vc_store.specs.Marking.{AreFor}
 use Rattle.vc_store.specs.Meaning.{Given, chosen_by, is_text_of, or_value, text_given, value_given, var_value}
 use Rattle.vc_store.specs.Saving.{values_of}
 use Rattle.vc_store.proofs.ApartLaws.{first_alone, list_apart, neither, none_held_among, texts_listed}
-use Rattle.vc_store.proofs.FoundLaws.{all_get, class_has_set, class_has_var, set_named_at, var_named}
+use Rattle.vc_store.proofs.FoundLaws.{class_has_set, class_has_var, set_named_at, var_named}
 use Rattle.vc_store.proofs.GivensLaws.{get_there, given_of, givens, givens_at, givens_if}
 
 -- what is gathered over lists, where some give it and the others nothing

@@ -29,8 +29,9 @@ use Rattle.vc_plan.specs.Ranges.{domain_there, grain_there, is_of, is_stored}
 use Rattle.vc_plan.specs.Valid.{IsValid}
 use Rattle.vc_session.specs.Edits.{may_be_given}
 use Rattle.vc_desk_names.specs.Meant.{is_word, number_for, text_among, value_named, value_of_domain}
+use Rattle.vc_desk_names.proofs.NameLaws.{all_get, apart_index}
 use Rattle.vc_store.specs.Saving.{plain_text, text_in}
-use Rattle.vc_store.proofs.FoundLaws.{all_get, apart_index, find_listed}
+use Rattle.vc_store.proofs.FoundLaws.{find_listed}
 
 -- a text of the plan is found among listed ones by its bytes
 text_there : (plan : Plan) (ts : List ℕ) (t : ℕ) → list_all (is_of plan.texts) ts ≡ true

@@ -12,14 +12,14 @@ use vc_plan_users::UserValues;
 use vc_session::choosing::give;
 
 // Gives what the value means, and says whether the plan knows it.
-fn give_value(plan: &Plan, users: &mut UserValues, json: &Json) -> bool
+fn give_value(plan: &Plan, users: &mut UserValues, json: &Json, near: &mut usize) -> bool
     requires valid { IsValid plan.now }
     requires of { marking.AreFor plan.now users.old }
     ensures known { result ≡ is_some (marking.meaning_in plan.now json.now) }
     ensures users { users.new ≡ marking.given_if users.old (marking.meaning_in plan.now json.now) }
     ensures of { marking.AreFor plan.now users.new }
 {
-    match meaning_in(plan, json) {
+    match meaning_in(plan, json, near) {
         Some(given) => {
             give(users, given.named, given.value);
             true
@@ -38,8 +38,9 @@ pub fn given_by(
     ensures { IfOk result (λ users. users ≡ marking.given_by plan.now values.now) }
 {
     let mut users = UserValues::new(alloc, plan)?;
+    let mut near = 0;
     for json in values {
-        if !give_value(plan, &mut users, json) {
+        if !give_value(plan, &mut users, json, &mut near) {
             return Ok(None);
         }
     }

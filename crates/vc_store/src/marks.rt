@@ -45,14 +45,14 @@ fn mark(plan: &Plan, marks: &mut UserValues, place: Place) -> bool
 }
 
 // Marks where the value stands, and says whether something stood there before.
-fn mark_value(plan: &Plan, marks: &mut UserValues, json: &Json) -> bool
+fn mark_value(plan: &Plan, marks: &mut UserValues, json: &Json, near: &mut usize) -> bool
     requires valid { IsValid plan.now }
     requires of { marking.AreFor plan.now marks.old }
     ensures stood { result ≡ marking.stands_if marks.old (marking.place_in plan.now json.now) }
     ensures marks { marks.new ≡ marking.marked_if marks.old (marking.place_in plan.now json.now) }
     ensures of { marking.AreFor plan.now marks.new }
 {
-    match place_in(plan, json) {
+    match place_in(plan, json, near) {
         Some(place) => mark(plan, marks, place),
         None => false,
     }
@@ -64,8 +64,9 @@ pub fn stands_twice(alloc: Global, plan: &Plan, values: &[Json]) -> Result<bool,
     ensures { IfOk result (λ twice. twice ≡ marking.stand_twice plan.now values.now) }
 {
     let mut marks = UserValues::new(alloc, plan)?;
+    let mut near = 0;
     for json in values {
-        if mark_value(plan, &mut marks, json) {
+        if mark_value(plan, &mut marks, json, &mut near) {
             return Ok(true);
         }
     }

@@ -3,7 +3,7 @@ use Rattle.std.proofs.Common.{rules}
 use Rattle.std.specs.Prelude.{nat_lt}
 use Rattle.std.proofs.lemmas.List.Sorted.{IsPartitionPoint-from_clause, IsPartitionedBy-ltb}
 use Rattle.vc_plan.specs.declared.plans.Line.{Line}
-use Rattle.vc_show.proofs.GuardLemmas.{below_before, least_after, keys_rise}
+use Rattle.vc_rule_readings.proofs.KeyLemmas.{below_before, least_after, keys_rise}
 use Rattle.vc_bill.proofs.ranges.first_of.Goals as goal
 
 pub returns-clause-before : goal.returns-clause-before

@@ -3,8 +3,8 @@ use Rattle.std.proofs.Common.{rules}
 use Rattle.std.specs.Prelude.{nat_le}
 use Rattle.std.proofs.lemmas.List.Sorted.{IsPartitionPoint-from_clause, IsPartitionedBy-leb}
 use Rattle.vc_plan.specs.declared.plans.Guard.{Guard}
+use Rattle.vc_rule_readings.proofs.KeyLemmas.{above_after, keys_rise, most_before}
 use Rattle.vc_show.specs.Places.{slot_of_guard}
-use Rattle.vc_show.proofs.GuardLemmas.{above_after, keys_rise, most_before}
 use Rattle.vc_show.proofs.guarding.end_of.Goals as goal
 
 pub returns-clause-before : goal.returns-clause-before

@@ -3,8 +3,8 @@ use Rattle.std.proofs.Common.{rules}
 use Rattle.std.specs.Prelude.{nat_lt}
 use Rattle.std.proofs.lemmas.List.Sorted.{IsPartitionPoint-from_clause, IsPartitionedBy-ltb}
 use Rattle.vc_plan.specs.declared.plans.Guard.{Guard}
+use Rattle.vc_rule_readings.proofs.KeyLemmas.{below_before, keys_rise, least_after}
 use Rattle.vc_show.specs.Places.{slot_of_guard}
-use Rattle.vc_show.proofs.GuardLemmas.{below_before, keys_rise, least_after}
 use Rattle.vc_show.proofs.guarding.first_of.Goals as goal
 
 pub returns-clause-before : goal.returns-clause-before

@@ -1,12 +1,8 @@
--- A valid plan is shown; past its slots nothing is named.
+-- Past the slots of a valid plan nothing is named.
 use Rattle.std.proofs.Common.{◌≤◌, length, arith, sym}
 use Rattle.std.proofs.lemmas.Bool.{leb-true}
-use Rattle.vc_show.proofs.FittingLaws.{valid_plans_show}
 use Rattle.vc_store.proofs.NamingLaws.{none_past}
 use Rattle.vc_store.proofs.naming.named_by.Goals as goal
-
-pub find_named-requires : goal.find_named-requires
-find_named-requires c = valid_plans_show c.args.plan.now c.requires
 
 pub returns-in-Err : goal.returns-in-Err
 returns-in-Err c =
