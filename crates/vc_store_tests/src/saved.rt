@@ -36,6 +36,36 @@ fn fault(alloc: Global, plan: &Plan, text: &str) -> Option<SavedFault>
     }
 }
 
+fn is_no_json(alloc: Global, plan: &Plan, text: &[u8]) -> bool
+    requires { plan.now ≡ lamp }
+{
+    let read = read_saved(alloc, plan, text);
+    let refused = matches!(&read, Err(SavedFault::NotJson));
+    drop(read);
+    refused
+}
+
+// Whether each front of a text is no JSON.
+fn fronts_are_refused(alloc: Global, plan: &Plan, text: &[u8]) -> bool
+    requires { plan.now ≡ lamp }
+{
+    for length in 0..text.len() {
+        if !is_no_json(alloc, plan, &text[..length]) {
+            return false;
+        }
+    }
+    true
+}
+
+#[test]
+fn refuses_a_text_that_is_cut(rt: HostRuntime) -> Result<(), Fail> {
+    let plan = lamp(rt.alloc())?;
+    let refused = fronts_are_refused(rt.alloc(), &plan, SECOND.as_bytes());
+    drop(plan);
+    assert!(rt; refused);
+    Ok(())
+}
+
 #[test]
 fn reads_what_is_saved(rt: HostRuntime) -> Result<(), Fail> {
     saved_is_read();
