@@ -1,7 +1,10 @@
 pub mod BreakLaws
+pub mod ChangeLaws
+pub mod CopyLaws
 pub mod EndLaws
 pub mod ExplainLaws
 pub mod GoingLaws
+pub mod KeepingLaws
 pub mod LeadLaws
 pub mod NumberLaws
 pub mod PlanFacts

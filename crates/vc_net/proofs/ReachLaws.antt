@@ -1,5 +1,5 @@
 -- Whoever waits after a change touches what the changed variables reach, or what those who waited before could reach.
-use Rattle.std.proofs.Common.{◌≡◌, ℕ, zero, suc, ◌+◌, ◌<◌, ◌⊎◌, Bool, true, false, ◌||◌, List, [], ◌∷◌}
+use Rattle.std.proofs.Common.{◌≡◌, ℕ, zero, suc, ◌+◌, ◌⊎◌, Bool, true, false, ◌||◌, List, [], ◌∷◌}
 use Rattle.std.proofs.Common.{◌++◌, length, map, refl, sym, ◌∙◌, ap, inl, inr, arith, add-zero}
 use Rattle.std.specs.Prelude.{Some, if◌then◌else◌, nat_eq, slice_get}
 use Rattle.std.proofs.lemmas.List.{map-append}
@@ -33,14 +33,15 @@ use Rattle.vc_net_log.specs.Going.{WereTaken}
 use Rattle.vc_net_log.proofs.LogLaws.{atoms_stand}
 use Rattle.vc_net_standing.specs.declared.standing.Fact.{Fact}
 use Rattle.vc_net_standing.specs.Standing.{atoms_of}
-use Rattle.vc_net_waking.specs.Waking.{sources_of, waking, with_givers}
+use Rattle.vc_net_waking.specs.Waking.{waking, with_givers}
 use Rattle.vc_net_work.specs.Spending.{AreOn, touches_one}
 use Rattle.vc_net_work.proofs.CountLaws.{givers_once}
 use Rattle.vc_net_work.proofs.SpendLaws.{given_are, source_touches, woken_touch}
 use Rattle.vc_net_work.proofs.Spreading.{any_thing, some_thing}
 use Rattle.vc_net.specs.Going.{IsGoing}
-use Rattle.vc_net.specs.Renewing.{changed_sources, dropped_wake}
+use Rattle.vc_net.specs.Renewing.{dropped_wake}
 use Rattle.vc_net.specs.declared.work.Work.{Work}
+use Rattle.vc_net.proofs.ChangeLaws.{AreChanges}
 use Rattle.vc_net.proofs.RenewLaws.{first_sizes, last, steps_left}
 
 -- more things reach more, and who touches some of fewer touches some of more
@@ -153,32 +154,11 @@ woken_by plan stand (b ∷ atoms) giver h =
           (ap (λ t. has same_giver (own t) giver) (sym e) ∙ k),
     )
 
-changed_by : (old new : Sources) (n : ℕ) (giver : Giver) → has same_giver (changed_sources old new n) giver ≡ true
-    → (v : ℕ) × (v < n) × ((user_differs old new v || entry_differs old new v) ≡ true)
-    × (has same_giver (sources_of v) giver ≡ true)
-changed_by old new zero giver h = absurd (cc)
-changed_by old new (suc n) giver h =
-    by (user_differs old new n || entry_differs old new n) refl
-    (has_either same_giver giver_exact giver_itself (changed_sources old new n)
-    (if user_differs old new n || entry_differs old new n then sources_of n else []) giver h)
-    (changed_by old new n giver)
-  where
-    by : (b : Bool) → (user_differs old new n || entry_differs old new n) ≡ b
-        → (has same_giver (changed_sources old new n) giver ≡ true)
-        ⊎ (has same_giver (if b then sources_of n else []) giver ≡ true)
-        → (has same_giver (changed_sources old new n) giver ≡ true
-        → (v : ℕ) × (v < n) × ((user_differs old new v || entry_differs old new v) ≡ true)
-        × (has same_giver (sources_of v) giver ≡ true))
-        → (v : ℕ) × (v < suc n) × ((user_differs old new v || entry_differs old new v) ≡ true)
-        × (has same_giver (sources_of v) giver ≡ true)
-    by b e (inl k) more = let r = more k in let low = r.1 in (r.0, omega (arith, low), r.2, r.3)
-    by true e (inr k) more = (n, omega arith, e, k)
-    by false e (inr k) more = absurd (cc)
-
 -- whoever waits then is on what is reached
 module _ (plan : Plan) (valid : IsValid plan) (old new : Sources) (work : Work) (going : IsGoing plan old work [])
     (taken : List Fact) (were : WereTaken work.log.steps (steps_left plan old new work going) taken)
-    (behind : List Thing) (on : AreOn plan (reach_of plan behind) work.agenda.givers) where
+    (behind : List Thing) (on : AreOn plan (reach_of plan behind) work.agenda.givers)
+    (givers : List Giver) (are : AreChanges plan old new givers) where
   abbrev pub changes : List Thing
   changes = map var_at (changed plan old new)
 
@@ -209,10 +189,9 @@ module _ (plan : Plan) (valid : IsValid plan) (old new : Sources) (work : Work) 
       any_thing (giver_touches plan giver) all (thing_of r.0)
       (changes_within (thing_of r.0) (dropped_reached plan valid old new work going r.0 there r.2)) r.3
 
-  changed_reach : (giver : Giver) → has same_giver (changed_sources old new (length plan.vars)) giver ≡ true
-      → touches_one plan all giver ≡ true
+  changed_reach : (giver : Giver) → has same_giver givers giver ≡ true → touches_one plan all giver ≡ true
   changed_reach giver h =
-      let r = changed_by old new (length plan.vars) giver h in
+      let r = are.only giver h in
       let low = r.1 in
       let there : has nat_eq (changed plan old new) r.0 ≡ true
       = filter_has nat_eq number_exact number_itself (λ v. user_differs old new v || entry_differs old new v)
@@ -228,24 +207,23 @@ module _ (plan : Plan) (valid : IsValid plan) (old new : Sources) (work : Work) 
       (with_givers work.agenda
       (dropped_wake plan (concluded (steps_left plan old new work going)) (atoms_of taken))).givers
   woken_on =
-      let givers = dropped_wake plan (concluded (steps_left plan old new work going)) (atoms_of taken) in
+      let woken = dropped_wake plan (concluded (steps_left plan old new work going)) (atoms_of taken) in
       let before = on_more plan (reach_of plan behind) all work.agenda.givers behind_within on in record {
-        once = givers_once work.agenda givers before.once;
-        there = λ giver h. elim (given_are plan work.agenda givers giver going.of.sizes h) [
+        once = givers_once work.agenda woken before.once;
+        there = λ giver h. elim (given_are plan work.agenda woken giver going.of.sizes h) [
           | inl k ↦ before.there giver k
           | inr k ↦ k.1
         ];
-        touch = λ giver h. elim (given_are plan work.agenda givers giver going.of.sizes h) [
+        touch = λ giver h. elim (given_are plan work.agenda woken giver going.of.sizes h) [
           | inl k ↦ before.touch giver k
           | inr k ↦ woken_reach giver k.0
         ];
       }
 
-  pub last_on : AreOn plan all (last plan old new work going taken were).givers
+  pub last_on : AreOn plan all (last plan old new work going taken were givers are).givers
   last_on =
       let first = with_givers work.agenda
       (dropped_wake plan (concluded (steps_left plan old new work going)) (atoms_of taken)) in
-      let givers = changed_sources old new (length plan.vars) in
       let sizes = first_sizes plan old new work going taken were in record {
         once = givers_once first givers woken_on.once;
         there = λ giver h. elim (given_are plan first givers giver sizes h) [

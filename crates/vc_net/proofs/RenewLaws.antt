@@ -1,10 +1,10 @@
 -- The work of a net goes on with other sources, with what is kept of its log.
-use Rattle.std.proofs.Common.{◌≡◌, ℕ, zero, suc, ◌+◌, ◌<◌, ◌≤◌, ◌⊎◌, add-one, Bool, true, false, not, ◌||◌}
+use Rattle.std.proofs.Common.{◌≡◌, ℕ, ◌+◌, ◌≤◌, ◌⊎◌, add-one, Bool, true, false, not, ◌||◌}
 use Rattle.std.proofs.Common.{List, [], ◌∷◌, ◌++◌, length, refl, sym, ◌∙◌, ap, subst, inl, inr, arith, append-nil}
 use Rattle.std.proofs.Common.{◌-◌, append_assoc, drop, get_or, take}
 use Rattle.std.specs.Prelude.{Option, None, Some, if◌then◌else◌}
 use Rattle.std.specs.List.{AllByRecursion, IsDistinct, filter, list_any}
-use Rattle.std.proofs.lemmas.Bool.{and_parts, cases_lt, or_cases, or_left, or_right}
+use Rattle.std.proofs.lemmas.Bool.{and_parts, or_cases, or_left, or_right}
 use Rattle.std.proofs.lemmas.List.{length-map, map-append, take_all}
 use Rattle.vc_base.specs.Chains.{cites_earlier}
 use Rattle.vc_base.specs.Kept.{count_with, kept, new_premises, number_for, with_step}
@@ -19,7 +19,7 @@ use Rattle.vc_plan.specs.declared.plans.Plan.{Plan}
 use Rattle.vc_plan.specs.Bounds.{greatest}
 use Rattle.vc_plan.specs.Clear.{is_clear}
 use Rattle.vc_plan.specs.Domains.{atom_count}
-use Rattle.vc_plan.specs.Gives.{Giver, by_entry, by_rule, by_user, givers_of}
+use Rattle.vc_plan.specs.Gives.{Giver, givers_of}
 use Rattle.vc_plan.specs.Seen.{same_atom, seen_of}
 use Rattle.vc_plan.specs.Settle.{base}
 use Rattle.vc_plan.specs.Sources.{Sources}
@@ -48,9 +48,10 @@ use Rattle.vc_net_standing.specs.Standing.{atoms_of}
 use Rattle.vc_net_waking.specs.Laws.{IsAgendaOf}
 use Rattle.vc_net_waking.specs.Waking.{sources_of, waking, with_givers}
 use Rattle.vc_net_waking.proofs.GiverLaws.{both_parts, each_waits, others_wait_on, sizes_stay}
-use Rattle.vc_net_waking.proofs.WakingLaws.{entry_below, entry_in, thing_there, touching_come, user_below, user_in}
+use Rattle.vc_net_waking.proofs.WakingLaws.{thing_there, touching_come}
 use Rattle.vc_net.specs.Going.{IsGoing}
 use Rattle.vc_net.specs.Renewing.{changed_sources, dropped_wake}
+use Rattle.vc_net.proofs.ChangeLaws.{AreChanges}
 use Rattle.vc_net.specs.declared.breaker.Breaker.{Breaker}
 use Rattle.vc_net.specs.declared.work.Work.{Work}
 use Rattle.vc_net.specs.Breaking.{unbroken}
@@ -104,26 +105,6 @@ dropped_rest plan stand (fact ∷ rest) d old new some e =
     ∙ sym (both_parts old
     (if has same_atom stand fact.atom then [] else waking plan (seen_of (set_with stand)) (thing_of fact.atom))
     (dropped_wake plan stand (atoms_of rest))))
-
--- the sources of a variable for which they differ are among those that changed
-changed_there : (old new : Sources) (n v : ℕ) (giver : Giver) → v < n
-    → (user_differs old new v || entry_differs old new v) ≡ true → has same_giver (sources_of v) giver ≡ true
-    → has same_giver (changed_sources old new n) giver ≡ true
-changed_there old new zero v giver below differ h = absurd (omega (arith, below))
-changed_there old new (suc n) v giver below differ h =
-    elim (cases_lt v n) [
-      | inl less ↦
-          has_front same_giver giver_exact giver_itself (changed_sources old new n) (own n) giver
-          (changed_there old new n v giver less differ h)
-      | inr past ↦
-          let same : v ≡ n = omega (arith, below, past) in
-          has_back same_giver giver_exact giver_itself (changed_sources old new n) (own n) giver
-          (subst (λ m. has same_giver (own m) giver ≡ true) same
-          (ap (λ b. has same_giver (if b then sources_of v else []) giver) differ ∙ h))
-    ]
-  where
-    own : ℕ → List Giver
-    own m = if user_differs old new m || entry_differs old new m then sources_of m else []
 
 some_at : (p : Atom → Bool) (xs : List Atom) → list_any p xs ≡ true
     → (a : Atom) × (has same_atom xs a ≡ true) × (p a ≡ true)
@@ -285,77 +266,68 @@ module _ (plan : Plan) (old new : Sources) (work : Work) (going : IsGoing plan o
     abbrev woken : List Giver
     woken = dropped_wake plan (concluded steps_left) (atoms_of taken)
 
-    abbrev changed : List Giver
-    changed = changed_sources old new (length plan.vars)
-
     abbrev pub first : Awaited
     first = with_givers work.agenda woken
-
-    abbrev pub last : Awaited
-    last = with_givers first changed
 
     pub first_sizes : IsAgendaOf plan first
     first_sizes =
         let sizes = sizes_stay work.agenda woken in
         (sizes.0 ∙ going.of.sizes.0, sizes.1 ∙ going.of.sizes.1)
 
-    pub last_sizes : IsAgendaOf plan last
-    last_sizes =
-        let sizes = sizes_stay first changed in (sizes.0 ∙ first_sizes.0, sizes.1 ∙ first_sizes.1)
+    module _ (changes : List Giver) (are : AreChanges plan old new changes) where
+      abbrev pub last : Awaited
+      last = with_givers first changes
 
-    wait_on : Within same_giver work.agenda.givers last.givers
-    wait_on giver h = others_wait_on first changed giver (others_wait_on work.agenda woken giver h)
+      pub last_sizes : IsAgendaOf plan last
+      last_sizes =
+          let sizes = sizes_stay first changes in (sizes.0 ∙ first_sizes.0, sizes.1 ∙ first_sizes.1)
 
-    touching_waits : (giver : Giver) → has same_giver (givers_of plan) giver ≡ true
-        → touches_some plan dropped giver ≡ true → stands_in left (trigger_by plan giver) ≡ true
-        → has same_giver last.givers giver ≡ true
-    touching_waits giver there touches stands =
-        let r = some_at (λ atom. giver_touches plan giver (thing_of atom)) dropped touches in
-        let d = dropped_taken r.0 r.1 in
-        let such = thing_there plan r.0 ((facts plan set going.working.sound.clear).named r.0 d.2) in
-        others_wait_on first changed giver
-        (each_waits plan work.agenda woken giver going.of.sizes
-        (dropped_there plan (concluded steps_left) (atoms_of taken) r.0 giver d.0 d.1
-        (touching_come plan left (thing_of r.0) giver left_clear such there r.2 stands)) there)
+      wait_on : Within same_giver work.agenda.givers last.givers
+      wait_on giver h = others_wait_on first changes giver (others_wait_on work.agenda woken giver h)
 
-    changed_waits : (giver : Giver) → has same_giver (givers_of plan) giver ≡ true
-        → giver_differs old new giver ≡ true → has same_giver last.givers giver ≡ true
-    changed_waits (by_rule r) there differs = absurd (cc)
-    changed_waits (by_user v) there differs =
-        each_waits plan first changed (by_user v) first_sizes
-        (changed_there old new (length plan.vars) v (by_user v) (user_below plan v there)
-        (or_left (user_differs old new v) (entry_differs old new v) differs) (user_in v)) there
-    changed_waits (by_entry v) there differs =
-        each_waits plan first changed (by_entry v) first_sizes
-        (changed_there old new (length plan.vars) v (by_entry v) (entry_below plan v there)
-        (or_right (user_differs old new v) (entry_differs old new v) differs) (entry_in v)) there
+      touching_waits : (giver : Giver) → has same_giver (givers_of plan) giver ≡ true
+          → touches_some plan dropped giver ≡ true → stands_in left (trigger_by plan giver) ≡ true
+          → has same_giver last.givers giver ≡ true
+      touching_waits giver there touches stands =
+          let r = some_at (λ atom. giver_touches plan giver (thing_of atom)) dropped touches in
+          let d = dropped_taken r.0 r.1 in
+          let such = thing_there plan r.0 ((facts plan set going.working.sound.clear).named r.0 d.2) in
+          others_wait_on first changes giver
+          (each_waits plan work.agenda woken giver going.of.sizes
+          (dropped_there plan (concluded steps_left) (atoms_of taken) r.0 giver d.0 d.1
+          (touching_come plan left (thing_of r.0) giver left_clear such there r.2 stands)) there)
 
-    disturbed_wait : Within same_giver (disturbed plan old new left dropped) last.givers
-    disturbed_wait giver h =
-        let p = has_filter same_giver giver_exact giver_itself (is_disturbed plan old new left dropped)
-        (givers_of plan) giver h in
-        let q = and_parts (giver_differs old new giver || touches_some plan dropped giver)
-        (stands_in left (trigger_by plan giver)) p.1 in
-        elim (or_cases (giver_differs old new giver) (touches_some plan dropped giver) q.0) [
-          | inl differs ↦ changed_waits giver p.0 differs
-          | inr touches ↦ touching_waits giver p.0 touches q.1
-        ]
+      changed_waits : (giver : Giver) → has same_giver (givers_of plan) giver ≡ true
+          → giver_differs old new giver ≡ true → has same_giver last.givers giver ≡ true
+      changed_waits giver there differs =
+          each_waits plan first changes giver first_sizes (are.all giver there differs) there
 
-    working : IsWorking plan new last.givers left
-    working =
-        work_is_kept plan old new work.agenda.givers last.givers set left dropped
-        (subst (λ givers. IsWorking plan old givers set) (append-nil work.agenda.givers) going.working)
-        is_split (logs_are_forced plan new steps_left left_accepted)
-        (λ a h. has_front same_atom atom_exact atom_itself base (concluded steps_left) a h) left_distinct wait_on
-        disturbed_wait
+      disturbed_wait : Within same_giver (disturbed plan old new left dropped) last.givers
+      disturbed_wait giver h =
+          let p = has_filter same_giver giver_exact giver_itself (is_disturbed plan old new left dropped)
+          (givers_of plan) giver h in
+          let q = and_parts (giver_differs old new giver || touches_some plan dropped giver)
+          (stands_in left (trigger_by plan giver)) p.1 in
+          elim (or_cases (giver_differs old new giver) (touches_some plan dropped giver) q.0) [
+            | inl differs ↦ changed_waits giver p.0 differs
+            | inr touches ↦ touching_waits giver p.0 touches q.1
+          ]
 
-    -- the work goes on
-    pub work_renews : (later : Work) → IsWorkOf plan later → later.log.steps ≡ steps_left → later.agenda ≡ last
-        → IsGoing plan new later []
-    work_renews later of kept asked =
-        nobody_beside plan new later of (ap (is_accepted plan new) kept ∙ left_accepted)
-        (subst (λ givers. IsWorking plan new givers (set_of later.log)) (sym (ap (λ (a : Awaited). a.givers) asked))
-        (subst (λ steps. IsWorking plan new last.givers (set_with (concluded steps))) (sym kept) working))
+      working : IsWorking plan new last.givers left
+      working =
+          work_is_kept plan old new work.agenda.givers last.givers set left dropped
+          (subst (λ givers. IsWorking plan old givers set) (append-nil work.agenda.givers) going.working)
+          is_split (logs_are_forced plan new steps_left left_accepted)
+          (λ a h. has_front same_atom atom_exact atom_itself base (concluded steps_left) a h) left_distinct wait_on
+          disturbed_wait
+
+      -- the work goes on
+      pub work_renews : (later : Work) → IsWorkOf plan later → later.log.steps ≡ steps_left → later.agenda ≡ last
+          → IsGoing plan new later []
+      work_renews later of kept asked =
+          nobody_beside plan new later of (ap (is_accepted plan new) kept ∙ left_accepted)
+          (subst (λ givers. IsWorking plan new givers (set_of later.log)) (sym (ap (λ (a : Awaited). a.givers) asked))
+          (subst (λ steps. IsWorking plan new last.givers (set_with (concluded steps))) (sym kept) working))
 
 -- the work that is left when the calls were made, one after the other
 pub renewed_is_of : (plan : Plan) (old : Sources) (work : Work) (log : Logged) (agenda : Awaited) (breaker : Breaker)

@@ -25,6 +25,12 @@ changed_sources old new zero = []
 changed_sources old new (suc n) =
     changed_sources old new n ++ (if user_differs old new n || entry_differs old new n then sources_of n else [])
 
+-- the sources of those of these variables for which they differ
+abbrev pub changed_among : Sources → Sources → List ℕ → List Giver
+changed_among old new [] = []
+changed_among old new (v ∷ vars) =
+    (if user_differs old new v || entry_differs old new v then sources_of v else []) ++ changed_among old new vars
+
 -- the steps begin with these
 abbrev pub BeginsWith : List Step → List Step → Type 0
 BeginsWith front steps = (more : List Step) × (steps ≡ front ++ more)

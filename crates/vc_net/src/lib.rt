@@ -4,6 +4,7 @@
 
 pub mod breaker;
 pub mod clashes;
+pub mod copying;
 pub mod laws;
 pub mod net;
 pub mod renewing;

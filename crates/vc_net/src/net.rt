@@ -9,6 +9,7 @@ ghost use Rattle.vc_net.specs.Costing.{IsBehind};
 ghost use Rattle.vc_net.specs.Nets.{IsNetOf};
 
 use crate::clashes::clash;
+use crate::copying::copy_at;
 use crate::settling::settle;
 use crate::work::Work;
 use std::alloc::{AllocError, Global};
@@ -50,6 +51,7 @@ impl Net {
     ghost use Rattle.vc_net_chains.specs.Telling.{chain_in};
     ghost use Rattle.vc_net_laws.specs.Wakings.{things_of};
     ghost use Rattle.vc_net.specs.Costing.{CostsItsWork, IsBehind};
+    ghost use Rattle.vc_net.specs.Differing.{AreAllWritten, SameBeside};
     ghost use Rattle.vc_net.specs.Ending.{IsSettled, clash_of};
     ghost use Rattle.vc_net.specs.Nets.{AreFor, IsNetOf, outcome_by};
 
@@ -124,6 +126,35 @@ impl Net {
     {
         self.work.renew(plan, &self.sources, sources);
         self.sources.copy_from(sources);
+        settle(plan, &self.sources, &mut self.work, &mut self.out, steps);
+    }
+
+    /// The same with sources of which the user's values differ from the net's for the first variables at most; the
+    /// second are all that statements write. No other variable is gone through.
+    pub fn sync_at<L: Ledger>(
+        &mut self,
+        plan: &Plan,
+        sources: &Sources,
+        touched: &[u32],
+        written: &[u32],
+        steps: &mut Steps<L>,
+    )
+        requires valid { IsValid plan.now }
+        requires of { IsNetOf plan.now self.old }
+        requires lengths { AreFor plan.now sources.now }
+        requires fits { sources_fit plan.now sources.now ≡ true }
+        requires touched { SameBeside touched.now self.old.sources.user sources.now.user }
+        requires written { AreAllWritten plan.now written.now }
+        ensures of { IsNetOf plan.now self.new }
+        ensures sources { self.new.sources ≡ sources.now }
+        ensures kept { BeginsWith (kept_of self.old.sources sources.now self.old.work.log.steps)
+            self.new.work.log.steps }
+        ensures cost { CostsItsWork plan.now self.old self.new steps.old steps.new }
+        ensures settled { IsSettled plan.now sources.now self.new.work }
+    {
+        self.work
+            .renew_at(plan, &self.sources, sources, touched, written);
+        copy_at(plan, sources, touched, written, &mut self.sources);
         settle(plan, &self.sources, &mut self.work, &mut self.out, steps);
     }
 }

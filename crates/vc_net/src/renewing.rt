@@ -1,14 +1,14 @@
 //! Who is asked when sources have changed.
 
-ghost use Rattle.std.specs.Prelude.{◌≡◌, ◌||◌, ◌^◌, ◌<◌, length};
+ghost use Rattle.std.specs.Prelude.{◌≡◌, ◌||◌, ◌^◌, ◌<◌, [], if◌then◌else◌, length};
 ghost use Rattle.vc_plan.specs.Domains.{atom_count};
 ghost use Rattle.vc_plan_reasons.specs.Checking.{concluded};
 ghost use Rattle.vc_plan_reasons.specs.Keeping.{entry_differs, user_differs};
 ghost use Rattle.vc_net_places.specs.Places.{index_of};
 ghost use Rattle.vc_net_readers.specs.Readers.{readers_of};
 ghost use Rattle.vc_net_standing.specs.Standing.{atoms_of};
-ghost use Rattle.vc_net_waking.specs.Waking.{with_givers};
-ghost use Rattle.vc_net.specs.Renewing.{changed_sources, dropped_wake};
+ghost use Rattle.vc_net_waking.specs.Waking.{sources_of, with_givers};
+ghost use Rattle.vc_net.specs.Renewing.{changed_among, changed_sources, dropped_wake};
 
 use vc_net_agenda::Agenda;
 use vc_net_log::Log;
@@ -52,9 +52,28 @@ pub fn wake_changed(plan: &Plan, old: &Sources, new: &Sources, agenda: &mut Agen
     ensures { agenda.new ≡ with_givers agenda.old (changed_sources old.now new.now (length plan.now.vars)) }
 {
     for var in 0..plan.vars.len() {
-        if sources_differ(old, new, var as u32) {
-            push_sources(var as u32, agenda);
-        }
+        wake_if_changed(old, new, var as u32, agenda);
+    }
+}
+
+/// Lets the sources of those of these variables wait for which they differ.
+pub fn wake_among(old: &Sources, new: &Sources, vars: &[u32], agenda: &mut Agenda)
+    ensures { agenda.new ≡ with_givers agenda.old (changed_among old.now new.now vars.now) }
+{
+    let mut rest = vars;
+    while let [var, more @ ..] = rest {
+        wake_if_changed(old, new, *var, agenda);
+        rest = more;
+    }
+}
+
+// Lets the sources of the variable wait, if they differ.
+fn wake_if_changed(old: &Sources, new: &Sources, var: u32, agenda: &mut Agenda)
+    ensures { agenda.new ≡ with_givers agenda.old
+        (if user_differs old.now new.now var || entry_differs old.now new.now var then sources_of var else []) }
+{
+    if sources_differ(old, new, var) {
+        push_sources(var, agenda);
     }
 }
 

@@ -6,7 +6,7 @@ ghost use Rattle.vc_plan.specs.Domains.{atom_count};
 ghost use Rattle.vc_net_places.specs.Places.{index_of};
 
 use crate::breaker::Breaker;
-use crate::renewing::{wake_changed, wake_dropped};
+use crate::renewing::{wake_among, wake_changed, wake_dropped};
 use crate::turn::Turn;
 use std::alloc::{AllocError, Global};
 use vc_net_agenda::{Agenda, Giver};
@@ -51,7 +51,10 @@ impl Work {
     ghost use Rattle.vc_net_places.specs.Places.{place_in};
     ghost use Rattle.vc_net_standing.specs.Standing.{is_free};
     ghost use Rattle.vc_net.specs.Costing.{StaysBehind};
+    ghost use Rattle.vc_net.specs.Differing.{SameBeside};
     ghost use Rattle.vc_net.specs.Going.{Concludes, Ends, IsGoing, MayCome, WasFound};
+    ghost use Rattle.vc_net.specs.Keeping.{HasKept};
+    ghost use Rattle.vc_net.specs.Nets.{AreFor};
     ghost use Rattle.vc_net.specs.Working.{IsWorkOf, restarted, with_conclusion};
 
     /// Nothing is concluded, and nobody is to be asked.
@@ -103,6 +106,44 @@ impl Work {
         ensures kept { self.new.log.steps ≡ kept_of old.now new.now self.old.log.steps }
         ensures calm { self.new.breaker.culprit ≡ None }
     {
+        self.keep(plan, old, new);
+        wake_changed(plan, old, new, &mut self.agenda);
+    }
+
+    /// The same with other sources of which the user's values differ for the first variables at most, and what is
+    /// written for the second. No other variable is gone through.
+    #[tactic(auto, using(crate::proofs::PlanFacts::vars_fit))]
+    pub fn renew_at(
+        &mut self,
+        plan: &Plan,
+        old: &Sources,
+        new: &Sources,
+        touched: &[u32],
+        written: &[u32],
+    )
+        requires valid { IsValid plan.now }
+        requires going { IsGoing plan.now old.now self.old [] }
+        requires lengths { AreFor plan.now old.now }
+        requires others { AreFor plan.now new.now }
+        requires touched { SameBeside touched.now old.now.user new.now.user }
+        requires written { SameBeside written.now old.now.written new.now.written }
+        ensures going { IsGoing plan.now new.now self.new [] }
+        ensures behind { StaysBehind plan.now old.now new.now self.old self.new }
+        ensures kept { self.new.log.steps ≡ kept_of old.now new.now self.old.log.steps }
+        ensures calm { self.new.breaker.culprit ≡ None }
+    {
+        self.keep(plan, old, new);
+        wake_among(old, new, touched, &mut self.agenda);
+        wake_among(old, new, written, &mut self.agenda);
+    }
+
+    // Keeps what stays of the log with other sources, and lets those wait whom what is dropped wakes.
+    #[tactic(auto, using(crate::proofs::PlanFacts::vars_fit))]
+    fn keep(&mut self, plan: &Plan, old: &Sources, new: &Sources)
+        requires valid { IsValid plan.now }
+        requires going { IsGoing plan.now old.now self.old [] }
+        ensures { HasKept plan.now old.now new.now self.old self.new }
+    {
         self.breaker.clear();
         self.log.keep(old, new, &mut self.taken);
         wake_dropped(
@@ -112,7 +153,6 @@ impl Work {
             self.taken.as_slice(),
             &mut self.agenda,
         );
-        wake_changed(plan, old, new, &mut self.agenda);
     }
 
     /// Concludes all that was found by the giver, as far as it doesn't stand, until something contradicts.

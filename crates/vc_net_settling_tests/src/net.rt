@@ -81,7 +81,7 @@ fn settled_with<L: Ledger>(
     let mut net = Net::new(alloc, plan)?;
     let mut steps: Steps<L> = Steps::new(blank);
     net.sync(plan, former, &mut steps);
-    net.sync(plan, sources, &mut steps);
+    net.sync_at(plan, sources, &[0], &[], &mut steps);
     logs_are_short();
     nets_explain();
     let steps = step_count(net.log(alloc));

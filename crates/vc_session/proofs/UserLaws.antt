@@ -1,12 +1,13 @@
 -- What a user chooses stays of the plan, edit by edit.
 use Rattle.std.proofs.Common.{◌≡◌, ℕ, zero, suc, ◌≤◌, Bool, true, false, ◌||◌, List, [], ◌∷◌, length, map, refl, sym}
-use Rattle.std.proofs.Common.{ap, ◌∙◌, inl, inr, arith}
+use Rattle.std.proofs.Common.{ap, ◌∙◌, subst, inl, inr, arith}
 use Rattle.std.specs.Prelude.{Option, None, Some, nat_eq, slice_get, slice_index_or, slice_set, ◌==◌, if◌then◌else◌}
 use Rattle.std.specs.List.{filter, list_all, list_any}
 use Rattle.std.proofs.lemmas.Bool.{and_from, and_parts, cases_lt, eq-eqb}
 use Rattle.std.proofs.lemmas.List.{length-map, length-set, map-set}
+use Rattle.vc_base.specs.Sets.{has}
 use Rattle.vc_base.proofs.ListLaws.{number_exact, number_itself, range_has}
-use Rattle.vc_base.proofs.SetLaws.{all_at}
+use Rattle.vc_base.proofs.SetLaws.{all_at, both, has_first}
 use Rattle.vc_value.specs.declared.value.Value.{Value}
 use Rattle.vc_value.specs.declared.value.Value.TheVariants.{Text, Num}
 use Rattle.vc_plan.specs.declared.plans.Named.{Named}
@@ -19,8 +20,10 @@ use Rattle.vc_plan.specs.Fitting.{may_have_if, may_hold, users_fit}
 use Rattle.vc_plan_users.specs.Choosing.{Chosen, held_texts, let_go, listed_at, marked, none_chosen, not_held, set_at}
 use Rattle.vc_plan_users.specs.Choosing.{users_of, with_value}
 use Rattle.vc_plan_users.specs.declared.users.SetText.{SetText}
-use Rattle.vc_session.specs.Edits.{given, given_alone, may_be_given, taken, taken_value}
-use Rattle.vc_session.specs.Sessions.{AreUsersOf, Opened, is_away, listed, set_fault}
+use Rattle.vc_net.specs.Differing.{SameBeside}
+use Rattle.vc_session_evaluation.specs.Following.{DifferAt}
+use Rattle.vc_session.specs.Edits.{given, given_alone, may_be_given, taken, taken_value, touched_by}
+use Rattle.vc_session.specs.Sessions.{AreUsersOf, IsSessionOf, Opened, is_away, listed, set_fault}
 use Rattle.vc_session.specs.declared.session.SetFault.TheVariants as faults
 
 -- lists stay as they are while texts are held or let go
@@ -206,6 +209,52 @@ taken_value_of plan chosen (Var v) a of = with_value_of plan chosen v None of re
 taken_value_of plan chosen (Set set) (Text t) of =
     with_texts_of plan chosen set (marked t false) (marked_text t false) of
 taken_value_of plan chosen (Set set) (Num a) of = of
+
+-- an edit changes no value but of what is named
+elsewhere : {X : Type 0} (xs : List (Option X)) (v : ℕ) (x : Option X) (w : ℕ) → (v ≡ w → ⊥)
+    → slice_index_or xs w None ≡ slice_index_or (slice_set xs v x) w None
+elsewhere [] v x w other = refl
+elsewhere (y ∷ xs) zero x zero other = absurd (other refl)
+elsewhere (y ∷ xs) zero x (suc w) other = refl
+elsewhere (y ∷ xs) (suc v) x zero other = refl
+elsewhere (y ∷ xs) (suc v) x (suc w) other = elsewhere xs v x w (λ e. other (ap suc e))
+
+value_touches : {X : Type 0} (xs : List (Option X)) (v : ℕ) (x : Option X)
+    → SameBeside (v ∷ []) xs (slice_set xs v x)
+value_touches xs v x w none =
+    elsewhere xs v x w
+    (λ e. both (subst (λ u. has nat_eq (v ∷ []) u ≡ true) e (has_first nat_eq number_exact number_itself v [])) none)
+
+pub given_touches : (chosen : Chosen) (named : Named) (a : Value)
+    → SameBeside (touched_by named) chosen.values (given chosen named a).values
+given_touches chosen (Var v) a = value_touches chosen.values v (Some a)
+given_touches chosen (Set set) (Text t) = λ w none. refl
+given_touches chosen (Set set) (Num a) = λ w none. refl
+
+pub taken_touches : (chosen : Chosen) (named : Named)
+    → SameBeside (touched_by named) chosen.values (taken chosen named).values
+taken_touches chosen (Var v) = value_touches chosen.values v None
+taken_touches chosen (Set set) = λ w none. refl
+
+pub given_alone_touches : (chosen : Chosen) (named : Named) (a : Value)
+    → SameBeside (touched_by named) chosen.values (given_alone chosen named a).values
+given_alone_touches chosen named a w none =
+    taken_touches chosen named w none ∙ given_touches (taken chosen named) named a w none
+
+pub taken_value_touches : (chosen : Chosen) (named : Named) (a : Value)
+    → SameBeside (touched_by named) chosen.values (taken_value chosen named a).values
+taken_value_touches chosen (Var v) a = value_touches chosen.values v None
+taken_value_touches chosen (Set set) (Text t) = λ w none. refl
+taken_value_touches chosen (Set set) (Num a) = λ w none. refl
+
+-- so an edit of a session differs from what was evaluated there alone
+pub edit_differs : (plan : Plan) (session : Opened) (vars : List ℕ) (now after : Chosen) → IsSessionOf plan session
+    → now ≡ after → SameBeside vars session.users.values after.values → DifferAt vars session.stages now.values
+edit_differs plan session vars now after of is same = record {
+  before = session.users.values;
+  taken = of.taken;
+  same = subst (λ (chosen : Chosen). SameBeside vars session.users.values chosen.values) (sym is) same;
+}
 
 abbrev no_values : List Variable → List (Option Value)
 no_values vars = map (λ x. None) vars

@@ -1,5 +1,5 @@
 -- Edits of what a user chose, and which values may be given.
-use Rattle.std.specs.Prelude.{◌<◌, Bool, true, false, ◌==◌, length, slice_index_or, None, Some, is_some}
+use Rattle.std.specs.Prelude.{◌<◌, ℕ, Bool, true, false, ◌==◌, List, [], ◌∷◌, length, slice_index_or, None, Some, is_some}
 use Rattle.std.specs.List.{list_any}
 use Rattle.vc_value.specs.declared.value.Value.{Value}
 use Rattle.vc_value.specs.declared.value.Value.TheVariants.{Text, Num}
@@ -32,6 +32,11 @@ abbrev pub has_chosen : Chosen → Named → Value → Bool
 has_chosen chosen (Var v) a = is_value a (slice_index_or chosen.values v None)
 has_chosen chosen (Set set) (Text t) = holds (users_of chosen) set t
 has_chosen chosen (Set set) (Num a) = false
+
+-- the variables of which an edit of what is named may change the value: a set's texts are no values
+abbrev pub touched_by : Named → List ℕ
+touched_by (Var v) = v ∷ []
+touched_by (Set set) = []
 
 -- a value is given: to a set beside those that it holds, or alone
 abbrev pub given : Chosen → Named → Value → Chosen

@@ -13,6 +13,7 @@ use Rattle.vc_plan_users.specs.Choosing.{Chosen, none_chosen, users_of}
 use Rattle.vc_plan_users.specs.declared.users.SetText.{SetText}
 use Rattle.vc_net.specs.Nets.{Netted, outcome_by}
 use Rattle.vc_session_evaluation.specs.Evaluating.{AreStagesOf, IsEvaluated, said_by}
+use Rattle.vc_session_evaluation.specs.Following.{HaveTaken}
 use Rattle.vc_session_evaluation.specs.declared.stages.Stages.{Stages}
 use Rattle.vc_session.specs.Edits.{may_be_given}
 use Rattle.vc_session.specs.declared.session.NotSet.{NotSet}
@@ -34,11 +35,12 @@ pub record AreUsersOf (plan : Plan) (chosen : Chosen) : Type 0 where
   pub sets : map listed chosen.sets ≡ map listed (none_chosen plan).sets
   pub fit : users_fit plan (users_of chosen) ≡ true
 
--- a session of the plan: what the user chose is of the plan, and is evaluated
+-- a session of the plan: what the user chose is of the plan, and is evaluated with just these values
 pub record IsSessionOf (plan : Plan) (session : Opened) : Type 0 where
   pub users : AreUsersOf plan session.users
   pub stages : AreStagesOf plan session.stages
   pub evaluated : IsEvaluated plan (users_of session.users) session.stages
+  pub taken : HaveTaken session.users.values session.stages
 
 -- what the last stage says
 abbrev pub seen_in : Option Netted → Seen

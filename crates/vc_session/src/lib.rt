@@ -2,6 +2,7 @@
 #![tactic(auto)]
 
 pub mod choosing;
+pub mod evaluating;
 pub mod explaining;
 pub mod listing;
 pub mod session;

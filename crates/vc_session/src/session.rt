@@ -7,6 +7,7 @@ ghost use Rattle.vc_session.specs.Costing.{HasStarted};
 ghost use Rattle.vc_session.specs.Sessions.{IsSessionOf};
 
 use crate::choosing::{give, give_alone, has_choice, has_chosen, take, take_value};
+use crate::evaluating::evaluate_edit;
 use crate::explaining::{chain, clash, log};
 use crate::listing::may_be_given;
 use std::alloc::{AllocError, Global};
@@ -87,7 +88,7 @@ impl Session {
             Some(fault) => Err(fault),
             None => {
                 give_alone(&mut self.users, named, value);
-                self.stages.evaluate(plan, &self.users, steps);
+                evaluate_edit(plan, &self.users, named, &mut self.stages, steps);
                 Ok(())
             }
         }
@@ -111,7 +112,7 @@ impl Session {
             Some(fault) => Err(fault),
             None => {
                 give(&mut self.users, named, value);
-                self.stages.evaluate(plan, &self.users, steps);
+                evaluate_edit(plan, &self.users, named, &mut self.stages, steps);
                 Ok(())
             }
         }
@@ -135,7 +136,7 @@ impl Session {
             return Err(NotSet);
         }
         take(&mut self.users, named);
-        self.stages.evaluate(plan, &self.users, steps);
+        evaluate_edit(plan, &self.users, named, &mut self.stages, steps);
         Ok(())
     }
 
@@ -158,7 +159,7 @@ impl Session {
             return Err(NotSet);
         }
         take_value(&mut self.users, named, value);
-        self.stages.evaluate(plan, &self.users, steps);
+        evaluate_edit(plan, &self.users, named, &mut self.stages, steps);
         Ok(())
     }
 

@@ -1,5 +1,5 @@
 -- The nets of an evaluation go on one after the other, and cost their works together.
-use Rattle.std.proofs.Common.{◌≡◌, ℕ, zero, suc, ◌+◌, ◌≤◌, List, [], ◌∷◌, refl, sym, subst, arith}
+use Rattle.std.proofs.Common.{◌≡◌, ℕ, zero, suc, ◌+◌, ◌<◌, ◌≤◌, List, [], ◌∷◌, refl, sym, ap, ◌∙◌, subst, arith}
 use Rattle.std.specs.Prelude.{Some, slice_get, slice_set}
 use Rattle.vc_plan.specs.declared.plans.Plan.{Plan}
 use Rattle.vc_plan.specs.Evaluate.{Users}
@@ -65,3 +65,16 @@ nets_cost_their_works plan users k (suc n) (old ∷ olds) (new ∷ news) before 
     let more = nets_cost_their_works plan users (suc k) n olds news g.0 after g.3 behinds are.1 in
     let rest = more.1 in
     ((one.0, more.0), omega (arith, first, rest))
+
+-- nets that went on have the user's values
+pub took : (plan : Plan) (users : Users) (k n : ℕ) (olds news : List Netted) (before after : ℕ)
+    → GoOn plan users k n olds news before after → (i : ℕ) (net : Netted) → i < n → slice_get news i ≡ Some net
+    → net.sources.user ≡ users.values
+took plan users k zero olds news before after g i net below at = absurd (omega (arith, below))
+took plan users k (suc n) [] news before after g i net below at = absurd g
+took plan users k (suc n) (old ∷ olds) [] before after g i net below at = absurd g
+took plan users k (suc n) (old ∷ olds) (new ∷ news) before after g zero net below at =
+    let same : net ≡ new = cc at in
+    ap (λ (n : Netted). n.sources.user) same ∙ ap (λ (s : Sources). s.user) g.1.3
+took plan users k (suc n) (old ∷ olds) (new ∷ news) before after g (suc i) net below at =
+    took plan users (suc k) n olds news g.0 after g.3 i net (omega (arith, below)) at

@@ -1,13 +1,15 @@
 -- How an evaluation goes from stage to stage, and ends.
 use Rattle.std.proofs.Common.{◌≡◌, ℕ, zero, suc, ◌+◌, ◌-◌, ◌<◌, ◌≤◌, Bool, true, false, not, ◌&&◌, List, [], ◌∷◌, ◌++◌}
 use Rattle.std.proofs.Common.{length, map, take, replicate, refl, sym, ap, ◌∙◌, subst, arith}
-use Rattle.std.specs.Prelude.{Option, None, Some, ◌==◌, if◌then◌else◌, option_map, slice_get, slice_index_or}
+use Rattle.std.specs.Prelude.{Option, None, Some, ◌==◌, if◌then◌else◌, nat_eq, option_map, slice_get, slice_index_or}
 use Rattle.std.specs.Prelude.{slice_set}
 use Rattle.std.specs.List.{AllByRecursion}
 use Rattle.std.proofs.lemmas.Bool.{eq-eqb, eqb-true, eqb-false}
 use Rattle.std.proofs.lemmas.List.FromFn.{length-map-range_with_len}
 use Rattle.std.proofs.lemmas.List.{length-map, length-replicate, length-set, length-take, map-append, take_all}
 use Rattle.vc_base.specs.Rounds.{settled}
+use Rattle.vc_base.specs.Sets.{has}
+use Rattle.vc_value.specs.declared.value.Value.{Value}
 use Rattle.vc_plan.specs.declared.atoms.Atom.{Atom}
 use Rattle.vc_plan.specs.declared.atoms.Clash.{Clash}
 use Rattle.vc_plan.specs.declared.atoms.Culprit.{Culprit}
@@ -15,7 +17,7 @@ use Rattle.vc_plan.specs.declared.atoms.Outcome.TheVariants as outcomes
 use Rattle.vc_plan.specs.declared.plans.Plan.{Plan}
 use Rattle.vc_plan.specs.declared.plans.Slot.{Slot}
 use Rattle.vc_plan.specs.Domains.{numbers_below}
-use Rattle.vc_plan.specs.Entries.{Entries, entry_in, no_entries}
+use Rattle.vc_plan.specs.Entries.{Entries, entry_in, no_entries, sources_in}
 use Rattle.vc_plan.specs.Evaluate.{Users, between, broken_at, holds, sources_of}
 use Rattle.vc_plan.specs.Fitting.{users_fit}
 use Rattle.vc_plan.specs.Seen.{seen_of}
@@ -31,8 +33,10 @@ use Rattle.vc_rule_laws.proofs.BoundLaws.{clear_lies_in_grains}
 use Rattle.vc_rule_terms.specs.Computing.{LiesInGrains}
 use Rattle.vc_net_log.specs.Logs.{set_of}
 use Rattle.vc_net.specs.Breaking.{clash_from, steps_with}
+use Rattle.vc_net.specs.Differing.{AreAllWritten, SameBeside}
 use Rattle.vc_net.specs.Ending.{EndsAs, IsSettled, clash_of}
 use Rattle.vc_net.specs.Nets.{AreFor, IsNetOf, Netted, outcome_by}
+use Rattle.vc_net.proofs.ChangeLaws.{fit_beside}
 use Rattle.vc_proc.specs.Laws.{FlagsLate}
 use Rattle.vc_proc.specs.Overlays.{EntriesLie}
 use Rattle.vc_proc.specs.Stages.{stage_written}
@@ -43,6 +47,7 @@ use Rattle.vc_session_stages.proofs.StageLaws.{sets_say_the_same, stages_begin, 
 use Rattle.vc_session_stages.proofs.StageLaws.{stages_settle, was_is}
 use Rattle.vc_session_evaluation.specs.Evaluating.{AreStagesOf, HasBroken, HasEnded, HasSettled, IsCalm}
 use Rattle.vc_session_evaluation.specs.Evaluating.{IsRefuted, said_by}
+use Rattle.vc_session_evaluation.specs.Writing.{IsBlankBeside}
 use Rattle.vc_session_evaluation.specs.Going.{FlagsLateOnes, LiesAt, SettlesAt, WritesAfter, flags_before, with_late}
 use Rattle.vc_session_evaluation.specs.declared.stages.Stages.{Stages}
 use Rattle.vc_session_evaluation.proofs.ListLemmas.{all_set, seen_below, seen_there, set_there, take_set, told_below}
@@ -92,30 +97,69 @@ lies_at plan users k old new valid there s net at =
 -- what stays while a net is put in its place, and while nothing but flags or entries change
 pub stages_are : (plan : Plan) (old new : Stages) → AreStagesOf plan old → AllByRecursion (IsNetOf plan) new.nets.items
     → length new.nets.items ≡ length old.nets.items → length new.overlay ≡ length old.overlay → AreFor plan new.sources
-    → length new.late ≡ length old.late → AreStagesOf plan new
-stages_are plan old new of nets many overlay sources late = record {
+    → new.written ≡ old.written → IsBlankBeside old.written new.sources.written → length new.late ≡ length old.late
+    → AreStagesOf plan new
+stages_are plan old new of nets many overlay sources written blank late = record {
   nets = nets;
   many = many ∙ of.many;
   overlay = overlay ∙ of.overlay;
   sources = sources;
   late = late ∙ of.late;
+  writes = subst (AreAllWritten plan) (sym written) of.writes;
+  blank = subst (λ vars. IsBlankBeside vars new.sources.written) (sym written) blank;
 }
+
+-- the user's values are put into the sources, and nothing else changes
+pub users_put : (plan : Plan) (old new : Stages) (values : List (Option Value)) → AreStagesOf plan old
+    → length values ≡ length plan.vars → new.nets.items ≡ old.nets.items
+    → new.overlay ≡ replicate (length old.overlay) None → new.sources ≡ record { user = values; written = old.sources.written } → new.written ≡ old.written
+    → new.late ≡ old.late → AreStagesOf plan new
+users_put plan old new values of many nets overlay sources written late =
+    let entries : new.sources.written ≡ old.sources.written = ap (λ (s : Sources). s.written) sources in
+    stages_are plan old new of (subst (AllByRecursion (IsNetOf plan)) (sym nets) of.nets) (ap length nets)
+    (ap length overlay ∙ length-replicate (length old.overlay) None)
+    (ap (λ (s : Sources). length s.user) sources ∙ many, ap length entries ∙ of.sources.1) written
+    (subst (IsBlankBeside old.written) (sym entries) of.blank) (ap length late)
+
+-- where nothing is written but what statements write, what is written differs nowhere else
+pub blanks_are_same : (plan : Plan) (users : Users) (stages : Stages) (vars : List ℕ) → AreStagesOf plan stages
+    → vars ≡ stages.written → sources_fit plan (sources_of users stages.overlay) ≡ true
+    → SameBeside vars stages.sources.written (sources_in stages.overlay)
+blanks_are_same plan users stages vars of is fits v none =
+    let apart = ap (λ ws. has nat_eq ws v) (sym is) ∙ none in
+    of.blank v apart ∙ sym (fit_beside plan (sources_of users stages.overlay) stages.written fits of.writes v apart)
+
+-- sources that are filled so are those of the stage
+pub filled_is : (users : Users) (entries : Entries) (sources : Sources) (values : List (Option Value))
+    → sources ≡ record { user = values; written = sources_in entries } → values ≡ users.values
+    → sources ≡ sources_of users entries
+filled_is users entries sources values is e =
+    is ∙ ap (λ own. let s : Sources = record { user = own; written = sources_in entries } in s) e
+
+-- sources that stay have nothing written where they had nothing
+blank_stays : (old new : Stages) → new.sources ≡ old.sources → IsBlankBeside old.written old.sources.written
+    → IsBlankBeside old.written new.sources.written
+blank_stays old new same blank = subst (λ (s : Sources). IsBlankBeside old.written s.written) (sym same) blank
 
 -- a net has settled in its place
 pub settled_at : (plan : Plan) (users : Users) (k : ℕ) (old new : Stages) (net : Netted) (whole : Bool)
     → AreStagesOf plan old
     → length users.values ≡ length plan.vars → IsNetOf plan net → new.nets.items ≡ slice_set old.nets.items k net
-    → new.sources ≡ sources_of users old.overlay → HasSettled plan new.sources net whole
-    → new.overlay ≡ old.overlay → new.late ≡ old.late → new.broken ≡ old.broken → SettlesAt plan users k old new whole
-settled_at plan users k old new net whole of values its nets sources done overlay late calm = record {
+    → new.sources ≡ sources_of users old.overlay → sources_fit plan (sources_of users old.overlay) ≡ true
+    → HasSettled plan new.sources net whole → new.overlay ≡ old.overlay → new.written ≡ old.written
+    → new.late ≡ old.late → new.broken ≡ old.broken → SettlesAt plan users k old new whole
+settled_at plan users k old new net whole of values its nets sources fits done overlay written late calm = record {
   of = stages_are plan old new of
       (subst (AllByRecursion (IsNetOf plan)) (sym nets) (all_set (IsNetOf plan) old.nets.items k net of.nets its))
       (ap length nets ∙ length-set old.nets.items k net) (ap length overlay)
-      (subst (AreFor plan) (sym sources) (values, length-map old.overlay (option_map entry_in) ∙ of.overlay))
+      (subst (AreFor plan) (sym sources) (values, length-map old.overlay (option_map entry_in) ∙ of.overlay)) written
+      (subst (λ (s : Sources). IsBlankBeside old.written s.written) (sym sources)
+      (fit_beside plan (sources_of users old.overlay) old.written fits of.writes))
       (ap length late);
   net = net;
   nets = nets;
   settled = subst (λ s. HasSettled plan s net whole) sources done;
+  sources = sources;
   overlay = overlay;
   late = late;
   broken = calm;
@@ -124,15 +168,14 @@ settled_at plan users k old new net whole of values its nets sources done overla
 -- an evaluation begins with nothing written
 pub begins : (plan : Plan) (users : Users) (old new : Stages) → IsValid plan → users_fit plan users ≡ true
     → AreStagesOf plan old
-    → new.nets.items ≡ old.nets.items → new.sources ≡ old.sources → new.late ≡ old.late
-    → new.overlay ≡ replicate (length old.overlay) None → IsAt plan users new 0
-begins plan users old new valid fit of nets sources late cleared =
-    let nothing : new.overlay ≡ no_entries plan =
-    cleared ∙ ap (λ n. replicate n None) of.overlay ∙ sym (none_are_replicas plan) in
+    → new.nets.items ≡ old.nets.items → new.sources ≡ old.sources → new.written ≡ old.written → new.late ≡ old.late
+    → new.overlay ≡ old.overlay → old.overlay ≡ replicate (length plan.vars) None → IsAt plan users new 0
+begins plan users old new valid fit of nets sources written late overlay cleared =
+    let nothing : new.overlay ≡ no_entries plan = overlay ∙ cleared ∙ sym (none_are_replicas plan) in
     record {
       of = stages_are plan old new of (subst (AllByRecursion (IsNetOf plan)) (sym nets) of.nets) (ap length nets)
-          (ap length cleared ∙ length-replicate (length old.overlay) None)
-          (subst (AreFor plan) (sym sources) of.sources) (ap length late);
+          (ap length overlay)
+          (subst (AreFor plan) (sym sources) of.sources) written (blank_stays old new sources of.blank) (ap length late);
       settled = subst (HaveSettled plan users []) (sym nothing) (stages_begin plan users);
       fits = ap (λ entries. sources_fit plan (sources_of users entries)) nothing
           ∙ (stages_fit plan users valid.own_writes fit).first;
@@ -318,22 +361,23 @@ pub wrote : (plan : Plan) (users : Users) (k stage : ℕ) (old flagged new : Sta
     → AreStagesOf plan old
     → flagged ≡ with_late old (flags_before plan k old) → stage ≡ k + 1 → slice_get flagged.nets.items k ≡ Some net
     → late ≡ flagged.late
-    → new.nets.items ≡ flagged.nets.items → new.sources ≡ flagged.sources → new.late ≡ flagged.late
-    → new.broken ≡ flagged.broken
+    → new.nets.items ≡ flagged.nets.items → new.sources ≡ flagged.sources → new.written ≡ flagged.written
+    → new.late ≡ flagged.late → new.broken ≡ flagged.broken
     → new.overlay ≡ stage_written plan (holds users) stage late (said_by net) flagged.overlay
     → EntriesLie plan new.overlay
     → WritesAfter plan users k old new
-wrote plan users k stage old flagged new net late of is next found flags nets sources kept calm written lie =
+wrote plan users k stage old flagged new net late of is next found flags nets sources vars kept calm written lie =
     let all = nets ∙ ap (λ s. s.nets.items) is in
     let told : new.late ≡ flags_before plan k old = kept ∙ ap (λ s. s.late) is in
     let entries : flagged.overlay ≡ old.overlay = ap (λ s. s.overlay) is in
+    let same : new.sources ≡ old.sources = sources ∙ ap (λ s. s.sources) is in
     let long : length new.overlay ≡ length old.overlay =
     ap length written ∙ stages_keep_lengths plan (holds users) stage late (said_by net) flagged.overlay
     ∙ ap length entries in
     record {
       of = stages_are plan old new of (subst (AllByRecursion (IsNetOf plan)) (sym all) of.nets) (ap length all) long
-          (subst (AreFor plan) (sym (sources ∙ ap (λ s. s.sources) is)) of.sources)
-          (ap length told ∙ flags_long plan old k of);
+          (subst (AreFor plan) (sym same) of.sources) (vars ∙ ap (λ s. s.written) is)
+          (blank_stays old new same of.blank) (ap length told ∙ flags_long plan old k of);
       nets = all;
       late = told;
       written = λ other at.
@@ -345,24 +389,26 @@ wrote plan users k stage old flagged new net late of is next found flags nets so
           ∙ ap (λ n. stage_written plan (holds users) (suc k) new.late (said_by n) flagged.overlay) same
           ∙ ap (stage_written plan (holds users) (suc k) new.late (said_by other)) entries;
       lie = lie;
+      sources = same;
       broken = calm ∙ ap (λ s. s.broken) is;
     }
 
 -- who is late is flagged, and nothing else changes
 pub marked : (plan : Plan) (old new : Stages) → AreStagesOf plan old → new.nets.items ≡ old.nets.items
-    → new.sources ≡ old.sources
+    → new.sources ≡ old.sources → new.written ≡ old.written
     → new.overlay ≡ old.overlay → new.broken ≡ old.broken
     → new.late ≡ map (is_late_seen plan (map said_by old.nets.items)) (numbers_below (length plan.slots))
     → FlagsLateOnes plan old new
-marked plan old new of nets sources overlay calm told = record {
+marked plan old new of nets sources written overlay calm told = record {
   of = stages_are plan old new of (subst (AllByRecursion (IsNetOf plan)) (sym nets) of.nets) (ap length nets)
       (ap length overlay)
-      (subst (AreFor plan) (sym sources) of.sources)
+      (subst (AreFor plan) (sym sources) of.sources) written (blank_stays old new sources of.blank)
       (ap length told ∙ length-map-range_with_len (is_late_seen plan (map said_by old.nets.items)) 0 (length plan.slots)
       ∙ sym of.late);
   nets = nets;
   late = told;
   overlay = overlay;
+  sources = sources;
   broken = calm;
 }
 

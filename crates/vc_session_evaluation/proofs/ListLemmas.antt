@@ -62,3 +62,20 @@ told_at f a (suc n) (suc i) d h =
 
 pub told_below : {A : Type 0} (f : ℕ → A) (n i : ℕ) (d : A) → i < n → slice_index_or (map f (numbers_below n)) i d ≡ f i
 told_below f n i d h = let same : 0 + i ≡ i = omega arith in told_at f 0 n i d h ∙ ap f same
+
+-- from a place on a list is as before
+abbrev pub StayFrom : {A : Type 0} → ℕ → List A → List A → Type 0
+StayFrom k old new = (i : ℕ) → k ≤ i → slice_get new i ≡ slice_get old i
+
+get_elsewhere : {A : Type 0} (xs : List A) (k : ℕ) (x : A) (i : ℕ) → k < i
+    → slice_get (slice_set xs k x) i ≡ slice_get xs i
+get_elsewhere [] k x i h = refl
+get_elsewhere (y ∷ xs) zero x zero h = absurd (omega (arith, h))
+get_elsewhere (y ∷ xs) zero x (suc i) h = refl
+get_elsewhere (y ∷ xs) (suc k) x zero h = absurd (omega (arith, h))
+get_elsewhere (y ∷ xs) (suc k) x (suc i) h = get_elsewhere xs k x i (omega (arith, h))
+
+pub stay_next : {A : Type 0} (old mid new : List A) (k : ℕ) (x : A) → StayFrom k old mid → new ≡ slice_set mid k x
+    → StayFrom (k + 1) old new
+stay_next old mid new k x stay is i h =
+    ap (λ xs. slice_get xs i) is ∙ get_elsewhere mid k x i (omega (arith, h)) ∙ stay i (omega (arith, h))

@@ -13,12 +13,14 @@ use Rattle.vc_session_stages.specs.Stages.{is_late_seen, was_seen}
 use Rattle.vc_session_evaluation.specs.Evaluating.{AreStagesOf, HasSettled, said_by}
 use Rattle.vc_session_evaluation.specs.declared.stages.Stages.{Stages}
 
--- the net of a stage has settled, or not, with the user's values and what was written; all else is as before
+-- the net of a stage has settled, or not, with the user's values and what was written, which then are the sources; all
+-- else is as before
 pub record SettlesAt (plan : Plan) (users : Users) (stage : ℕ) (old new : Stages) (whole : Bool) : Type 0 where
   pub of : AreStagesOf plan new
   pub net : Netted
   pub nets : new.nets.items ≡ slice_set old.nets.items stage net
   pub settled : HasSettled plan (sources_of users old.overlay) net whole
+  pub sources : new.sources ≡ sources_of users old.overlay
   pub overlay : new.overlay ≡ old.overlay
   pub late : new.late ≡ old.late
   pub broken : new.broken ≡ old.broken
@@ -38,6 +40,7 @@ with_late old flags = record {
   nets = old.nets;
   overlay = old.overlay;
   sources = old.sources;
+  written = old.written;
   late = flags;
   broken = old.broken;
 }
@@ -50,6 +53,7 @@ pub record WritesAfter (plan : Plan) (users : Users) (stage : ℕ) (old new : St
   pub written : (net : Netted) → slice_get old.nets.items stage ≡ Some net
       → new.overlay ≡ stage_written plan (holds users) (suc stage) new.late (said_by net) old.overlay
   pub lie : EntriesLie plan new.overlay
+  pub sources : new.sources ≡ old.sources
   pub broken : new.broken ≡ old.broken
 
 -- who is late is flagged; all else is as before
@@ -58,4 +62,5 @@ pub record FlagsLateOnes (plan : Plan) (old new : Stages) : Type 0 where
   pub nets : new.nets.items ≡ old.nets.items
   pub late : new.late ≡ map (is_late_seen plan (map said_by old.nets.items)) (numbers_below (length plan.slots))
   pub overlay : new.overlay ≡ old.overlay
+  pub sources : new.sources ≡ old.sources
   pub broken : new.broken ≡ old.broken

@@ -1,3 +1,5 @@
 pub mod Costing
 pub mod Evaluating
+pub mod Following
 pub mod Going
+pub mod Writing

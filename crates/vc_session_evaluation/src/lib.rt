@@ -1,10 +1,12 @@
 //! The evaluation of a user's values through all stages of a plan: nets settle, and between them procedures write.
 #![tactic(auto)]
 
+pub mod clearing;
 pub mod filling;
 pub mod lateness;
 pub mod laws;
 pub mod settling;
 pub mod stages;
+pub mod writing;
 
 pub use stages::Stages;

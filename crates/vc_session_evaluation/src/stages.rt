@@ -7,9 +7,11 @@ ghost use Rattle.vc_plan.specs.Writes.{last_stage};
 ghost use Rattle.vc_net.specs.Nets.{IsNetOf};
 ghost use Rattle.vc_session_evaluation.specs.Costing.{HasAllBehind};
 
-use crate::filling::fill;
+use crate::clearing::clear_at;
+use crate::filling::{fill_entries_at, fill_users, fill_users_at};
 use crate::lateness::{flag_late, flag_missing};
 use crate::settling::settle;
+use crate::writing::all_written;
 use std::alloc::{AllocError, Global};
 use std::sync::ledger::Ledger;
 use vc_net::Net;
@@ -20,19 +22,21 @@ use vc_proc::{Overlay, run_stage};
 use vc_value::Listed;
 use vc_value_steps::Steps;
 
-/// For each stage of a plan a net; what procedures wrote; which instances are late; and the first stage that is broken,
-/// if one is. All memory is taken at `new`.
+/// For each stage of a plan a net; what procedures wrote; the sources of the last stage that was settled; which variables
+/// statements write; which instances are late; and the first stage that is broken, if one is. All memory is taken at
+/// `new`.
 #[derive(Drop)]
 pub struct Stages {
     pub nets: Vec<Net>,
     pub overlay: Overlay,
     pub sources: Sources,
+    pub written: Listed<u32>,
     pub late: Listed<bool>,
     pub broken: Option<u32>,
 }
 
 impl Stages {
-    ghost use Rattle.std.specs.Prelude.{◌≡◌, ◌+◌, ◌<◌, true, None, length, IfOk};
+    ghost use Rattle.std.specs.Prelude.{◌≡◌, ◌+◌, ◌<◌, true, None, length, replicate, IfOk};
     ghost use Rattle.vc_plan.specs.Evaluate.{holds, sources_of};
     ghost use Rattle.vc_plan.specs.Fitting.{users_fit};
     ghost use Rattle.vc_plan.specs.Valid.{IsValid};
@@ -41,10 +45,12 @@ impl Stages {
     ghost use Rattle.vc_plan_users.specs.Choosing.{users_of};
     ghost use Rattle.vc_proc.specs.Overlays.{EntriesLie};
     ghost use Rattle.std.specs.List.{AllByRecursion};
-    ghost use Rattle.vc_session_evaluation.specs.Costing.{EvaluationCosts, HasAllBehind, SyncsAt};
+    ghost use Rattle.vc_session_evaluation.specs.Costing.{EvaluationCosts, HasAllBehind, SyncsAt, nets_asked};
     ghost use Rattle.vc_session_evaluation.specs.Evaluating.{AreStagesOf, IsEvaluated};
+    ghost use Rattle.vc_session_evaluation.specs.Following.{DifferAt, FollowBeside, FollowsBeside, HaveTaken};
     ghost use Rattle.vc_session_evaluation.specs.Going.{FlagsLateOnes, LiesAt, SettlesAt, WritesAfter};
     ghost use Rattle.vc_session_evaluation.specs.Going.{flags_before, with_late};
+    ghost use Rattle.vc_session_evaluation.specs.Writing.{IsBlankBeside};
 
     /// Nets that haven't settled, each with all things behind, and nothing written.
     pub fn new(alloc: Global, plan: &Plan) -> Result<Stages, AllocError>
@@ -55,11 +61,13 @@ impl Stages {
         let nets = new_nets(alloc, plan)?;
         let overlay = Overlay::new(alloc, plan)?;
         let sources = Sources::new(alloc, plan)?;
+        let written = all_written(alloc, plan)?;
         let late = no_flags(alloc, plan)?;
         Ok(Stages {
             nets,
             overlay,
             sources,
+            written,
             late,
             broken: None,
         })
@@ -75,18 +83,81 @@ impl Stages {
         ensures of { AreStagesOf plan.now self.new }
         ensures evaluated { IsEvaluated plan.now (users_of users.now) self.new }
         ensures cost { EvaluationCosts plan.now (users_of users.now) self.old.nets.items self.new steps.old steps.new }
+        ensures taken { HaveTaken users.now.values self.new }
     {
         self.overlay.clear();
+        fill_users(plan, users, &mut self.sources);
+        self.go_through(plan, users, 0, &[], steps);
+    }
+
+    /// The same where the user's values differ from those of the last evaluation for these variables at most. Nets that
+    /// went on then compare no other variables but those that statements write.
+    pub fn evaluate_at<L: Ledger>(
+        &mut self,
+        plan: &Plan,
+        users: &UserValues,
+        touched: &[u32],
+        steps: &mut Steps<L>,
+    )
+        requires valid { IsValid plan.now }
+        requires of { AreStagesOf plan.now self.old }
+        requires users { length users.now.values ≡ length plan.now.vars }
+        requires fit { users_fit plan.now (users_of users.now) ≡ true }
+        requires touched { DifferAt touched.now self.old users.now.values }
+        ensures of { AreStagesOf plan.now self.new }
+        ensures evaluated { IsEvaluated plan.now (users_of users.now) self.new }
+        ensures cost { EvaluationCosts plan.now (users_of users.now) self.old.nets.items self.new steps.old steps.new }
+        ensures taken { HaveTaken users.now.values self.new }
+    {
+        let following = self.nets_asked();
+        clear_at(self.written.as_slice(), &mut self.overlay);
+        fill_users_at(plan, users, touched, &mut self.sources);
+        self.go_through(plan, users, following, touched, steps);
+    }
+
+    // How many nets went on in the last evaluation.
+    fn nets_asked(&self) -> usize
+        ensures { result ≡ nets_asked self.now.nets.items self.now.broken }
+    {
+        match self.broken {
+            Some(stage) => stage as usize + 1,
+            None => self.nets.len(),
+        }
+    }
+
+    // Goes through the stages with the user's values, which are in the sources, and nothing written. The first nets have
+    // these values too, but for the variables touched.
+    fn go_through<L: Ledger>(
+        &mut self,
+        plan: &Plan,
+        users: &UserValues,
+        following: usize,
+        touched: &[u32],
+        steps: &mut Steps<L>,
+    )
+        requires valid { IsValid plan.now }
+        requires of { AreStagesOf plan.now self.old }
+        requires users { length users.now.values ≡ length plan.now.vars }
+        requires fit { users_fit plan.now (users_of users.now) ≡ true }
+        requires cleared { self.old.overlay ≡ replicate (length plan.now.vars) None }
+        requires taken { self.old.sources.user ≡ users.now.values }
+        requires follow { FollowBeside touched.now users.now.values following self.old.nets.items }
+        ensures of { AreStagesOf plan.now self.new }
+        ensures evaluated { IsEvaluated plan.now (users_of users.now) self.new }
+        ensures cost { EvaluationCosts plan.now (users_of users.now) self.old.nets.items self.new steps.old steps.new }
+        ensures taken { self.new.sources.user ≡ users.now.values }
+        ensures blank { IsBlankBeside self.new.written self.new.overlay }
+    {
         self.broken = None;
         let last = stages(plan) - 1;
         for stage in 0..last {
-            if !self.settle(plan, users, stage, steps) {
+            if !self.settle(plan, users, stage, following, touched, steps) {
                 self.broken = Some(stage);
                 return;
             }
             self.write(plan, users, stage, last);
         }
-        if self.settle(plan, users, last, steps) {
+        if self.settle(plan, users, last, following, touched, steps) {
             self.mark_late(plan, last);
         } else {
             self.broken = Some(last);
@@ -99,6 +170,8 @@ impl Stages {
         plan: &Plan,
         users: &UserValues,
         stage: u32,
+        following: usize,
+        touched: &[u32],
         steps: &mut Steps<L>,
     ) -> bool
         requires valid { IsValid plan.now }
@@ -106,11 +179,22 @@ impl Stages {
         requires users { length users.now.values ≡ length plan.now.vars }
         requires fits { sources_fit plan.now (sources_of (users_of users.now) self.old.overlay) ≡ true }
         requires there { stage < length self.old.nets.items }
+        requires taken { self.old.sources.user ≡ users.now.values }
+        requires follows { FollowsBeside touched.now users.now.values following self.old.nets.items stage }
         ensures settles { SettlesAt plan.now (users_of users.now) stage self.old self.new result }
         ensures syncs { SyncsAt plan.now (users_of users.now) stage self.old self.new steps.old steps.new }
     {
-        fill(plan, users, &self.overlay, &mut self.sources);
-        settle(plan, &self.sources, &mut self.nets[stage as usize], steps)
+        let written = self.written.as_slice();
+        fill_entries_at(plan, &self.overlay, written, &mut self.sources);
+        settle(
+            plan,
+            &self.sources,
+            (stage as usize) < following,
+            touched,
+            written,
+            &mut self.nets[stage as usize],
+            steps,
+        )
     }
 
     // Lets procedures write between a stage and the next.

@@ -1,6 +1,7 @@
 -- Procedures can run of a plan with one list of two texts and one procedure.
-use Rattle.std.proofs.Common.{◌≡◌, ℕ, zero, suc, ◌^◌, ◌<◌, ◌≤◌, true, ◌&&◌, List, [], ◌∷◌, length, map, ◌∙◌, ap, arith}
-use Rattle.std.specs.Prelude.{nat_lt, Option, None, Some, slice_get}
+use Rattle.std.proofs.Common.{◌≡◌, ℕ, zero, suc, ◌^◌, ◌<◌, ◌≤◌, true, ◌&&◌, List, [], ◌∷◌, length, map, refl, ◌∙◌, ap}
+use Rattle.std.proofs.Common.{arith}
+use Rattle.std.specs.Prelude.{nat_le, nat_lt, Option, None, Some, slice_get}
 use Rattle.std.specs.List.{list_all}
 use Rattle.vc_value.specs.declared.table_header.Domain.{Domain}
 use Rattle.vc_value.specs.declared.table_header.Domain.TheVariants.{Texts}
@@ -11,6 +12,7 @@ use Rattle.vc_plan.specs.declared.plans.Var.{Var}
 use Rattle.vc_plan.specs.declared.procedures.Procedure.{Procedure}
 use Rattle.vc_plan.specs.declared.terms.Term.TheVariants.{Literal}
 use Rattle.vc_plan.specs.Domains.{domain_of, grains_in}
+use Rattle.vc_plan.specs.Orders.{are_in_order}
 use Rattle.vc_plan.specs.Ranges.{condition_there, domain_there, term_there}
 use Rattle.vc_plan.specs.Sizes.{condition_small, is_small}
 use Rattle.vc_proc.specs.Stages.{CanRun}
@@ -36,6 +38,11 @@ few_in_all [] e = absurd (cc)
 few_in_all (p ∷ []) e = omega arith
 few_in_all (p ∷ q ∷ procedures) e = absurd (cc)
 
+one_stands : (vars : List Var) → length vars ≡ 1 → are_in_order (λ a b. nat_le a.slot b.slot) vars ≡ true
+one_stands [] e = refl
+one_stands (x ∷ []) e = refl
+one_stands (x ∷ y ∷ vars) e = absurd (omega (arith, e))
+
 pub texts_can_run : (plan : Plan) → length plan.texts ≡ 2 → plan.domains ≡ Texts (0 ∷ 1 ∷ []) ∷ []
     → length plan.slots ≡ 1
     → length plan.vars ≡ 1 → plan.conditions ≡ Always ∷ [] → plan.terms ≡ Literal (Text 1) ∷ Literal (Text 0) ∷ []
@@ -52,6 +59,7 @@ texts_can_run plan texts domains slots vars conditions terms procedures = record
     };
     few_slots = omega (arith, slots);
     few_vars = omega (arith, vars);
+    vars_by_slot = one_stands plan.vars vars;
   };
   grains = λ v. by (slice_get plan.vars v);
   few_procedures = few_in_all plan.procedures procedures;

@@ -41,6 +41,7 @@ fn evaluated<L: Ledger>(alloc: Global, plan: &Plan, blank: Blank) -> Result<bool
     let mut stages = Stages::new(alloc, plan)?;
     let mut steps: Steps<L> = Steps::new(blank);
     stages.evaluate(plan, &users, &mut steps);
+    stages.evaluate_at(plan, &users, &[], &mut steps);
     let settled = are_settled(&stages);
     drop(stages);
     drop(users);

@@ -7,6 +7,8 @@ use Rattle.vc_rule_yield.specs.Yielding.{Yielded}
 use Rattle.vc_net_laws.specs.Wakings.{things_of}
 use Rattle.vc_net_work.proofs.StartLaws.{beginners_are_on}
 use Rattle.vc_net.specs.Costing.{IsBehind}
+use Rattle.vc_plan_reasons.specs.Fitting.{sources_fit}
+use Rattle.vc_net.proofs.ChangeLaws.{nothing_fits}
 use Rattle.vc_net.proofs.EndLaws.{work_restarts}
 use Rattle.vc_net.proofs.net.with_bounds.Goals as goal
 
@@ -21,6 +23,7 @@ returns-clause-of c =
         ap (λ (s : Sources). length s.user) c.in_ok-sources.ensures ∙ length-replicate (length plan.vars) _,
         ap (λ (s : Sources). length s.written) c.in_ok-sources.ensures ∙ length-replicate (length plan.vars) _,
       );
+      fits = ap (sources_fit plan) c.in_ok-sources.ensures ∙ nothing_fits plan (length plan.vars);
     }
 
 pub returns-clause-behind : goal.returns-clause-behind

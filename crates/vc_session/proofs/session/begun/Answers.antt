@@ -16,7 +16,7 @@ pub returns-clause-of : goal.returns-clause-of
 returns-clause-of g c =
     let users : AreUsersOf c.args.plan.now c.in_ok-users.users
     = subst (AreUsersOf c.args.plan.now) (sym c.in_ok-users.ensures) (none_of c.args.plan.now) in
-    record { users = users; stages = c.evaluate.ensures.of; evaluated = c.evaluate.ensures.evaluated }
+    record { users = users; stages = c.evaluate.ensures.of; evaluated = c.evaluate.ensures.evaluated; taken = c.evaluate.ensures.taken }
 
 pub returns-clause-behind : goal.returns-clause-behind
 returns-clause-behind g c =

@@ -1,72 +1,30 @@
 -- What is kept of the log is accepted with the new sources, and whoever may have more to say waits.
-use Rattle.std.proofs.Common.{◌≡◌, ◌∙◌, ap, length, subst, sym}
-use Rattle.vc_plan_reasons.specs.Checking.{concluded}
-use Rattle.vc_net_log.specs.Going.{WereTaken}
-use Rattle.vc_net_log.specs.Logs.{Logged}
-use Rattle.vc_net_standing.specs.Standing.{atoms_of}
-use Rattle.vc_net_waking.specs.Laws.{IsAgendaOf}
-use Rattle.vc_net_waking.specs.Waking.{with_givers}
-use Rattle.vc_net.specs.Renewing.{changed_sources, dropped_wake}
-use Rattle.vc_plan_reasons.specs.Work.{reach_of}
-use Rattle.vc_net_agenda.specs.Agendas.{Awaited}
-use Rattle.vc_net_work.specs.Spending.{AreOn}
-use Rattle.vc_net.specs.Costing.{to_do}
-use Rattle.vc_net.proofs.ReachLaws.{last_on}
-use Rattle.vc_net.proofs.RenewLaws.{earlier_cited, few_steps, last, last_sizes, renewed_is_of, steps_left, work_renews}
+use Rattle.std.proofs.Common.{length}
+use Rattle.vc_net.specs.Renewing.{changed_sources}
+use Rattle.vc_net.proofs.ChangeLaws.{changes_of_all}
+use Rattle.vc_net.proofs.KeepingLaws.{goes_on_with, stays_behind}
 use Rattle.vc_net.proofs.work.Work.renew.Goals as goal
-
-pub keep-requires-clause-room : goal.keep-requires-clause-room
-keep-requires-clause-room c =
-    few_steps c.args.plan.now c.args.old.now c.args.new.now c.args.self.now c.requires.going
-
-pub keep-requires-clause-earlier : goal.keep-requires-clause-earlier
-keep-requires-clause-earlier c =
-    earlier_cited c.args.plan.now c.args.old.now c.args.new.now c.args.self.now c.requires.going
-
--- the steps that are kept, what was taken, and who waits
-kept_steps : (c : goal.After-wake_changed)
-    → c.keep.new.self.steps ≡ steps_left c.args.plan.now c.args.old.now c.args.new.now c.args.self.now c.requires.going
-kept_steps c = ap (λ (l : Logged). l.steps) c.keep.ensures.kept
-
-were : (c : goal.After-wake_changed)
-    → WereTaken c.args.self.now.log.steps
-    (steps_left c.args.plan.now c.args.old.now c.args.new.now c.args.self.now c.requires.going)
-    c.keep.new.taken.items
-were c =
-    subst (λ steps. WereTaken c.args.self.now.log.steps steps c.keep.new.taken.items) (kept_steps c)
-    c.keep.ensures.taken
-
-asked : (c : goal.After-wake_changed)
-    → c.wake_changed.new.agenda
-    ≡ last c.args.plan.now c.args.old.now c.args.new.now c.args.self.now c.requires.going c.keep.new.taken.items (were c)
-asked c =
-    let plan = c.args.plan.now in
-    let changed = changed_sources c.args.old.now c.args.new.now (length plan.vars) in
-    c.wake_changed.ensures
-    ∙ ap (λ a. with_givers a changed) (c.wake_dropped.ensures
-    ∙ (ap (λ facts. with_givers c.args.self.now.agenda
-    (dropped_wake plan (concluded c.keep.new.self.steps) (atoms_of facts))) c.as_slice.ensures
-    ∙ ap (λ steps. with_givers c.args.self.now.agenda
-    (dropped_wake plan (concluded steps) (atoms_of c.keep.new.taken.items))) (kept_steps c)))
 
 pub returns-clause-going : goal.returns-clause-going
 returns-clause-going c =
     let plan = c.args.plan.now in
     let old = c.args.old.now in
     let new = c.args.new.now in
-    let work = c.args.self.now in
-    work_renews plan old new work c.requires.going c.keep.new.taken.items (were c) _
-    (renewed_is_of plan old work c.keep.new.self c.wake_changed.new.agenda c.clear.new.self c.keep.new.taken
-    (steps_left plan old new work c.requires.going) c.requires.going c.keep.ensures.kept
-    (subst (IsAgendaOf plan) (sym (asked c))
-    (last_sizes plan old new work c.requires.going c.keep.new.taken.items (were c)))
-    c.clear.ensures c.keep.ensures.room)
-    (kept_steps c) (asked c)
+    goes_on_with plan old new c.args.self.now c.keep.new.self c.requires.going c.keep.ensures
+    (changed_sources old new (length plan.vars)) (changes_of_all plan old new) c.wake_changed.new.agenda
+    c.wake_changed.ensures
 
 pub returns-clause-behind : goal.returns-clause-behind
-returns-clause-behind c = λ behind on.
+returns-clause-behind c =
     let plan = c.args.plan.now in
     let old = c.args.old.now in
     let new = c.args.new.now in
-    subst (λ (a : Awaited). AreOn plan (reach_of plan (to_do plan behind old new)) a.givers) (sym (asked c))
-    (last_on plan c.requires.valid old new c.args.self.now c.requires.going c.keep.new.taken.items (were c) behind on)
+    stays_behind plan old new c.args.self.now c.keep.new.self c.requires.going c.keep.ensures
+    (changed_sources old new (length plan.vars)) (changes_of_all plan old new) c.wake_changed.new.agenda
+    c.wake_changed.ensures c.requires.valid
+
+pub returns-clause-kept : goal.returns-clause-kept
+returns-clause-kept c = c.keep.ensures.kept
+
+pub returns-clause-calm : goal.returns-clause-calm
+returns-clause-calm c = c.keep.ensures.calm

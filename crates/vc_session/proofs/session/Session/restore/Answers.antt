@@ -7,7 +7,7 @@ use Rattle.vc_session.proofs.session.Session.restore.Goals as goal
 
 pub returns-clause-of : goal.returns-clause-of
 returns-clause-of g c =
-    record { users = c.requires.users; stages = c.evaluate.ensures.of; evaluated = c.evaluate.ensures.evaluated }
+    record { users = c.requires.users; stages = c.evaluate.ensures.of; evaluated = c.evaluate.ensures.evaluated; taken = c.evaluate.ensures.taken }
 
 pub returns-clause-cost : goal.returns-clause-cost
 returns-clause-cost g c =

@@ -2,12 +2,13 @@
 use Rattle.std.proofs.Common.{◌∙◌, subst, sym}
 use Rattle.vc_plan_users.specs.Choosing.{users_of}
 use Rattle.vc_session_evaluation.specs.Costing.{EvaluationCosts}
+use Rattle.vc_session.specs.Edits.{touched_by}
 use Rattle.vc_session.specs.Sessions.{AreUsersOf, IsSessionOf, Opened}
-use Rattle.vc_session.proofs.UserLaws.{given_alone_of, may_give}
+use Rattle.vc_session.proofs.UserLaws.{edit_differs, given_alone_of, given_alone_touches, may_give}
 use Rattle.vc_session.proofs.session.Session.set.Goals as goal
 
-pub evaluate-requires-clause-fit : goal.evaluate-requires-clause-fit
-evaluate-requires-clause-fit g c =
+pub evaluate_edit-requires-clause-users : goal.evaluate_edit-requires-clause-users
+evaluate_edit-requires-clause-users g c =
     let plan = c.args.plan.now in
     let of : IsSessionOf plan (record { users = c.self.inside.users; stages = c.self.inside.stages }) =
     subst (IsSessionOf plan) (sym c.self.view_is) c.requires.of in
@@ -15,7 +16,15 @@ evaluate-requires-clause-fit g c =
     subst (AreUsersOf plan) (sym c.give_alone.ensures)
     (given_alone_of plan c.self.inside.users c.args.named c.args.value of.users
     (may_give plan c.args.self.now c.args.named c.args.value (sym c.fault.ensures ∙ c.in-None.is))) in
-    users.fit
+    users
+
+pub evaluate_edit-requires-clause-touched : goal.evaluate_edit-requires-clause-touched
+evaluate_edit-requires-clause-touched g c =
+    let plan = c.args.plan.now in
+    let session : Opened = record { users = c.self.inside.users; stages = c.self.inside.stages } in
+    edit_differs plan session (touched_by c.args.named) c.give_alone.new.users _
+    (subst (IsSessionOf plan) (sym c.self.view_is) c.requires.of) c.give_alone.ensures
+    (given_alone_touches c.self.inside.users c.args.named c.args.value)
 
 pub returns-in-None-clause-of : goal.returns-in-None-clause-of
 returns-in-None-clause-of g c =
@@ -26,9 +35,14 @@ returns-in-None-clause-of g c =
     subst (AreUsersOf plan) (sym c.give_alone.ensures)
     (given_alone_of plan c.self.inside.users c.args.named c.args.value of.users
     (may_give plan c.args.self.now c.args.named c.args.value (sym c.fault.ensures ∙ c.in-None.is))) in
-    record { users = users; stages = c.evaluate.ensures.of; evaluated = c.evaluate.ensures.evaluated }
+    record {
+      users = users;
+      stages = c.evaluate_edit.ensures.of;
+      evaluated = c.evaluate_edit.ensures.evaluated;
+      taken = c.evaluate_edit.ensures.taken;
+    }
 
 pub returns-in-None-clause-cost : goal.returns-in-None-clause-cost
 returns-in-None-clause-cost g c =
     subst (λ (old : Opened). EvaluationCosts c.args.plan.now (users_of c.give_alone.new.users) old.stages.nets.items
-    c.evaluate.new.self c.args.steps.now c.evaluate.new.steps) c.self.view_is c.evaluate.ensures.cost
+    c.evaluate_edit.new.stages c.args.steps.now c.evaluate_edit.new.steps) c.self.view_is c.evaluate_edit.ensures.cost

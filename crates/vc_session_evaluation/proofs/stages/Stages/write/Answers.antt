@@ -16,5 +16,5 @@ returns c =
     (omega (arith, many, c.requires.of.many, c.requires.last, c.requires.there)) c.index.ensures in
     wrote c.args.plan.now (users_of c.args.users.now) c.args.stage (c.args.stage + 1) c.args.self.now
     c.flag_before.new.self _ net
-    c.as_slice.result.now c.requires.of c.flag_before.ensures refl found c.as_slice.ensures refl refl refl refl
+    c.as_slice.result.now c.requires.of c.flag_before.ensures refl found c.as_slice.ensures refl refl refl refl refl
     c.run_stage.ensures.is c.run_stage.ensures.lie
