@@ -8,6 +8,7 @@ use Rattle.vc_plan.specs.declared.plans.Plan.{Plan}
 use Rattle.vc_plan.specs.declared.terms.Term.TheVariants.{Literal}
 use Rattle.vc_plan.specs.Ranges.{condition_there, domain_there, is_stored, term_there}
 use Rattle.vc_plan.specs.Sizes.{condition_small, is_small}
+use Rattle.vc_rule_readings.specs.Finding.{stands_by}
 use Rattle.vc_rule_readings.specs.Summing.{SumsFit}
 
 pub plain_fits : (plan : Plan) (n : Dec) → plan.domains ≡ [] → plan.conditions ≡ Always ∷ []
@@ -23,4 +24,5 @@ plain_fits plan n domains conditions terms stored slots vars = record {
   };
   few_slots = omega (arith, slots);
   few_vars = let none = ap length vars in omega (arith, none);
+  vars_by_slot = ap (stands_by (λ x. x.slot)) vars;
 }

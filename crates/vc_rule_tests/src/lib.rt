@@ -4,7 +4,11 @@
 #[cfg(test)]
 mod rule;
 #[cfg(test)]
+mod rule_finding;
+#[cfg(test)]
 mod rule_grains;
+#[cfg(test)]
+mod rule_narrowing;
 #[cfg(test)]
 mod rule_premises;
 #[cfg(test)]

@@ -34,9 +34,8 @@ fn fills_within_its_room(rt: HostRuntime) -> Result<(), Fail> {
     Ok(())
 }
 
-#[test]
-fn concludes_from_what_is_cited(rt: HostRuntime) -> Result<(), Fail> {
-    let mut out = Yield::new(rt.alloc(), 3, 2, 4)?;
+// Three conclusions, for two of which there is room.
+fn conclude_thrice(out: &mut Yield) {
     out.cite(Atom::Here(0));
     out.cite(Atom::Here(1));
     out.cite(Atom::Here(1));
@@ -45,20 +44,43 @@ fn concludes_from_what_is_cited(rt: HostRuntime) -> Result<(), Fail> {
     out.conclude(Atom::Out(0, 1));
     out.keep_cited(1);
     out.conclude(Atom::Out(0, 2));
-    assert_eq!(rt; out.cited_count(), 1);
-    assert_eq!(rt; out.count(), 2);
-    assert_eq!(rt; out.atom(1), Atom::Out(0, 1));
-    assert_eq!(rt; out.premises(0), [Atom::Here(1)].as_slice());
-    assert_eq!(rt;
-        out.premises(1),
-        [Atom::Here(1), Atom::Out(5, 1)].as_slice()
-    );
-    assert!(rt; out.clash().is_none());
+}
+
+fn tells_two(out: &Yield) -> bool {
+    out.cited_count() == 1
+        && out.count() == 2
+        && out.atom(1) == Atom::Out(0, 1)
+        && out.clash().is_none()
+}
+
+fn tells_premises(out: &Yield) -> bool {
+    out.count() == 2
+        && out.premises(0) == [Atom::Here(1)].as_slice()
+        && out.premises(1) == [Atom::Here(1), Atom::Out(5, 1)].as_slice()
+}
+
+// Behind a clash nothing is concluded.
+fn clashes_for_good(out: &mut Yield) -> bool {
     out.clash_now();
     out.conclude(Atom::Out(0, 0));
-    assert_eq!(rt; out.count(), 0);
-    assert_eq!(rt; out.clash().ok_or("no clash")?, [Atom::Here(1)].as_slice());
+    out.count() == 0 && out.clash() == Some([Atom::Here(1)].as_slice())
+}
+
+fn forgets_the_clash(out: &mut Yield) -> bool {
     out.clear();
-    assert!(rt; out.clash().is_none());
+    out.clash().is_none()
+}
+
+#[test]
+fn concludes_from_what_is_cited(rt: HostRuntime) -> Result<(), Fail> {
+    let mut out = Yield::new(rt.alloc(), 3, 2, 4)?;
+    conclude_thrice(&mut out);
+    let two = tells_two(&out);
+    let premises = tells_premises(&out);
+    let clashed = clashes_for_good(&mut out);
+    let cleared = forgets_the_clash(&mut out);
+    drop(out);
+    assert!(rt; two && premises);
+    assert!(rt; clashed && cleared);
     Ok(())
 }
