@@ -1,0 +1,4 @@
+pub mod AnswerLaws
+pub mod BoundLaws
+pub mod TakingLaws
+pub mod TurnLaws

@@ -1,0 +1,4 @@
+pub mod CourseLaws
+pub mod EndLaws
+pub mod TalkLaws
+pub mod TalkRows
