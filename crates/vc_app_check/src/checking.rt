@@ -17,8 +17,8 @@ use vc_value::Word;
 
 const NO_MEMORY: &[u8] = b"no memory\n";
 
-// Writes the line, and answers the status, or 5 where the sink fails.
-fn say<S: Sink>(out: &mut S, line: &[u8], status: u8) -> u8
+/// Writes the line, and answers the status, or 5 where the sink fails.
+pub fn say<S: Sink>(out: &mut S, line: &[u8], status: u8) -> u8
     ensures { checking.IsSaid (S.written out.old) (S.written out.new) (S.faults out.old) (S.faults out.new)
         line.now status result }
 {

@@ -46,8 +46,8 @@ pub fn counts_line(alloc: Global, counts: Counts) -> Result<Word, AllocError>
     text(alloc, line.as_str())
 }
 
-// Why the file of this name was not read.
-fn file_line(alloc: Global, name: &[u8], fault: FileFault) -> Result<Word, AllocError>
+/// Why the file of this name was not read.
+pub fn file_line(alloc: Global, name: &[u8], fault: FileFault) -> Result<Word, AllocError>
     ensures { IfOk result (λ line. line ≡ lines.file_line name.now fault) }
 {
     match fault {

@@ -1,0 +1,4 @@
+pub mod TotalLemmas
+pub mod AskingLaws
+pub mod GenLaws
+pub mod TallyRows

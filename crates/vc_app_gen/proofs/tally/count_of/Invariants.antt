@@ -1,0 +1,13 @@
+-- What is told so far, with the variables to come, is all of it; each adds little.
+use Rattle.std.proofs.Common.{◌≡◌, ◌+◌, ◌-◌, ◌≤◌, length, map}
+use Rattle.std.specs.List.{range_with_len}
+use Rattle.vc_net_places.specs.Cells.{total}
+use Rattle.vc_plan.specs.Domains.{numbers_below}
+use Rattle.vc_app_gen.specs.Tallies.{counted}
+use Rattle.vc_app_gen.proofs.tally.count_of.Given as goal
+
+abbrev pub invariant-loop-var : goal.invariant-loop-var
+invariant-loop-var g l =
+    (l.count + total (map (λ v. counted ((g.V.View.seen l.seen).value v)) (range_with_len l.var (l.var-end - l.var)))
+    ≡ total (map (λ v. counted ((g.V.View.seen l.seen).value v)) (numbers_below (length l.plan.vars))))
+    × ((l.count ≤ l.var) × (l.var ≤ l.var-end))

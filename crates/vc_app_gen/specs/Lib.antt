@@ -1,0 +1,4 @@
+pub mod Counts
+pub mod Generating
+pub mod Lines
+pub mod Tallies
