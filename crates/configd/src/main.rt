@@ -1,5 +1,5 @@
-//! The program `configd`: hands the words, the files, a database of saved sessions and standard output to the top call,
-//! and ends with its status.
+//! The program `configd`: hands the words, the files, a database of saved sessions, a port and standard output to the
+//! top call, and ends with its status.
 #![tactic(auto)]
 
 use std::alloc::AllocError;
@@ -7,6 +7,7 @@ use std::env;
 use std::process::ExitCode;
 use vc_app::desk;
 use vc_outside::{FileShelf, StdSink};
+use vc_outside_sockets::TcpDoor;
 use vc_store_sqlite::SqlKeeper;
 
 /// The words of the command line, the program's name first; none where they can't be had.
@@ -26,7 +27,8 @@ fn main(rt: HostRuntime) -> ExitCode {
     };
     let alloc = rt.alloc();
     let mut shelf = FileShelf::new(&rt);
+    let mut door = TcpDoor::new(&rt, alloc);
     let mut sink = StdSink::new(rt.stdout());
     let mut keeper = SqlKeeper::new(rt);
-    ExitCode::from(desk(alloc, words, &mut shelf, &mut keeper, &mut sink))
+    ExitCode::from(desk(alloc, words, &mut shelf, &mut keeper, &mut door, &mut sink))
 }

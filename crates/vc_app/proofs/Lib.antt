@@ -1,3 +1,4 @@
+pub mod AskedLaws
 pub mod EndingLaws
 pub mod ExactnessLaws
 pub mod ScriptLines

@@ -1,10 +1,15 @@
 //! The top call.
 
-ghost use Rattle.std.specs.Prelude.{◌≡◌, ℕ, List, ◌≤◌, ◌<◌, IsSome, OnOk};
+ghost use Rattle.std.specs.Prelude.{◌≡◌, ℕ, List, ◌≤◌, ◌<◌, false, IsSome, OnOk};
 ghost use Rattle.std.specs.Result.{IsErrOf};
 ghost use Rattle.vc_outside.specs.Faults.{Raised};
 ghost use Rattle.vc_plan.specs.Valid.{IsValid};
 ghost use Rattle.vc_app_check.specs.Checking.{EndsCheck};
+ghost use Rattle.vc_app_gen.specs.Generating.{EndsGen};
+ghost use Rattle.vc_app_serve.specs.Serving.{EndsServe, Service, at_door};
+ghost use Rattle.vc_app_serve.specs.Visits.{links, telling};
+ghost use Rattle.vc_app_verify.specs.Verifying.{EndsVerify};
+ghost use Rattle.vc_app.specs.Asked as asked;
 ghost use Rattle.vc_app.specs.Endings as endings;
 ghost use Rattle.vc_app.specs.Endings.{keeping, outside};
 ghost use Rattle.vc_app.specs.Exactness.{IsExact};
@@ -12,14 +17,20 @@ ghost use Rattle.vc_app.specs.Statuses.{IsStatus};
 ghost use Rattle.vc_app.specs.Transcript as transcript;
 
 use crate::ending::{Ending, Stop, say_stop, write_text};
-use crate::loading::{Job, checked_name, keep_file, load_job};
+use crate::loading::{
+    Job, Serving, checked_name, families_of, keep_file, load_job, service_of, verified_names,
+};
 use crate::transcript::{ScriptFault, answer_script};
 use std::alloc::Global;
 use std::marker::Brand;
 use std::sync::ledger::{Blank, Ledger};
 use vc_app_check::check;
+use vc_app_gen::generate;
+use vc_app_serve::serve;
+use vc_app_verify::verify;
 use vc_desk::Desk;
 use vc_outside::{Failed, Keeper, Shelf, Sink};
+use vc_outside_links::{Door, Link};
 use vc_plan::Plan;
 use vc_value_steps::Steps;
 
@@ -119,27 +130,98 @@ fn end<F: Shelf, K: Keeper, S: Sink>(
     }
 }
 
-/// Does what the words ask, which stand behind the program's name, and answers the exit status.
-pub fn desk<F: Shelf, K: Keeper, S: Sink>(
+/// Serves links where the words ask for that, and does else what they ask for.
+fn serve_or_run<F: Shelf, K: Keeper, D: Door, S: Sink>(
     alloc: Global,
     words: &[String],
     shelf: &mut F,
     keeper: &mut K,
+    door: &mut D,
     out: &mut S,
 ) -> u8
+    requires home { D.is_out door.old ≡ false }
+    ensures home { D.is_out door.new ≡ false }
+    ensures serve { (s : Service) → asked.IsServe words.now s → EndsServe
+        (telling D.Conn.left D.Conn.written D.Conn.faults) s
+        (outside (F.files shelf.old) (F.faults shelf.old) (F.faults shelf.new) (S.written out.old)
+        (S.written out.new) (S.faults out.old) (S.faults out.new))
+        (keeping (K.texts keeper.old) (K.texts keeper.new) (K.faults keeper.old) (K.faults keeper.new)
+        (K.begun keeper.new))
+        (at_door (links (D.coming door.old) (D.coming door.new) (D.finished door.old) (D.finished door.new))
+        (D.address door.old) (D.address door.new) (D.faults door.old) (D.faults door.new)) result }
+    ensures door { asked.IsNoServe words.now → door.new ≡ door.old }
+    ensures status { asked.IsNoServe words.now → IsStatus words.now
+        (outside (F.files shelf.old) (F.faults shelf.old) (F.faults shelf.new) (S.written out.old)
+        (S.written out.new) (S.faults out.old) (S.faults out.new))
+        (keeping (K.texts keeper.old) (K.texts keeper.new) (K.faults keeper.old) (K.faults keeper.new)
+        (K.begun keeper.new)) result }
+    ensures exact { asked.IsNoServe words.now → IsExact words.now
+        (outside (F.files shelf.old) (F.faults shelf.old) (F.faults shelf.new) (S.written out.old)
+        (S.written out.new) (S.faults out.old) (S.faults out.new))
+        (keeping (K.texts keeper.old) (K.texts keeper.new) (K.faults keeper.old) (K.faults keeper.new)
+        (K.begun keeper.new)) result }
+{
+    match service_of(words) {
+        Some(
+            Serving {
+                model,
+                address,
+                count,
+                keep_file,
+            },
+        ) => serve(
+            alloc, shelf, model, address, count, keep_file, keeper, door, out,
+        ),
+        None => end(alloc, words, shelf, keeper, out).status(),
+    }
+}
+
+/// Does what the words ask, which stand behind the program's name, and answers the exit status.
+pub fn desk<F: Shelf, K: Keeper, D: Door, S: Sink>(
+    alloc: Global,
+    words: &[String],
+    shelf: &mut F,
+    keeper: &mut K,
+    door: &mut D,
+    out: &mut S,
+) -> u8
+    // No link is out, neither before nor after.
+    requires home { D.is_out door.old ≡ false }
+    ensures home { D.is_out door.new ≡ false }
     // `check`: what the model comes to is said, and nothing else.
     ensures check { (name : List ℕ) → endings.IsCheck words.now name → EndsCheck name
         (outside (F.files shelf.old) (F.faults shelf.old) (F.faults shelf.new) (S.written out.old)
         (S.written out.new) (S.faults out.old) (S.faults out.new))
         result × (K.texts keeper.new ≡ K.texts keeper.old) }
-    // Of other words, what each status promises, one field a status: its cause, and what was written and saved.
-    ensures status { endings.IsNoCheck words.now → IsStatus words.now
+    // `verify`: what the separate checker says of the chain file is said, and nothing else.
+    ensures verify { (model chain : List ℕ) → asked.IsVerify words.now model chain → EndsVerify model chain
+        (outside (F.files shelf.old) (F.faults shelf.old) (F.faults shelf.new) (S.written out.old)
+        (S.written out.new) (S.faults out.old) (S.faults out.new))
+        result × (K.texts keeper.new ≡ K.texts keeper.old) }
+    // `gen`: the lines of the first families are written, and nothing else.
+    ensures families { (count : ℕ) → asked.IsGen words.now count → EndsGen count (S.written out.old)
+        (S.written out.new) (S.faults out.old) (S.faults out.new) result × (K.texts keeper.new ≡ K.texts keeper.old) }
+    // `serve`: links are served one after another, each from the state that the one before it left, and what is said
+    // is why not all were.
+    ensures serve { (s : Service) → asked.IsServe words.now s → EndsServe
+        (telling D.Conn.left D.Conn.written D.Conn.faults) s
+        (outside (F.files shelf.old) (F.faults shelf.old) (F.faults shelf.new) (S.written out.old)
+        (S.written out.new) (S.faults out.old) (S.faults out.new))
+        (keeping (K.texts keeper.old) (K.texts keeper.new) (K.faults keeper.old) (K.faults keeper.new)
+        (K.begun keeper.new))
+        (at_door (links (D.coming door.old) (D.coming door.new) (D.finished door.old) (D.finished door.new))
+        (D.address door.old) (D.address door.new) (D.faults door.old) (D.faults door.new)) result }
+    // Any other leaves the door as it was.
+    ensures door { asked.IsNoServe words.now → door.new ≡ door.old }
+    // Of words that ask for none of the four, what each status promises, one field a status: its cause, and what was
+    // written and saved.
+    ensures status { asked.IsOther words.now → IsStatus words.now
         (outside (F.files shelf.old) (F.faults shelf.old) (F.faults shelf.new) (S.written out.old)
         (S.written out.new) (S.faults out.old) (S.faults out.new))
         (keeping (K.texts keeper.old) (K.texts keeper.new) (K.faults keeper.old) (K.faults keeper.new)
         (K.begun keeper.new)) result }
     // Each cause that words and files decide has its own status, unless a count of faults rose or memory was wanting.
-    ensures exact { endings.IsNoCheck words.now → IsExact words.now
+    ensures exact { asked.IsOther words.now → IsExact words.now
         (outside (F.files shelf.old) (F.faults shelf.old) (F.faults shelf.new) (S.written out.old)
         (S.written out.new) (S.faults out.old) (S.faults out.new))
         (keeping (K.texts keeper.old) (K.texts keeper.new) (K.faults keeper.old) (K.faults keeper.new)
@@ -147,6 +229,12 @@ pub fn desk<F: Shelf, K: Keeper, S: Sink>(
 {
     match checked_name(words) {
         Some(name) => check(alloc, shelf, name, out),
-        None => end(alloc, words, shelf, keeper, out).status(),
+        None => match verified_names(words) {
+            Some((model, chain)) => verify(alloc, shelf, model, chain, out),
+            None => match families_of(words) {
+                Some(count) => generate(alloc, count, out),
+                None => serve_or_run(alloc, words, shelf, keeper, door, out),
+            },
+        },
     }
 }

@@ -4,8 +4,9 @@ use std::alloc::Global;
 use std::test::Fail;
 use vc_app::desk;
 use vc_outside::{MemKeeper, MemShelf, MemSink};
+use vc_outside_links::MemDoor;
 
-const PUMP: &str = "MODEL PUMP VERSION 1
+pub(crate) const PUMP: &str = "MODEL PUMP VERSION 1
 CHAR SIZE 1 RESTRICTABLE REQUIRED
 VALUE 'S'
 VALUE 'M'
@@ -42,7 +43,7 @@ OPERATION 0010 ASSY MIN : 15 + FLOW / 2
 ROOT PUMP
 ";
 
-const ROWS_OF_SM: &str = "SIZE,MOTOR
+pub(crate) const ROWS_OF_SM: &str = "SIZE,MOTOR
 S,E1
 M,E1
 M,E2
@@ -54,6 +55,20 @@ L,E3
 struct Ended {
     status: u8,
     written: Vec<u8>,
+}
+
+// The status of words that ask for no links.
+fn status_of(
+    alloc: Global,
+    words: &[String],
+    shelf: &mut MemShelf,
+    keeper: &mut MemKeeper,
+    sink: &mut MemSink,
+) -> Result<u8, Fail> {
+    let mut door = MemDoor::new(alloc, Vec::new(alloc))?;
+    let status = desk(alloc, words, shelf, keeper, &mut door, sink);
+    drop(door);
+    Ok(status)
 }
 
 /// Runs a script on the pump, the shelf's and the sink's calls of these numbers failing (0 is none).
@@ -101,7 +116,7 @@ fn run_keeping(
     }
     let mut sink = MemSink::with_room(alloc, 4096)?;
     sink.fail_at(sink_fails)?;
-    let status = desk(alloc, words.as_slice(), shelf, keeper, &mut sink);
+    let status = status_of(alloc, words.as_slice(), shelf, keeper, &mut sink)?;
     let written = Vec::from_slice(alloc, sink.written())?;
     Ok(Ended { status, written })
 }
@@ -283,8 +298,12 @@ fn each_cause_has_its_status(rt: HostRuntime) -> Result<(), Fail> {
     shelf.add(rt.alloc(), "script", SCRIPT.as_bytes())?;
     let large = vec![in rt.alloc(); b'*'; vc_outside::FILE_LIMIT + 1]?;
     shelf.add(rt.alloc(), "large", large.as_slice())?;
-    let rows: [(&[&str], u8, &str); 10] = [
+    let rows: [(&[&str], u8, &str); 14] = [
         (&[], 1, USAGE),
+        (&["gen"], 1, USAGE),
+        (&["gen", "0"], 1, USAGE),
+        (&["gen", "1001"], 1, USAGE),
+        (&["verify", "pump"], 1, USAGE),
         (&["run", "pump"], 1, USAGE),
         (&["check", "pump", "script"], 1, USAGE),
         (&["run", "pump", "script", "keep", "more"], 1, USAGE),
@@ -349,13 +368,13 @@ fn a_sink_without_room_cuts_what_is_written(rt: HostRuntime) -> Result<(), Fail>
     let mut keeper = MemKeeper::new(rt.alloc());
     let mut sink = MemSink::with_room(rt.alloc(), 15)?;
     assert_eq!(rt;
-        desk(
+        status_of(
             rt.alloc(),
             words.as_slice(),
             &mut shelf,
             &mut keeper,
             &mut sink
-        ),
+        )?,
         5
     );
     assert_eq!(rt; sink.written(), b"ok open\nok comp".as_slice());
@@ -377,5 +396,48 @@ fn a_long_line_is_no_request(rt: HostRuntime) -> Result<(), Fail> {
         ended.written.as_slice(),
         b"ok open\nrefused 0 NotARequest\nrefused 5 NotInList\n".as_slice()
     );
+    Ok(())
+}
+
+#[test]
+fn families_are_told(rt: HostRuntime) -> Result<(), Fail> {
+    let mut shelf = MemShelf::new(rt.alloc());
+    let ended = run_with(rt.alloc(), &["gen", "2"], &mut shelf, 0)?;
+    assert_eq!(rt;
+        ended.written.as_slice(),
+        b"family 1 values 12 sum 12\nfamily 2 values 20 sum 34\n".as_slice()
+    );
+    assert_eq!(rt; ended.status, 0);
+    let ended = run_with(rt.alloc(), &["gen", "2"], &mut shelf, 2)?;
+    assert_eq!(rt;
+        ended.written.as_slice(),
+        b"family 1 values 12 sum 12\n".as_slice()
+    );
+    assert_eq!(rt; ended.status, 5);
+    Ok(())
+}
+
+/// Chain files for the pump, and what is said of each.
+const CHAINS: [(&str, &str, u8); 3] = [
+    ("chain\nend\n", "accepted\n", 0),
+    (
+        "chain\n1 is 0 SIZE 'L' by user\nclash by constraint C_SM 1 at 0 from 1\nend\n",
+        "not accepted: clash\n",
+        9,
+    ),
+    ("chain\n", "not a chain: line 2\n", 10),
+];
+
+#[test]
+fn a_chain_file_is_judged(rt: HostRuntime) -> Result<(), Fail> {
+    for (chain, line, status) in CHAINS.iter() {
+        let mut shelf = MemShelf::new(rt.alloc());
+        shelf.add(rt.alloc(), "pump", PUMP.as_bytes())?;
+        shelf.add(rt.alloc(), "sm.csv", ROWS_OF_SM.as_bytes())?;
+        shelf.add(rt.alloc(), "chain", chain.as_bytes())?;
+        let ended = run_with(rt.alloc(), &["verify", "pump", "chain"], &mut shelf, 0)?;
+        assert_eq!(rt; ended.written.as_slice(), line.as_bytes());
+        assert_eq!(rt; ended.status, *status);
+    }
     Ok(())
 }

@@ -8,6 +8,8 @@ mod app_check;
 #[cfg(test)]
 mod app_models;
 #[cfg(test)]
+mod app_serve;
+#[cfg(test)]
 mod desk;
 #[cfg(test)]
 mod desk_names;

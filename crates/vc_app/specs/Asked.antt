@@ -1,0 +1,43 @@
+-- What the words ask for beside a run: to verify a chain file, to make families of models, or to serve links; and that
+-- they ask for none of the commands that take no script.
+use Rattle.std.specs.Prelude.{◌≡◌, ℕ, List, [], ◌∷◌, map, codes, string_bytes, Option, Some}
+use Rattle.std.specs.Option.{option_to_list}
+use Rattle.vc_app_gen.specs.Counts.{families_asked}
+use Rattle.vc_app_serve.specs.Counts.{links_asked}
+use Rattle.vc_app_serve.specs.Serving.{Service}
+use Rattle.vc_app.specs.Endings.{IsNoCheck, Words}
+
+-- the words are `verify` and two names
+abbrev pub IsVerify : Words → List ℕ → List ℕ → Type 0
+IsVerify words model chain = map string_bytes words ≡ codes "verify" ∷ (model ∷ (chain ∷ []))
+
+abbrev pub IsNoVerify : Words → Type 0
+IsNoVerify words = (model chain : List ℕ) → ¬ IsVerify words model chain
+
+-- the words are `gen` and a word more
+abbrev pub IsGenWith : Words → List ℕ → Type 0
+IsGenWith words number = map string_bytes words ≡ codes "gen" ∷ (number ∷ [])
+
+-- that word asks for so many families
+abbrev pub IsGen : Words → ℕ → Type 0
+IsGen words count = (number : List ℕ) × IsGenWith words number × (families_asked number ≡ Some count)
+
+abbrev pub IsNoGen : Words → Type 0
+IsNoGen words = (count : ℕ) → ¬ IsGen words count
+
+-- the words are `serve`, a model, an address and a word more, and may be that of a file that keeps what is saved
+abbrev pub IsServeWith : Words → List ℕ → List ℕ → List ℕ → Option (List ℕ) → Type 0
+IsServeWith words model address number keep_file =
+    map string_bytes words ≡ codes "serve" ∷ (model ∷ (address ∷ (number ∷ option_to_list keep_file)))
+
+-- that word asks for so many links
+abbrev pub IsServe : Words → Service → Type 0
+IsServe words s = (number : List ℕ) × IsServeWith words s.model s.address number s.keep_file
+    × (links_asked number ≡ Some s.count)
+
+abbrev pub IsNoServe : Words → Type 0
+IsNoServe words = (s : Service) → ¬ IsServe words s
+
+-- the words ask for none of the four
+abbrev pub IsOther : Words → Type 0
+IsOther words = IsNoCheck words × IsNoVerify words × IsNoGen words × IsNoServe words
