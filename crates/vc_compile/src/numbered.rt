@@ -4,16 +4,16 @@ ghost use Rattle.std.specs.Prelude.{◌≡◌, ◌<◌, length, map, IfOk, IfSom
 ghost use Rattle.vc_compile_plan.specs.Refusals.{most_rules};
 ghost use Rattle.vc_compile_plan.specs.Rules.{rule_drafts};
 ghost use Rattle.vc_compile_numbering.specs.Growing.{kept, seen};
-ghost use Rattle.vc_compile_sites.specs.Standing.{layout_seen};
+ghost use Rattle.vc_compile_layout.specs.Standing.{layout_seen};
 ghost use Rattle.vc_compile.specs.Parts.{AreNumbered};
 ghost use Rattle.vc_compile.specs.InTurn as in_turn;
 
 use crate::ruled::rules_of;
 use crate::shown::{Shown, shown_of};
 use std::alloc::{AllocError, Global};
+use vc_compile_layout::Layout;
 use vc_compile_numbering::{Numbering, Trees};
 use vc_compile_procedures::push_procedures;
-use vc_compile_sites::Layout;
 use vc_plan::{Condition, Procedure, Rule, Term};
 use vc_value::Listed;
 

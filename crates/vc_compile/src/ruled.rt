@@ -5,15 +5,15 @@ ghost use Rattle.vc_compile_plan.specs.Refusals.{most_rules};
 ghost use Rattle.vc_compile_plan.specs.Rules.{last_drafts, rule_drafts, slot_drafts_from};
 ghost use Rattle.vc_compile_numbering.specs.Growing.{seen};
 ghost use Rattle.vc_compile_rules.specs.Adding.{Adds};
-ghost use Rattle.vc_compile_sites.specs.Standing.{layout_seen};
+ghost use Rattle.vc_compile_layout.specs.Standing.{layout_seen};
 ghost use Rattle.vc_compile.specs.InTurn.{ruled};
 
 use std::alloc::{AllocError, Global};
 use vc_compile_constraints::push_constraint_rules;
+use vc_compile_layout::Layout;
 use vc_compile_numbering::{Numbering, Trees};
 use vc_compile_rules::Room;
 use vc_compile_rules::own::{push_last_rules, push_line_rules};
-use vc_compile_sites::Layout;
 use vc_plan::Rule;
 
 // Puts the rules of variables and of slots last.

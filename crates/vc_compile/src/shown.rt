@@ -2,13 +2,13 @@
 
 ghost use Rattle.std.specs.Prelude.{◌≡◌, IfOk};
 ghost use Rattle.vc_compile_numbering.specs.Growing.{kept, seen};
-ghost use Rattle.vc_compile_sites.specs.Standing.{layout_seen};
+ghost use Rattle.vc_compile_layout.specs.Standing.{layout_seen};
 ghost use Rattle.vc_compile.specs.InTurn as in_turn;
 
 use std::alloc::{AllocError, Global};
+use vc_compile_layout::Layout;
 use vc_compile_numbering::{Numbering, Trees};
 use vc_compile_shown::{push_guards, push_lines, push_operations, push_requirements};
-use vc_compile_sites::Layout;
 use vc_plan::{Guard, Line, Operation, Requirement};
 use vc_value::Listed;
 

@@ -3,11 +3,11 @@
 ghost use Rattle.std.specs.Prelude.{◌≡◌, map, IfOk};
 ghost use Rattle.vc_compile_plan.specs.Cuts as cuts;
 ghost use Rattle.vc_compile_plan.specs.Tables as tables;
-ghost use Rattle.vc_compile_sites.specs.Standing.{layout_seen};
+ghost use Rattle.vc_compile_layout.specs.Standing.{layout_seen};
 
 use std::alloc::{AllocError, Global};
 use vc_compile_cuts::domains_of;
-use vc_compile_sites::Layout;
+use vc_compile_layout::Layout;
 use vc_compile_tables::{characteristics_of, copy_word, dependency_names, objects_of, tables_of};
 use vc_plan::{Characteristic, Object, Table};
 use vc_table::VariantTable;

@@ -6,7 +6,7 @@ use Rattle.std.proofs.Math.Seq.{drop-cons}
 use Rattle.std.proofs.lemmas.Bool.Decides.{nat_tests}
 use Rattle.vc_model_parts.specs.declared.parts.Model.{Model}
 use Rattle.vc_plan.specs.declared.plans.Slot.{Slot}
-use Rattle.vc_syntax_terms.specs.Trees.{Constraint}
+use Rattle.vc_syntax_tree.specs.Trees.{Constraint}
 use Rattle.vc_compile_plan.specs.Layouts.{Layout, layout_over}
 use Rattle.vc_compile_plan.specs.Rules.{Draft, restriction_drafts}
 use Rattle.vc_compile_plan.specs.Tuples.{tuples_of}

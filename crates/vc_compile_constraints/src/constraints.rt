@@ -1,7 +1,7 @@
 //! The rules of all constraints, each at all tuples of slots that match it.
 
 ghost use Rattle.std.specs.Prelude.{◌≡◌, ◌<◌, length, flat_map, Some, IfOk, IfSome, IfNone};
-ghost use Rattle.vc_syntax_terms.specs.Trees.{Constrains, constraint_of};
+ghost use Rattle.vc_syntax_tree.specs.Trees.{Constrains, constraint_of};
 ghost use Rattle.vc_compile_plan.specs.Layouts.{tree_of};
 ghost use Rattle.vc_compile_plan.specs.Refusals.{most_rules};
 ghost use Rattle.vc_compile_plan.specs.Rules as rules;
@@ -9,18 +9,19 @@ ghost use Rattle.vc_compile_plan.specs.Tuples as tuples;
 ghost use Rattle.vc_compile_plan.specs.Uses as uses;
 ghost use Rattle.vc_compile_numbering.specs.Growing.{seen};
 ghost use Rattle.vc_compile_rules.specs.Adding.{Adds};
-ghost use Rattle.vc_compile_sites.specs.Standing.{layout_seen};
+ghost use Rattle.vc_compile_layout.specs.Standing.{layout_seen};
 
 use std::alloc::{AllocError, Global};
+use vc_compile_layout::Layout;
 use vc_compile_numbering::Numbering;
 use vc_compile_rules::Room;
 use vc_compile_rules::adding::MOST_RULES;
 use vc_compile_rules::constraints::push_at_tuples;
-use vc_compile_sites::{Layout, dependency};
+use vc_compile_sites::dependency;
 use vc_compile_tuples::tuples_of;
 use vc_compile_uses::active_constraints;
 use vc_plan::Rule;
-use vc_syntax_terms::tree::{Constraint, Dependency};
+use vc_syntax_tree::{Constraint, Dependency};
 use vc_value::Listed;
 
 // The tuples of a constraint, unless there are more than a plan may have rules.

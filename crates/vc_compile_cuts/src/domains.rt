@@ -20,7 +20,7 @@ use std::alloc::{AllocError, Global};
 use vc_compile_uses::used_dependencies;
 use vc_model_parts::{Model, NamedDependency};
 use vc_plan::Slot;
-use vc_syntax_terms::tree::{Condition, Relation, TableCall};
+use vc_syntax_tree::{Condition, Relation, TableCall};
 use vc_table::VariantTable;
 use vc_types::{At, Place};
 use vc_types_meanings::{Setting, Tree, borrowed};

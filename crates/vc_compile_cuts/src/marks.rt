@@ -1,7 +1,7 @@
 //! The numbers at which relations cut characteristics.
 
 ghost use Rattle.std.specs.Prelude.{◌≡◌, ◌++◌, map, flat_map, option_to_list, slice_get, IfOk, OnOk};
-ghost use Rattle.vc_syntax_terms.specs.Trees.{relation_of, term_of};
+ghost use Rattle.vc_syntax_tree.specs.Trees.{relation_of, term_of};
 ghost use Rattle.vc_types_meanings.specs.Seen.{seen};
 ghost use Rattle.vc_types_occurrences.specs.Seen.{relations_seen};
 ghost use Rattle.vc_plan.specs.Numbers.{rounded};
@@ -12,7 +12,7 @@ ghost use Rattle.vc_compile_cuts.specs.Marks.{decimals_in_values, mark_seen, mar
 
 use std::alloc::{AllocError, Global};
 use vc_model_parts::{Model, Values};
-use vc_syntax_terms::tree::{Item, Operand, Relation, Relator, SignedNumber, Term};
+use vc_syntax_tree::{Item, Operand, Relation, Relator, SignedNumber, Term};
 use vc_types::Referent;
 use vc_types_meanings::Setting;
 use vc_value::{Dec, Listed};

@@ -2,7 +2,7 @@
 
 ghost use Rattle.std.specs.Prelude.{◌≡◌, ◌++◌, ◌==◌, flat_map, map, option_copied, slice_get, OnOk};
 ghost use Rattle.std.specs.List.{position_or_len};
-ghost use Rattle.vc_syntax_terms.specs.Trees.{binding_of, table_call_of, term_of};
+ghost use Rattle.vc_syntax_tree.specs.Trees.{binding_of, table_call_of, term_of};
 ghost use Rattle.vc_types_meanings.specs.Seen.{seen};
 ghost use Rattle.vc_types_occurrences.specs.Seen.{calls_seen};
 ghost use Rattle.vc_compile_plan.specs.Cuts as cuts;
@@ -16,7 +16,7 @@ ghost use Rattle.vc_compile_cuts.specs.Rows.{cells_in, Numbers};
 use crate::marks::{Mark, characteristic_of};
 use std::alloc::AllocError;
 use vc_model_parts::{Table, TableColumn};
-use vc_syntax_terms::tree::{Binding, NameLeaf, TableCall, Term};
+use vc_syntax_tree::{Binding, NameLeaf, TableCall, Term};
 use vc_table::{Row, VariantTable};
 use vc_types_meanings::Setting;
 use vc_types_names::FirstNamed;

@@ -8,7 +8,7 @@ use Rattle.vc_plan.specs.Cuts.{condition_cuts, is_cut, is_cut_at, kind_cuts}
 use Rattle.vc_plan.specs.Domains.{grains_of, numbers_below}
 use Rattle.vc_plan.specs.declared.plans.Plan.{Plan}
 use Rattle.vc_plan.specs.declared.plans.Slot.{Slot}
-use Rattle.vc_syntax_terms.specs.Trees as syntax
+use Rattle.vc_syntax_tree.specs.Trees as syntax
 use Rattle.vc_table.specs.declared.table.VariantTable.{VariantTable}
 use Rattle.vc_types.specs.Faults.{fault_of}
 use Rattle.vc_types.specs.Occurrences.{call_of_demand, conditions_in, demanded_relations, relation_of_demand}

@@ -21,10 +21,10 @@ use Rattle.vc_plan.specs.TableRows as table_rows
 use Rattle.vc_plan.specs.declared.plans.Plan.{Plan}
 use Rattle.vc_plan.specs.declared.plans.Var.{Var}
 use Rattle.vc_plan.specs.declared.rules.Restriction.TheVariants.{Against}
-use Rattle.vc_syntax_terms.specs.declared.tree.Operand.{Operand}
-use Rattle.vc_syntax_terms.specs.declared.tree.Relator.{Relator}
-use Rattle.vc_syntax_terms.specs.declared.tree.Relator.TheVariants as relators
-use Rattle.vc_syntax_terms.specs.Trees as syntax
+use Rattle.vc_syntax_tree.specs.declared.Operand.{Operand}
+use Rattle.vc_syntax_tree.specs.declared.Relator.{Relator}
+use Rattle.vc_syntax_tree.specs.declared.Relator.TheVariants as relators
+use Rattle.vc_syntax_tree.specs.Trees as syntax
 use Rattle.vc_table.specs.declared.table.VariantTable.{VariantTable}
 use Rattle.vc_types.specs.Occurrences.{is_literal, operands_of, uses_of_relation, uses_of_term, values_in}
 use Rattle.vc_types.specs.PlaceFaults.{is_computed, is_operand}

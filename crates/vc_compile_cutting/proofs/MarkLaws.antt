@@ -14,7 +14,7 @@ use Rattle.vc_plan.specs.Domains as plans
 use Rattle.vc_plan.specs.Domains.{grains_in, grains_of, numbers_below}
 use Rattle.vc_plan.specs.declared.plans.Plan.{Plan}
 use Rattle.vc_plan.specs.declared.plans.Var.{Var}
-use Rattle.vc_syntax_terms.specs.Trees.{Dependency, dependency_of}
+use Rattle.vc_syntax_tree.specs.Trees.{Dependency, dependency_of}
 use Rattle.vc_table.specs.declared.table.VariantTable.{VariantTable}
 use Rattle.vc_compile_plan.specs.Cuts.{Mark, all_marks, cut_domain, cuts_at, dependency_marks, marks_if}
 use Rattle.vc_compile_plan.specs.Layouts.{layout_of, tree_of}

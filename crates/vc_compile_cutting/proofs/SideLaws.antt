@@ -11,12 +11,12 @@ use Rattle.vc_plan.specs.Cuts.{ends_of, is_cut_at, number_at}
 use Rattle.vc_plan.specs.Domains.{domain_of, grains_in}
 use Rattle.vc_plan.specs.declared.plans.Plan.{Plan}
 use Rattle.vc_plan.specs.declared.plans.Var.{Var}
-use Rattle.vc_syntax_terms.specs.declared.tree.Item.{Item}
-use Rattle.vc_syntax_terms.specs.declared.tree.Item.TheVariants as items
-use Rattle.vc_syntax_terms.specs.declared.tree.Operand.{Operand}
-use Rattle.vc_syntax_terms.specs.declared.tree.Operand.TheVariants as operands
-use Rattle.vc_syntax_terms.specs.declared.tree.Owner.TheVariants as owners
-use Rattle.vc_syntax_terms.specs.Trees as syntax
+use Rattle.vc_syntax_tree.specs.declared.Item.{Item}
+use Rattle.vc_syntax_tree.specs.declared.Item.TheVariants as items
+use Rattle.vc_syntax_tree.specs.declared.Operand.{Operand}
+use Rattle.vc_syntax_tree.specs.declared.Operand.TheVariants as operands
+use Rattle.vc_syntax_tree.specs.declared.Owner.TheVariants as owners
+use Rattle.vc_syntax_tree.specs.Trees as syntax
 use Rattle.vc_table.specs.declared.table.VariantTable.{VariantTable}
 use Rattle.vc_types.specs.Looking.{characteristic_named, class_of, member_in, member_of}
 use Rattle.vc_types.specs.Meanings.{Variable, if_constraint, known, meaning_of, member_meaning, of_object, of_parent}

@@ -30,7 +30,7 @@ use Rattle.vc_plan.specs.declared.plans.Line.{Line}
 use Rattle.vc_plan.specs.declared.plans.Operation.{Operation}
 use Rattle.vc_plan.specs.declared.plans.Plan.{Plan}
 use Rattle.vc_plan.specs.declared.plans.Slot.{Slot}
-use Rattle.vc_syntax_terms.specs.Trees.{Condition as SyntaxCondition, Dependency, dependency_of}
+use Rattle.vc_syntax_tree.specs.Trees.{Condition as SyntaxCondition, Dependency, dependency_of}
 use Rattle.vc_table.specs.declared.table.VariantTable.{VariantTable}
 use Rattle.vc_compile_plan.specs.Layouts.{Layout, layout_of, tree_of}
 use Rattle.vc_compile_plan.specs.Numbering.{drafts_of, conditions_of, item_brings, line_from, line_terms_begin}

@@ -10,8 +10,8 @@ use Rattle.vc_syntax_tokens.specs.declared.token.Sign.{Sign}
 use Rattle.vc_syntax_tokens.specs.declared.token.Token.{Token}
 use Rattle.vc_syntax_terms.specs.ConditionGrammar as lists
 use Rattle.vc_syntax_terms.specs.ConditionGrammar.{IsListed}
-use Rattle.vc_syntax_terms.specs.declared.tree.Object.{Object}
-use Rattle.vc_syntax_terms.specs.Trees.{Action, Demand, Dependency, Restriction, Statement, TableCall}
+use Rattle.vc_syntax_tree.specs.declared.Object.{Object}
+use Rattle.vc_syntax_tree.specs.Trees.{Action, Demand, Dependency, Restriction, Statement, TableCall}
 use Rattle.vc_syntax.specs.ConstraintGrammar as constraints
 use Rattle.vc_syntax.specs.ConstraintGrammar.{IsConstraint, IsObjectSection, IsRestrictionSection, IsSection}
 use Rattle.vc_syntax.specs.DependencyGrammar as grammar

@@ -8,17 +8,17 @@ use Rattle.vc_syntax_tokens.specs.declared.token.Lexeme.{Lexeme}
 use Rattle.vc_syntax_tokens.specs.declared.token.Lexeme.TheVariants as lexemes
 use Rattle.vc_syntax_tokens.specs.declared.token.Sign.{Sign}
 use Rattle.vc_syntax_tokens.specs.declared.token.Token.{Token}
-use Rattle.vc_syntax_terms.specs.declared.tree.Item.{Item}
-use Rattle.vc_syntax_terms.specs.declared.tree.NumberLeaf.{NumberLeaf}
-use Rattle.vc_syntax_terms.specs.declared.tree.SignedNumber.{SignedNumber}
+use Rattle.vc_syntax_tree.specs.declared.Item.{Item}
+use Rattle.vc_syntax_tree.specs.declared.NumberLeaf.{NumberLeaf}
+use Rattle.vc_syntax_tree.specs.declared.SignedNumber.{SignedNumber}
 use Rattle.vc_syntax_terms.specs.ConditionGrammar as conditions
 use Rattle.vc_syntax_terms.specs.ConditionGrammar.{IsCondition, IsConjunction, IsItem, IsListed, IsNegation, IsRelation}
 use Rattle.vc_syntax_terms.specs.ConditionGrammar.{IsSignedNumber}
 use Rattle.vc_syntax_terms.specs.Leaves.{number_in}
 use Rattle.vc_syntax_terms.specs.TermGrammar as terms
 use Rattle.vc_syntax_terms.specs.TermGrammar.{IsFactor, IsNumber, IsProduct, IsSum}
-use Rattle.vc_syntax_terms.specs.Trees.{Action, Binding, Condition, Demand, Dependency, Relation, Restriction}
-use Rattle.vc_syntax_terms.specs.Trees.{Statement, TableCall, Term}
+use Rattle.vc_syntax_tree.specs.Trees.{Action, Binding, Condition, Demand, Dependency, Relation, Restriction}
+use Rattle.vc_syntax_tree.specs.Trees.{Statement, TableCall, Term}
 use Rattle.vc_syntax.specs.ConstraintGrammar as constraints
 use Rattle.vc_syntax.specs.ConstraintGrammar.{IsConditionSection, IsRestrictionSection}
 use Rattle.vc_syntax.specs.DependencyGrammar as grammar

@@ -14,8 +14,8 @@ use Rattle.vc_plan.specs.declared.plans.Slot.{Slot}
 use Rattle.vc_plan.specs.declared.procedures.Procedure as plans
 use Rattle.vc_plan.specs.declared.procedures.Trigger.{Trigger}
 use Rattle.vc_plan.specs.declared.procedures.Trigger.TheVariants.{Anyway}
-use Rattle.vc_syntax_terms.specs.Trees.{Dependency, Precondition, Selection, Procedure, Constrains, Counts, Statement}
-use Rattle.vc_syntax_terms.specs.Trees.{dependency_of}
+use Rattle.vc_syntax_tree.specs.Trees.{Dependency, Precondition, Selection, Procedure, Constrains, Counts, Statement}
+use Rattle.vc_syntax_tree.specs.Trees.{dependency_of}
 use Rattle.vc_tree_laws.specs.Statements.{statements_in as count_in, KeepsStatements}
 use Rattle.vc_tree_laws.proofs.ModelTreeLaws.{spelled_keeps_statements}
 use Rattle.vc_compile_plan.specs.Layouts.{layout_of, tree_of}

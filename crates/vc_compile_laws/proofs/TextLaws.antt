@@ -22,7 +22,7 @@ use Rattle.vc_plan.specs.Domains.{texts_in}
 use Rattle.vc_plan.specs.Orders.{are_apart}
 use Rattle.vc_plan.specs.Spelling.{has_control, is_graphic, is_text}
 use Rattle.vc_plan.specs.declared.plans.Plan.{Plan}
-use Rattle.vc_syntax_terms.specs.Trees.{dependency_of}
+use Rattle.vc_syntax_tree.specs.Trees.{dependency_of}
 use Rattle.vc_tree_laws.specs.Literals.{is_literal, KeepsLiterals}
 use Rattle.vc_tree_laws.proofs.ModelTreeLaws as trees
 use Rattle.vc_compile_plan.specs.PlanOf.{IsPlanOf}

@@ -5,7 +5,7 @@ use Rattle.std.proofs.lemmas.List.Folds.{list_all-map}
 use Rattle.vc_model.specs.Spelled.{Spells}
 use Rattle.vc_model_drafts.specs.Seen.{seen_dependency, seen_item, seen_model, seen_object, seen_operation}
 use Rattle.vc_model_parts.specs.declared.parts.Model.{Model}
-use Rattle.vc_syntax_terms.specs.Trees.{Counts, Dependency, term_of}
+use Rattle.vc_syntax_tree.specs.Trees.{Counts, Dependency, term_of}
 use Rattle.vc_tree_laws.specs.Spelled.{IsSpelled}
 use Rattle.vc_tree_laws.proofs.CountLaws.{spelled_keeps_counts}
 use Rattle.vc_tree_laws.proofs.ModelTreeLaws.{spelled_keeps_trees}

@@ -18,10 +18,10 @@ use Rattle.vc_plan.specs.Orders.{are_apart}
 use Rattle.vc_plan.specs.RuleShapes.{columns_once}
 use Rattle.vc_plan.specs.declared.plans.Plan.{Plan}
 use Rattle.vc_value.specs.declared.value.Value.{Value}
-use Rattle.vc_syntax_terms.specs.declared.tree.Operand.{Operand}
-use Rattle.vc_syntax_terms.specs.declared.tree.Relator.{Relator}
-use Rattle.vc_syntax_terms.specs.declared.tree.Relator.TheVariants as relators
-use Rattle.vc_syntax_terms.specs.Trees as syntax
+use Rattle.vc_syntax_tree.specs.declared.Operand.{Operand}
+use Rattle.vc_syntax_tree.specs.declared.Relator.{Relator}
+use Rattle.vc_syntax_tree.specs.declared.Relator.TheVariants as relators
+use Rattle.vc_syntax_tree.specs.Trees as syntax
 use Rattle.vc_table.specs.declared.table.VariantTable.{VariantTable}
 use Rattle.vc_types.specs.Looking.{characteristic_named, column_if, column_in, table_named}
 use Rattle.vc_types.specs.NameFaults.{is_unknown_call, is_unknown_column, names_column_twice, some_twice}

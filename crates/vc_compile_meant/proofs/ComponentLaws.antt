@@ -10,7 +10,7 @@ use Rattle.vc_plan.specs.RuleShapes.{line_slot}
 use Rattle.vc_plan.specs.Scopes.{kind_own, line_scope, rule_own, scope_if}
 use Rattle.vc_plan.specs.Seen.{parent_in}
 use Rattle.vc_plan.specs.declared.plans.Plan.{Plan}
-use Rattle.vc_syntax_terms.specs.Trees.{Selection}
+use Rattle.vc_syntax_tree.specs.Trees.{Selection}
 use Rattle.vc_table.specs.declared.table.VariantTable.{VariantTable}
 use Rattle.vc_types.specs.Faults.{fault_of}
 use Rattle.vc_types.specs.declared.place.At.TheVariants as at

@@ -6,7 +6,7 @@ use Rattle.std.specs.List.{cons_option, filter, list_any}
 use Rattle.std.proofs.lemmas.Bool.{or_parts}
 use Rattle.vc_model_parts.specs.declared.parts.Model.{Model}
 use Rattle.vc_model_parts.specs.declared.parts.NamedDependency.{NamedDependency}
-use Rattle.vc_syntax_terms.specs.Trees.{Dependency, dependency_of}
+use Rattle.vc_syntax_tree.specs.Trees.{Dependency, dependency_of}
 use Rattle.vc_types.specs.Faults.{all_kinds, fault_of, faults_of, first_of, stands}
 use Rattle.vc_types.specs.NameFaults.{double_name, is_of_no_part, is_self_in_constraint, is_undeclared, is_unknown_call}
 use Rattle.vc_types.specs.NameFaults.{is_unknown_object, objects_in, is_self_in_line, is_unknown, is_variable_outside}

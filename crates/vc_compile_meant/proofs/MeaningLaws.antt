@@ -9,9 +9,9 @@ use Rattle.vc_model_parts.specs.declared.parts.Model.{Model}
 use Rattle.vc_plan.specs.declared.plans.Slot.{Slot}
 use Rattle.vc_plan.specs.declared.plans.TextSet.{TextSet}
 use Rattle.vc_plan.specs.declared.plans.Var.{Var}
-use Rattle.vc_syntax_terms.specs.declared.tree.Operand.{Operand}
-use Rattle.vc_syntax_terms.specs.declared.tree.Operand.TheVariants as operands
-use Rattle.vc_syntax_terms.specs.declared.tree.Owner.TheVariants as owners
+use Rattle.vc_syntax_tree.specs.declared.Operand.{Operand}
+use Rattle.vc_syntax_tree.specs.declared.Operand.TheVariants as operands
+use Rattle.vc_syntax_tree.specs.declared.Owner.TheVariants as owners
 use Rattle.vc_types.specs.Looking.{characteristic_named, class_of, member_in, member_of}
 use Rattle.vc_types.specs.Meanings.{known, of_object, of_parent}
 use Rattle.vc_types.specs.Settings.{is_constraint, is_line, is_multiple, meaning}

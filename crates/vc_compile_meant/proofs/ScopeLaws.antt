@@ -25,8 +25,8 @@ use Rattle.vc_plan.specs.declared.plans.Plan.{Plan}
 use Rattle.vc_plan.specs.declared.plans.Slot.{Slot}
 use Rattle.vc_plan.specs.declared.terms.Term.{Term as StoredTerm}
 use Rattle.vc_plan.specs.declared.terms.Term.TheVariants as terms
-use Rattle.vc_syntax_terms.specs.Trees.{Condition, Counts, Dependency, Precondition, Procedure, Selection, Constrains}
-use Rattle.vc_syntax_terms.specs.Trees.{Term, term_of}
+use Rattle.vc_syntax_tree.specs.Trees.{Condition, Counts, Dependency, Precondition, Procedure, Selection, Constrains}
+use Rattle.vc_syntax_tree.specs.Trees.{Term, term_of}
 use Rattle.vc_table.specs.declared.table.VariantTable.{VariantTable}
 use Rattle.vc_types.specs.Faults.{fault_of}
 use Rattle.vc_types.specs.Occurrences.{Use, uses_in}

@@ -18,10 +18,10 @@ use Rattle.vc_plan.specs.declared.plans.Slot.{Slot}
 use Rattle.vc_plan.specs.declared.plans.Var.{Var}
 use Rattle.vc_plan.specs.declared.terms.Term.{Term as StoredTerm}
 use Rattle.vc_plan.specs.declared.terms.Term.TheVariants as terms
-use Rattle.vc_syntax_terms.specs.declared.tree.Operand.{Operand as Name}
-use Rattle.vc_syntax_terms.specs.Trees as syntax
-use Rattle.vc_syntax_terms.specs.Trees.{Term, Number, Text, Operand, Negated, Combined, Applied, SumOfParts}
-use Rattle.vc_syntax_terms.specs.Trees.{CountOfParts, Counts}
+use Rattle.vc_syntax_tree.specs.declared.Operand.{Operand as Name}
+use Rattle.vc_syntax_tree.specs.Trees as syntax
+use Rattle.vc_syntax_tree.specs.Trees.{Term, Number, Text, Operand, Negated, Combined, Applied, SumOfParts}
+use Rattle.vc_syntax_tree.specs.Trees.{CountOfParts, Counts}
 use Rattle.vc_table.specs.declared.table.VariantTable.{VariantTable}
 use Rattle.vc_types.specs.Faults.{fault_of}
 use Rattle.vc_types.specs.NameFaults.{objects_in, some_operand}

@@ -10,7 +10,7 @@ use Rattle.vc_model_parts.specs.declared.parts.Operation.{Operation}
 use Rattle.vc_model_parts.specs.declared.parts.Values.{Values}
 use Rattle.vc_model_parts.specs.declared.parts.Values.TheVariants as values
 use Rattle.vc_plan.specs.declared.plans.Slot.{Slot}
-use Rattle.vc_syntax_terms.specs.Trees.{Condition, Counts, Dependency, term_of}
+use Rattle.vc_syntax_tree.specs.Trees.{Condition, Counts, Dependency, term_of}
 use Rattle.vc_types.specs.Faults.{fault_of}
 use Rattle.vc_types.specs.Looking.{class_in}
 use Rattle.vc_types.specs.declared.place.At.TheVariants as at

@@ -26,10 +26,10 @@ use Rattle.vc_plan.specs.declared.plans.Slot.{Slot}
 use Rattle.vc_plan.specs.declared.rules.Rule.{Rule}
 use Rattle.vc_plan.specs.declared.terms.Term.{Term as StoredTerm}
 use Rattle.vc_plan.specs.declared.terms.Term.TheVariants as terms
-use Rattle.vc_syntax_terms.specs.declared.tree.Operand.{Operand as Name}
-use Rattle.vc_syntax_terms.specs.declared.tree.Relator.{Relator}
-use Rattle.vc_syntax_terms.specs.declared.tree.Relator.TheVariants as relators
-use Rattle.vc_syntax_terms.specs.Trees as syntax
+use Rattle.vc_syntax_tree.specs.declared.Operand.{Operand as Name}
+use Rattle.vc_syntax_tree.specs.declared.Relator.{Relator}
+use Rattle.vc_syntax_tree.specs.declared.Relator.TheVariants as relators
+use Rattle.vc_syntax_tree.specs.Trees as syntax
 use Rattle.vc_table.specs.declared.table.VariantTable.{VariantTable}
 use Rattle.vc_types.specs.Faults.{fault_of}
 use Rattle.vc_types.specs.Occurrences.{asks_sum, calls_in, condition_of_restriction, conditions_in, demanded_relations}

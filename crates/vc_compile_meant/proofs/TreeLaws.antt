@@ -2,14 +2,14 @@
 use Rattle.std.proofs.Common.{◌≡◌, ℕ, Bool, true, false, ◌&&◌, List, [], ◌∷◌, ◌++◌, map, flat_map, Option, Some, None}
 use Rattle.std.proofs.Common.{refl, ap, ◌∙◌, subst, if◌then◌else◌}
 use Rattle.vc_value.specs.declared.value.Value.{Value}
-use Rattle.vc_syntax_terms.specs.declared.tree.Item.{Item}
-use Rattle.vc_syntax_terms.specs.declared.tree.Operand.{Operand as Name}
-use Rattle.vc_syntax_terms.specs.declared.tree.Relator.{Relator}
-use Rattle.vc_syntax_terms.specs.declared.tree.Relator.TheVariants as relators
-use Rattle.vc_syntax_terms.specs.Trees.{Term, Number, Text, Operand, Negated, Combined, Applied, SumOfParts}
-use Rattle.vc_syntax_terms.specs.Trees.{CountOfParts}
-use Rattle.vc_syntax_terms.specs.Trees.{Relation, Compared, Within, Condition, Or, And, Not, Related, Specified, PartOf}
-use Rattle.vc_syntax_terms.specs.Trees.{Dependency}
+use Rattle.vc_syntax_tree.specs.declared.Item.{Item}
+use Rattle.vc_syntax_tree.specs.declared.Operand.{Operand as Name}
+use Rattle.vc_syntax_tree.specs.declared.Relator.{Relator}
+use Rattle.vc_syntax_tree.specs.declared.Relator.TheVariants as relators
+use Rattle.vc_syntax_tree.specs.Trees.{Term, Number, Text, Operand, Negated, Combined, Applied, SumOfParts}
+use Rattle.vc_syntax_tree.specs.Trees.{CountOfParts}
+use Rattle.vc_syntax_tree.specs.Trees.{Relation, Compared, Within, Condition, Or, And, Not, Related, Specified, PartOf}
+use Rattle.vc_syntax_tree.specs.Trees.{Dependency}
 use Rattle.vc_types.specs.Occurrences.{Use, as_set, as_value, conditions_in, demanded_relations, is_equality}
 use Rattle.vc_types.specs.Occurrences.{is_literal, operands_of, other_names, own_terms, relations_in, relations_of}
 use Rattle.vc_types.specs.Occurrences.{specified_in, uses_in, uses_of_left, uses_of_relation, uses_of_term, values_in}

@@ -4,7 +4,7 @@ use Rattle.std.specs.List.{list_all}
 use Rattle.vc_model_parts.specs.declared.parts.Model.{Model}
 use Rattle.vc_plan.specs.RuleShapes.{columns_once}
 use Rattle.vc_plan.specs.declared.plans.Plan.{Plan}
-use Rattle.vc_syntax_terms.specs.Trees.{Dependency, dependency_of}
+use Rattle.vc_syntax_tree.specs.Trees.{Dependency, dependency_of}
 use Rattle.vc_types.specs.Occurrences.{calls_in}
 
 -- whether each call of a table names a column

@@ -2,8 +2,8 @@
 use Rattle.std.specs.Prelude.{◌≡◌, Bool, true, nat_lt, length}
 use Rattle.std.specs.List.{list_all}
 use Rattle.vc_model_parts.specs.declared.parts.Model.{Model}
-use Rattle.vc_syntax_terms.specs.Trees.{Constrains, Counts, Dependency, Precondition, Procedure, Selection}
-use Rattle.vc_syntax_terms.specs.Trees.{dependency_of}
+use Rattle.vc_syntax_tree.specs.Trees.{Constrains, Counts, Dependency, Precondition, Procedure, Selection}
+use Rattle.vc_syntax_tree.specs.Trees.{dependency_of}
 
 -- whether a constraint speaks of some object
 abbrev pub has_objects : Dependency → Bool

@@ -14,10 +14,10 @@ use Rattle.vc_plan.specs.declared.procedures.Procedure.{Procedure}
 use Rattle.vc_plan.specs.declared.procedures.Statement.{Statement}
 use Rattle.vc_plan.specs.declared.rules.Rule.{Rule}
 use Rattle.vc_plan.specs.declared.terms.Term as kept
-use Rattle.vc_syntax_terms.specs.declared.tree.Operand.{Operand}
-use Rattle.vc_syntax_terms.specs.declared.tree.Relator.{Relator}
-use Rattle.vc_syntax_terms.specs.declared.tree.Relator.TheVariants as relators
-use Rattle.vc_syntax_terms.specs.Trees as syntax
+use Rattle.vc_syntax_tree.specs.declared.Operand.{Operand}
+use Rattle.vc_syntax_tree.specs.declared.Relator.{Relator}
+use Rattle.vc_syntax_tree.specs.declared.Relator.TheVariants as relators
+use Rattle.vc_syntax_tree.specs.Trees as syntax
 use Rattle.vc_table.specs.declared.table.VariantTable.{VariantTable}
 use Rattle.vc_types.specs.Looking.{column_in, table_named}
 use Rattle.vc_types.specs.Occurrences.{call_of_action, condition_of_restriction, condition_of_statement, if_there}

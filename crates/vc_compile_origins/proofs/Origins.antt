@@ -5,7 +5,7 @@ use Rattle.vc_model_parts.specs.declared.parts.BillItem.{BillItem}
 use Rattle.vc_model_parts.specs.declared.parts.Model.{Model}
 use Rattle.vc_model_parts.specs.declared.parts.Operation as parts
 use Rattle.vc_plan.specs.declared.plans.Slot.{Slot}
-use Rattle.vc_syntax_terms.specs.Trees as syntax
+use Rattle.vc_syntax_tree.specs.Trees as syntax
 use Rattle.vc_types.specs.Faults.{fault_of}
 use Rattle.vc_types.specs.Occurrences.{calls_in, conditions_in, demanded_relations, own_terms, sides_of, values_in}
 use Rattle.vc_types.specs.PlaceFaults.{is_procedure}

@@ -2,9 +2,9 @@
 use Rattle.std.proofs.Common.{◌≡◌, Bool, false, ◌||◌}
 use Rattle.std.specs.List.{list_any}
 use Rattle.std.proofs.lemmas.Bool.{or_parts}
-use Rattle.vc_syntax_terms.specs.declared.tree.NameLeaf.{NameLeaf}
-use Rattle.vc_syntax_terms.specs.Trees.{Term, Number, Text, Operand, Negated, Combined, Applied, SumOfParts}
-use Rattle.vc_syntax_terms.specs.Trees.{CountOfParts, Dependency}
+use Rattle.vc_syntax_tree.specs.declared.NameLeaf.{NameLeaf}
+use Rattle.vc_syntax_tree.specs.Trees.{Term, Number, Text, Operand, Negated, Combined, Applied, SumOfParts}
+use Rattle.vc_syntax_tree.specs.Trees.{CountOfParts, Dependency}
 use Rattle.vc_types.specs.NameFaults.{is_of_no_part, is_undeclared, is_unknown, is_unknown_call, is_unknown_object}
 use Rattle.vc_types.specs.NameFaults.{objects_in, some_operand}
 use Rattle.vc_types.specs.Occurrences.{calls_in, has_sum, parted_names, relations_in, summed_in, summed_names, terms_in}

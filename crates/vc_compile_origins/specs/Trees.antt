@@ -2,7 +2,7 @@
 use Rattle.std.specs.Prelude.{◌≡◌, Bool, true}
 use Rattle.std.specs.List.{list_all}
 use Rattle.vc_model_parts.specs.declared.parts.Model.{Model}
-use Rattle.vc_syntax_terms.specs.Trees.{Counts, Dependency, dependency_of, term_of}
+use Rattle.vc_syntax_tree.specs.Trees.{Counts, Dependency, dependency_of, term_of}
 
 pub record TreesPass (test : Dependency → Bool) (model : Model) : Type 0 where
   pub dependencies : list_all (λ named. test (dependency_of named.tree)) model.dependencies ≡ true

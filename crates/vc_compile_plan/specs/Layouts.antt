@@ -4,7 +4,7 @@ use Rattle.vc_model_parts.specs.declared.parts.Model.{Model}
 use Rattle.vc_plan.specs.declared.plans.Slot.{Slot}
 use Rattle.vc_plan.specs.declared.plans.TextSet.{TextSet}
 use Rattle.vc_plan.specs.declared.plans.Var.{Var}
-use Rattle.vc_syntax_terms.specs.Trees.{Dependency, dependency_of}
+use Rattle.vc_syntax_tree.specs.Trees.{Dependency, dependency_of}
 use Rattle.vc_compile_plan.specs.declared.standings.Standing.{Standing}
 use Rattle.vc_compile_plan.specs.Slots.{standings_of, slots_of}
 use Rattle.vc_compile_plan.specs.Texts.{texts_of}

@@ -2,7 +2,7 @@
 use Rattle.std.specs.Prelude.{ℕ, if◌then◌else◌, List, [], Option, None, Some, option_map, filter_map}
 use Rattle.vc_model_parts.specs.declared.parts.Model.{Model}
 use Rattle.vc_plan.specs.declared.plans.Slot.{Slot}
-use Rattle.vc_syntax_terms.specs.Trees.{Condition, Statement, Dependency, Precondition, Selection, Procedure}
+use Rattle.vc_syntax_tree.specs.Trees.{Condition, Statement, Dependency, Precondition, Selection, Procedure}
 use Rattle.vc_types.specs.Settings.{is_line}
 use Rattle.vc_types.specs.declared.place.At.{At}
 use Rattle.vc_types.specs.declared.place.At.TheVariants as at

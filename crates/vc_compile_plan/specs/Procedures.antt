@@ -3,10 +3,10 @@ use Rattle.std.specs.Prelude.{ℕ, if◌then◌else◌, List, [], ◌∷◌, ◌
 use Rattle.std.specs.Prelude.{option_map, filter_map}
 use Rattle.vc_model_parts.specs.declared.parts.Characteristic.{Characteristic}
 use Rattle.vc_model_parts.specs.declared.parts.Object.{Object}
-use Rattle.vc_syntax_terms.specs.declared.tree.NameLeaf.{NameLeaf}
-use Rattle.vc_syntax_terms.specs.declared.tree.Operand.TheVariants.{Owned}
-use Rattle.vc_syntax_terms.specs.declared.tree.Owner.TheVariants.{Itself}
-use Rattle.vc_syntax_terms.specs.Trees as syntax
+use Rattle.vc_syntax_tree.specs.declared.NameLeaf.{NameLeaf}
+use Rattle.vc_syntax_tree.specs.declared.Operand.TheVariants.{Owned}
+use Rattle.vc_syntax_tree.specs.declared.Owner.TheVariants.{Itself}
+use Rattle.vc_syntax_tree.specs.Trees as syntax
 use Rattle.vc_types.specs.Looking.{column_in, table_named}
 use Rattle.vc_types.specs.PlaceFaults.{is_key}
 use Rattle.vc_plan.specs.declared.conditions.Piece.{Piece}

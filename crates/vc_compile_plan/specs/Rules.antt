@@ -4,10 +4,10 @@ use Rattle.std.specs.Prelude.{None, Some, option_map}
 use Rattle.std.specs.List.{filter}
 use Rattle.vc_value.specs.declared.value.Value.{Value}
 use Rattle.vc_model_parts.specs.declared.parts.BillItem.{BillItem}
-use Rattle.vc_syntax_terms.specs.declared.tree.Operand.{Operand as OperandLeaf}
-use Rattle.vc_syntax_terms.specs.declared.tree.Relator.{Relator}
-use Rattle.vc_syntax_terms.specs.declared.tree.Relator.TheVariants as relators
-use Rattle.vc_syntax_terms.specs.Trees as syntax
+use Rattle.vc_syntax_tree.specs.declared.Operand.{Operand as OperandLeaf}
+use Rattle.vc_syntax_tree.specs.declared.Relator.{Relator}
+use Rattle.vc_syntax_tree.specs.declared.Relator.TheVariants as relators
+use Rattle.vc_syntax_tree.specs.Trees as syntax
 use Rattle.vc_plan.specs.Domains.{numbers_below}
 use Rattle.vc_types.specs.Settings.{setting_of}
 use Rattle.vc_types.specs.declared.place.At.TheVariants as at

@@ -11,7 +11,7 @@ use Rattle.vc_model_parts.specs.declared.parts.Operation.{Operation}
 use Rattle.vc_model_parts.specs.declared.parts.TextValue.{TextValue}
 use Rattle.vc_model_parts.specs.declared.parts.Values.{Values}
 use Rattle.vc_model_parts.specs.declared.parts.Values.TheVariants as values
-use Rattle.vc_syntax_terms.specs.Trees.{term_of}
+use Rattle.vc_syntax_tree.specs.Trees.{term_of}
 use Rattle.vc_types.specs.declared.place.At.TheVariants as at
 use Rattle.vc_plan.specs.declared.conditions.Piece.{Piece}
 use Rattle.vc_plan.specs.declared.conditions.Piece.TheVariants.{OneText, Stretch}

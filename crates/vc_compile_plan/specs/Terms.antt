@@ -3,13 +3,13 @@ use Rattle.std.specs.Prelude.{ℕ, neg_ℤ, List, Option, None, Some}
 use Rattle.vc_value.specs.declared.decimal.Dec.{Dec}
 use Rattle.vc_value.specs.declared.value.Value.{Value}
 use Rattle.vc_value.specs.declared.value.Value.TheVariants as values
-use Rattle.vc_syntax_terms.specs.declared.tree.Function.{Function as NamedFunction}
-use Rattle.vc_syntax_terms.specs.declared.tree.Function.TheVariants as functions
-use Rattle.vc_syntax_terms.specs.declared.tree.Operand.{Operand as OperandLeaf}
-use Rattle.vc_syntax_terms.specs.declared.tree.Operator.{Operator as NamedOperator}
-use Rattle.vc_syntax_terms.specs.declared.tree.Operator.TheVariants as operators
-use Rattle.vc_syntax_terms.specs.Trees.{Term, Number, Text, Operand, Negated, Combined, Applied, SumOfParts}
-use Rattle.vc_syntax_terms.specs.Trees.{CountOfParts}
+use Rattle.vc_syntax_tree.specs.declared.Function.{Function as NamedFunction}
+use Rattle.vc_syntax_tree.specs.declared.Function.TheVariants as functions
+use Rattle.vc_syntax_tree.specs.declared.Operand.{Operand as OperandLeaf}
+use Rattle.vc_syntax_tree.specs.declared.Operator.{Operator as NamedOperator}
+use Rattle.vc_syntax_tree.specs.declared.Operator.TheVariants as operators
+use Rattle.vc_syntax_tree.specs.Trees.{Term, Number, Text, Operand, Negated, Combined, Applied, SumOfParts}
+use Rattle.vc_syntax_tree.specs.Trees.{CountOfParts}
 use Rattle.vc_types.specs.Looking.{characteristic_named}
 use Rattle.vc_plan.specs.declared.terms.Function.{Function}
 use Rattle.vc_plan.specs.declared.terms.Function.TheVariants as plan_functions

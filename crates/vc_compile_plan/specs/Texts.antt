@@ -3,15 +3,15 @@ use Rattle.std.specs.Prelude.{ℕ, Bool, not, List, [], ◌∷◌, ◌++◌, fla
 use Rattle.std.specs.List.{filter, list_any, position_or_len}
 use Rattle.std.specs.Str.{bytes_eq}
 use Rattle.vc_model_parts.specs.declared.parts.Model.{Model}
-use Rattle.vc_syntax_terms.specs.declared.tree.Item.{Item}
-use Rattle.vc_syntax_terms.specs.declared.tree.Item.TheVariants as items
-use Rattle.vc_syntax_terms.specs.Trees.{Term, Number, Text, Operand, Negated, Combined, Applied, SumOfParts}
-use Rattle.vc_syntax_terms.specs.Trees.{CountOfParts}
-use Rattle.vc_syntax_terms.specs.Trees.{Relation, Compared, Within, Condition, Or, And, Not, Related, Specified, PartOf}
-use Rattle.vc_syntax_terms.specs.Trees.{TableCall, Action, Assign, SetDefault, DelDefault, Calls, Statement}
-use Rattle.vc_syntax_terms.specs.Trees.{Demand, Relates, Holds, Never, Restriction}
-use Rattle.vc_syntax_terms.specs.Trees.{Dependency, Precondition, Selection, Procedure, Constrains, Counts}
-use Rattle.vc_syntax_terms.specs.Trees.{dependency_of}
+use Rattle.vc_syntax_tree.specs.declared.Item.{Item}
+use Rattle.vc_syntax_tree.specs.declared.Item.TheVariants as items
+use Rattle.vc_syntax_tree.specs.Trees.{Term, Number, Text, Operand, Negated, Combined, Applied, SumOfParts}
+use Rattle.vc_syntax_tree.specs.Trees.{CountOfParts}
+use Rattle.vc_syntax_tree.specs.Trees.{Relation, Compared, Within, Condition, Or, And, Not, Related, Specified, PartOf}
+use Rattle.vc_syntax_tree.specs.Trees.{TableCall, Action, Assign, SetDefault, DelDefault, Calls, Statement}
+use Rattle.vc_syntax_tree.specs.Trees.{Demand, Relates, Holds, Never, Restriction}
+use Rattle.vc_syntax_tree.specs.Trees.{Dependency, Precondition, Selection, Procedure, Constrains, Counts}
+use Rattle.vc_syntax_tree.specs.Trees.{dependency_of}
 use Rattle.vc_types.specs.Occurrences.{if_there}
 
 -- the texts that stand in a tree, in its order; the material of a constraint's object is none of them

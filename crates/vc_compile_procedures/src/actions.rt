@@ -1,21 +1,23 @@
 //! What statements do.
 
 ghost use Rattle.std.specs.Prelude.{◌≡◌, ◌∷◌, [], length, map, flat_map, IfOk, OnOk};
-ghost use Rattle.vc_syntax_terms.specs.Trees as syntax;
+ghost use Rattle.vc_syntax_tree.specs.Trees as syntax;
 ghost use Rattle.vc_types.specs.Looking.{column_in, table_named};
 ghost use Rattle.vc_types.specs.PlaceFaults.{is_key};
 ghost use Rattle.vc_compile_plan.specs.Procedures as procedures;
 ghost use Rattle.vc_compile_plan.specs.Sites.{characteristic_in};
 ghost use Rattle.vc_compile_plan.specs.Terms as compiled;
 ghost use Rattle.vc_compile_numbering.specs.Growing.{kept, with_terms};
-ghost use Rattle.vc_compile_sites.specs.Standing.{layout_seen, site_seen};
+ghost use Rattle.vc_compile_layout.specs.Standing.{layout_seen};
+ghost use Rattle.vc_compile_sites.specs.Standing.{site_seen};
 ghost use Rattle.vc_compile_procedures.specs.Doing.{AreKeys, IsDone};
 
 use std::alloc::{AllocError, Global};
+use vc_compile_layout::Layout;
 use vc_compile_numbering::Trees;
-use vc_compile_sites::{Layout, Site, term_at};
+use vc_compile_sites::{Site, term_at};
 use vc_plan::{Action, FilledColumn, KeyTerm};
-use vc_syntax_terms::tree::{Action as Act, Binding, NameLeaf, Operand, TableCall, Term};
+use vc_syntax_tree::{Action as Act, Binding, NameLeaf, Operand, TableCall, Term};
 use vc_types::Meaning;
 use vc_value::Listed;
 

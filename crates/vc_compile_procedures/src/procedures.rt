@@ -2,24 +2,24 @@
 
 ghost use Rattle.std.specs.Prelude.{◌≡◌, ◌∷◌, [], ◌<◌, ◌^◌, length, map, flat_map, slice_get, IfOk, OnOk};
 ghost use Rattle.std.specs.Option.{option_copied};
-ghost use Rattle.vc_syntax_terms.specs.Trees as syntax;
+ghost use Rattle.vc_syntax_tree.specs.Trees as syntax;
 ghost use Rattle.vc_plan.specs.declared.procedures.Trigger.TheVariants.{Anyway};
 ghost use Rattle.vc_compile_plan.specs.Numbering.{procedure_brings, procedure_from};
 ghost use Rattle.vc_compile_plan.specs.Places.{procedure_site};
 ghost use Rattle.vc_compile_plan.specs.Variables.{by_slot};
 ghost use Rattle.vc_compile_plan.specs.Procedures as procedures;
 ghost use Rattle.vc_compile_numbering.specs.Growing.{seen, with_draft, with_drafts};
-ghost use Rattle.vc_compile_sites.specs.Standing.{entry_seen, layout_seen, site_seen};
+ghost use Rattle.vc_compile_layout.specs.Standing.{layout_seen};
+ghost use Rattle.vc_compile_sites.specs.Standing.{entry_seen, site_seen};
 
 use crate::statements::statements_at;
 use std::alloc::{AllocError, Global};
+use vc_compile_layout::Layout;
 use vc_compile_numbering::Numbering;
-use vc_compile_sites::{
-    Entry, Layout, Site, dependency, entries_of, setting_at, site_of, statements_in,
-};
+use vc_compile_sites::{Entry, Site, dependency, entries_of, setting_at, site_of, statements_in};
 use vc_model_parts::Characteristic;
 use vc_plan::{Named, Piece, Procedure, Slot, Trigger};
-use vc_syntax_terms::tree::Statement as Stated;
+use vc_syntax_tree::Statement as Stated;
 use vc_types::At;
 use vc_value::Listed;
 

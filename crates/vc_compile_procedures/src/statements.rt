@@ -1,21 +1,23 @@
 //! The statements of procedures.
 
 ghost use Rattle.std.specs.Prelude.{◌≡◌, [], map, option_map, IfOk, OnOk};
-ghost use Rattle.vc_syntax_terms.specs.Trees as syntax;
+ghost use Rattle.vc_syntax_tree.specs.Trees as syntax;
 ghost use Rattle.vc_compile_plan.specs.Conditions as conditions;
 ghost use Rattle.vc_compile_plan.specs.Numbering.{statement_brings, statement_from};
 ghost use Rattle.vc_compile_plan.specs.Procedures as procedures;
 ghost use Rattle.vc_compile_plan.specs.Trees as plan;
 ghost use Rattle.vc_compile_numbering.specs.Growing.{with_draft, with_drafts};
-ghost use Rattle.vc_compile_sites.specs.Standing.{layout_seen, site_seen};
+ghost use Rattle.vc_compile_layout.specs.Standing.{layout_seen};
+ghost use Rattle.vc_compile_sites.specs.Standing.{site_seen};
 ghost use Rattle.vc_compile_procedures.specs.Doing.{seen_with};
 
 use crate::actions::action_at;
 use std::alloc::{AllocError, Global};
+use vc_compile_layout::Layout;
 use vc_compile_numbering::Trees;
-use vc_compile_sites::{Layout, Site, condition_at};
+use vc_compile_sites::{Site, condition_at};
 use vc_plan::{Condition as PlanCondition, Statement};
-use vc_syntax_terms::tree::{Condition, Statement as Stated};
+use vc_syntax_tree::{Condition, Statement as Stated};
 use vc_value::Listed;
 
 fn condition_if(

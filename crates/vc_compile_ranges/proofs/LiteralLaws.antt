@@ -1,12 +1,12 @@
 -- The literals of a dependency, term by term and relation by relation.
 use Rattle.std.proofs.Common.{◌≡◌, ℕ, false, ◌||◌, List, [], ◌∷◌, ◌++◌, flat_map, Option, Some, None}
 use Rattle.std.proofs.lemmas.Bool.{or_parts}
-use Rattle.vc_syntax_terms.specs.Trees.{Term, Number, Text, Operand, Negated, Combined, Applied, SumOfParts}
-use Rattle.vc_syntax_terms.specs.Trees.{CountOfParts}
-use Rattle.vc_syntax_terms.specs.Trees.{Relation, Compared, Within, Condition, Or, And, Not, Related, Specified, PartOf}
-use Rattle.vc_syntax_terms.specs.Trees.{TableCall, Action, Assign, SetDefault, DelDefault, Calls, Statement}
-use Rattle.vc_syntax_terms.specs.Trees.{Demand, Relates, Holds, Never, Restriction}
-use Rattle.vc_syntax_terms.specs.Trees.{Dependency, Precondition, Selection, Procedure, Constrains, Counts}
+use Rattle.vc_syntax_tree.specs.Trees.{Term, Number, Text, Operand, Negated, Combined, Applied, SumOfParts}
+use Rattle.vc_syntax_tree.specs.Trees.{CountOfParts}
+use Rattle.vc_syntax_tree.specs.Trees.{Relation, Compared, Within, Condition, Or, And, Not, Related, Specified, PartOf}
+use Rattle.vc_syntax_tree.specs.Trees.{TableCall, Action, Assign, SetDefault, DelDefault, Calls, Statement}
+use Rattle.vc_syntax_tree.specs.Trees.{Demand, Relates, Holds, Never, Restriction}
+use Rattle.vc_syntax_tree.specs.Trees.{Dependency, Precondition, Selection, Procedure, Constrains, Counts}
 use Rattle.vc_types.specs.Occurrences.{call_of_action, call_of_demand, calls_in, condition_of_restriction}
 use Rattle.vc_types.specs.Occurrences.{condition_of_statement, conditions_in, demanded_relations, if_there, own_terms}
 use Rattle.vc_types.specs.Occurrences.{relation_of_demand, relations_in, relations_of, sides_of, term_of_action}

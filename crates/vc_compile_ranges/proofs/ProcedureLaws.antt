@@ -37,7 +37,7 @@ use Rattle.vc_plan.specs.declared.procedures.FilledColumn.{FilledColumn}
 use Rattle.vc_plan.specs.declared.procedures.Statement.{Statement}
 use Rattle.vc_plan.specs.declared.procedures.Trigger.{Trigger}
 use Rattle.vc_plan.specs.declared.procedures.Trigger.TheVariants.{Anyway, ValueIn, TextIn}
-use Rattle.vc_syntax_terms.specs.Trees as syntax
+use Rattle.vc_syntax_tree.specs.Trees as syntax
 use Rattle.vc_table.specs.declared.table.VariantTable.{VariantTable}
 use Rattle.vc_types.specs.Looking.{column_in, table_named}
 use Rattle.vc_types.specs.NameFaults.{is_unknown_call, is_unknown_column}

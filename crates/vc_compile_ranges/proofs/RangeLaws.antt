@@ -9,7 +9,7 @@ use Rattle.vc_plan.specs.RuleShapes.{stays_at_its_slots}
 use Rattle.vc_plan.specs.declared.plans.Plan.{Plan}
 use Rattle.vc_plan.specs.declared.procedures.Procedure.{Procedure}
 use Rattle.vc_plan.specs.declared.rules.Rule.{Rule}
-use Rattle.vc_syntax_terms.specs.Trees as syntax
+use Rattle.vc_syntax_tree.specs.Trees as syntax
 use Rattle.vc_table.specs.declared.table.VariantTable.{VariantTable}
 use Rattle.vc_compile_plan.specs.Layouts.{layout_of}
 use Rattle.vc_compile_plan.specs.PlanOf.{IsPlanOf}

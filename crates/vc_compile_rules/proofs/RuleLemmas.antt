@@ -15,7 +15,7 @@ use Rattle.vc_compile_plan.specs.Places.{Asked}
 use Rattle.vc_compile_plan.specs.Sites.{Site}
 use Rattle.vc_compile_plan.specs.declared.standings.Standing.{Standing}
 use Rattle.vc_compile_plan.specs.Tuples.{both}
-use Rattle.vc_syntax_terms.specs.Trees as syntax
+use Rattle.vc_syntax_tree.specs.Trees as syntax
 use Rattle.vc_compile_numbering.specs.Growing.{Numbered, with_draft, with_drafts}
 use Rattle.vc_compile_numbering.proofs.NumberingLaws.{drafts_append, drafts_are_counted}
 use Rattle.vc_compile_rules.specs.Adding.{Adds, both_asked}

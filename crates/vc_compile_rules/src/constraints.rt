@@ -1,24 +1,26 @@
 //! The rules of a constraint, at each tuple of slots that it speaks of.
 
 ghost use Rattle.std.specs.Prelude.{◌≡◌, flat_map, option_map, IfOk, OnOk};
-ghost use Rattle.vc_syntax_terms.specs.Trees as syntax;
+ghost use Rattle.vc_syntax_tree.specs.Trees as syntax;
 ghost use Rattle.vc_compile_plan.specs.Conditions.{condition_at};
 ghost use Rattle.vc_compile_plan.specs.Numbering.{rule_brings, rule_from};
 ghost use Rattle.vc_compile_plan.specs.Rules as rules;
 ghost use Rattle.vc_compile_plan.specs.Trees as plan;
 ghost use Rattle.vc_compile_plan.specs.Tuples as tuples;
 ghost use Rattle.vc_compile_numbering.specs.Growing as growing;
-ghost use Rattle.vc_compile_sites.specs.Standing.{layout_seen, site_seen};
+ghost use Rattle.vc_compile_layout.specs.Standing.{layout_seen};
+ghost use Rattle.vc_compile_sites.specs.Standing.{site_seen};
 ghost use Rattle.vc_compile_rules.specs.Adding.{Adds, both_asked};
 
 use crate::adding::{MOST_RULES, Room};
 use crate::demands::demand_at;
 use crate::inferred::inferred_at;
 use std::alloc::{AllocError, Global};
+use vc_compile_layout::Layout;
 use vc_compile_numbering::Numbering;
-use vc_compile_sites::{Layout, Site, condition_at};
+use vc_compile_sites::{Site, condition_at};
 use vc_plan::{Condition as PlanCondition, Rule};
-use vc_syntax_terms::tree::{Condition, Constraint, Restriction};
+use vc_syntax_tree::{Condition, Constraint, Restriction};
 use vc_types::{At, Place};
 use vc_types_meanings::{Setting, Tree};
 use vc_value::Listed;

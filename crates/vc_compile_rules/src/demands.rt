@@ -2,8 +2,8 @@
 
 ghost use Rattle.std.specs.Prelude.{◌≡◌, map, IfOk, Some};
 ghost use Rattle.std.specs.Option.{option_copied};
-ghost use Rattle.vc_syntax_terms.specs.Trees.{term_of};
-ghost use Rattle.vc_syntax_terms.specs.Trees as syntax;
+ghost use Rattle.vc_syntax_tree.specs.Trees.{term_of};
+ghost use Rattle.vc_syntax_tree.specs.Trees as syntax;
 ghost use Rattle.vc_plan.specs.declared.rules.Kind.TheVariants.{Among, ByTable};
 ghost use Rattle.vc_plan.specs.declared.rules.Restriction.TheVariants.{Against, OneOf};
 ghost use Rattle.vc_compile_plan.specs.Conditions as conditions;
@@ -12,18 +12,20 @@ ghost use Rattle.vc_compile_plan.specs.Sites.{var_meant};
 ghost use Rattle.vc_compile_plan.specs.Tables.{table_number};
 ghost use Rattle.vc_compile_plan.specs.Terms as terms;
 ghost use Rattle.vc_compile_numbering.specs.Growing.{kept};
-ghost use Rattle.vc_compile_sites.specs.Standing.{layout_seen, site_seen};
+ghost use Rattle.vc_compile_layout.specs.Standing.{layout_seen};
+ghost use Rattle.vc_compile_sites.specs.Standing.{site_seen};
 ghost use Rattle.vc_compile_rules.specs.Adding.{IsDemanded};
 
 use std::alloc::{AllocError, Global};
+use vc_compile_layout::Layout;
 use vc_compile_numbering::Trees;
 use vc_compile_sites::conditions::{pieces_of, relation_of};
-use vc_compile_sites::{Layout, Site, literal_of, lone_of, term_at};
+use vc_compile_sites::{Site, literal_of, lone_of, term_at};
 use vc_plan::{
     Binding as PlanBinding, Kind, Operand as PlanOperand, Relation as PlanRelation, Restriction,
 };
 use vc_rule_terms::relations::turned;
-use vc_syntax_terms::tree::{Binding, Demand, Item, Operand, Relation, Relator, TableCall, Term};
+use vc_syntax_tree::{Binding, Demand, Item, Operand, Relation, Relator, TableCall, Term};
 use vc_value::{Listed, Value};
 
 // A relation of two terms, each with a number of its own.

@@ -3,13 +3,15 @@
 ghost use Rattle.std.specs.Prelude.{◌≡◌, [], map, IfOk, OnOk};
 ghost use Rattle.vc_compile_plan.specs.Rules.{distinct};
 ghost use Rattle.vc_compile_plan.specs.Sites.{var_meant};
-ghost use Rattle.vc_compile_sites.specs.Standing.{layout_seen, site_seen};
+ghost use Rattle.vc_compile_layout.specs.Standing.{layout_seen};
+ghost use Rattle.vc_compile_sites.specs.Standing.{site_seen};
 ghost use Rattle.vc_compile_rules.specs.Inferring.{with_number};
 
 use indexmap::IndexSet;
 use std::alloc::{AllocError, Global};
-use vc_compile_sites::{Layout, Site};
-use vc_syntax_terms::tree::Operand;
+use vc_compile_layout::Layout;
+use vc_compile_sites::Site;
+use vc_syntax_tree::Operand;
 use vc_value::Listed;
 
 // Puts the number last, unless it is there; the set, which finds it, has the same numbers.

@@ -7,14 +7,16 @@ ghost use Rattle.vc_compile_plan.specs.Layouts.{object_at};
 ghost use Rattle.vc_compile_plan.specs.Rules as rules;
 ghost use Rattle.vc_compile_plan.specs.Slots.{bill_if};
 ghost use Rattle.vc_compile_numbering.specs.Growing as growing;
-ghost use Rattle.vc_compile_sites.specs.Standing.{asked_seen, layout_seen, site_seen};
+ghost use Rattle.vc_compile_layout.specs.Standing.{layout_seen};
+ghost use Rattle.vc_compile_sites.specs.Standing.{asked_seen, site_seen};
 ghost use Rattle.vc_compile_rules.specs.Adding.{Adds};
 
 use crate::adding::{MOST_RULES, Room};
 use std::alloc::{AllocError, Global};
+use vc_compile_layout::Layout;
 use vc_compile_numbering::Numbering;
 use vc_compile_plan::Standing;
-use vc_compile_sites::{Asked, Layout, Site, condition_at, selections_among, setting_at, site_of};
+use vc_compile_sites::{Asked, Site, condition_at, selections_among, setting_at, site_of};
 use vc_plan::{Kind, Rule};
 use vc_types::At;
 use vc_value::Listed;

@@ -11,7 +11,7 @@ use vc_model_parts::parts::{
     Table,
 };
 use vc_plan::Plan;
-use vc_syntax_terms::tree::{Dependency, NumberLeaf, Statement, Term};
+use vc_syntax_tree::{Dependency, NumberLeaf, Statement, Term};
 use vc_table::VariantTable;
 use vc_value::{Dec, Listed, Word};
 

@@ -4,18 +4,18 @@ use std::alloc::{AllocError, Global};
 use std::process::Abort;
 use std::test::Fail;
 use vc_compile_constraints::push_constraint_rules;
+use vc_compile_layout::Layout;
 use vc_compile_numbering::{Numbering, Trees};
 use vc_compile_plan::Standing;
 use vc_compile_rules::Room;
 use vc_compile_rules::own::{push_last_rules, push_line_rules};
-use vc_compile_sites::Layout;
 use vc_compile_uses::texts_of;
 use vc_model_parts::parts::{
     BillItem, Characteristic, Class, Model, NamedDependency, Net, NumberValue, Object, Operation,
     Table, TextValue, Values,
 };
 use vc_plan::{Kind, Rule, Slot, TextSet, Var};
-use vc_syntax_terms::tree::{
+use vc_syntax_tree::{
     Constraint, Demand, Dependency, NameLeaf, Object as Declared, ObjectKind, Operand, Restriction,
 };
 use vc_types_names::Names;

@@ -3,17 +3,17 @@
 use std::alloc::{AllocError, Global};
 use std::process::Abort;
 use std::test::Fail;
+use vc_compile_layout::Layout;
 use vc_compile_numbering::{Numbering, Trees};
 use vc_compile_plan::Standing;
 use vc_compile_shown::{push_guards, push_lines, push_operations, push_requirements};
-use vc_compile_sites::Layout;
 use vc_compile_uses::texts_of;
 use vc_model_parts::parts::{
     BillItem, Characteristic, Class, Component, Model, NamedDependency, Net, NumberValue, Object,
     Operation, Table, Values,
 };
 use vc_plan::{Slot, TextSet, Var};
-use vc_syntax_terms::tree::{Condition, Dependency, NameLeaf, NumberLeaf, Operand, Term};
+use vc_syntax_tree::{Condition, Dependency, NameLeaf, NumberLeaf, Operand, Term};
 use vc_types_names::Names;
 use vc_value::{Dec, Listed, Word};
 

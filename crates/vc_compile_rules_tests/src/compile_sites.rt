@@ -3,17 +3,16 @@
 use std::alloc::{AllocError, Global};
 use std::process::Abort;
 use std::test::Fail;
+use vc_compile_layout::Layout;
 use vc_compile_plan::Standing;
-use vc_compile_sites::{Layout, Site, condition_at, term_at};
+use vc_compile_sites::{Site, condition_at, term_at};
 use vc_compile_uses::texts_of;
 use vc_model_parts::parts::{
     BillItem, Characteristic, Class, Model, NamedDependency, Net, NumberValue, Object, Operation,
     Table, TextValue, Values,
 };
 use vc_plan::{Condition as PlanCondition, Slot, Term as PlanTerm, TextSet, Var};
-use vc_syntax_terms::tree::{
-    Condition, Item, NameLeaf, NumberLeaf, Operand, Relation, Term, TextLeaf,
-};
+use vc_syntax_tree::{Condition, Item, NameLeaf, NumberLeaf, Operand, Relation, Term, TextLeaf};
 use vc_types::{At, Place};
 use vc_types_meanings::{Setting, Tree};
 use vc_types_names::Names;

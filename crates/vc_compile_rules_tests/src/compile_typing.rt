@@ -2,8 +2,8 @@
 
 use std::alloc::{AllocError, Global};
 use std::test::Fail;
+use vc_compile_layout::Layout;
 use vc_compile_plan::Standing;
-use vc_compile_sites::Layout;
 use vc_compile_typing::{Found, type_fault};
 use vc_compile_uses::texts_of;
 use vc_model_parts::{
@@ -11,7 +11,7 @@ use vc_model_parts::{
     TextValue, Values,
 };
 use vc_plan::{Slot, TextSet, Var};
-use vc_syntax_terms::tree::{Condition, Dependency, NameLeaf, Operand};
+use vc_syntax_tree::{Condition, Dependency, NameLeaf, Operand};
 use vc_types::TypeFaultKind;
 use vc_types_names::Names;
 use vc_value::{Listed, Word};

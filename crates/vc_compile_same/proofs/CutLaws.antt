@@ -1,9 +1,9 @@
 -- Domains are cut at the same numbers in two models of which the same is seen.
 use Rattle.std.proofs.Common.{◌≡◌, if◌then◌else◌, List, [], ◌++◌, map, flat_map, refl, Option, None, Some}
 use Rattle.vc_value.specs.declared.decimal.Dec.{Dec}
-use Rattle.vc_syntax_terms.specs.declared.tree.Operand.{Operand as OperandLeaf}
-use Rattle.vc_syntax_terms.specs.declared.tree.Operand.TheVariants as operands
-use Rattle.vc_syntax_terms.specs.Trees.{Relation, Compared, Within, TableCall, Binding, Dependency}
+use Rattle.vc_syntax_tree.specs.declared.Operand.{Operand as OperandLeaf}
+use Rattle.vc_syntax_tree.specs.declared.Operand.TheVariants as operands
+use Rattle.vc_syntax_tree.specs.Trees.{Relation, Compared, Within, TableCall, Binding, Dependency}
 use Rattle.vc_table.specs.declared.table.VariantTable.{VariantTable}
 use Rattle.vc_types.specs.Meanings.{Variable}
 use Rattle.vc_types.specs.Occurrences.{conditions_in, relations_of, demanded_relations}

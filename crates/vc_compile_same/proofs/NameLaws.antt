@@ -9,15 +9,15 @@ use Rattle.vc_model_parts.specs.declared.parts.Component.TheVariants as componen
 use Rattle.vc_model_parts.specs.declared.parts.Model.{Model}
 use Rattle.vc_model_parts.specs.declared.parts.Object.{Object}
 use Rattle.vc_model_drafts.specs.Seen.{SeenObject, seen_item, seen_object}
-use Rattle.vc_syntax_terms.specs.declared.tree.Alias.{Alias}
-use Rattle.vc_syntax_terms.specs.declared.tree.Object as syntax
-use Rattle.vc_syntax_terms.specs.declared.tree.ObjectKind.{ObjectKind}
-use Rattle.vc_syntax_terms.specs.declared.tree.ObjectKind.TheVariants as objects
-use Rattle.vc_syntax_terms.specs.declared.tree.Operand.{Operand}
-use Rattle.vc_syntax_terms.specs.declared.tree.Operand.TheVariants as operands
-use Rattle.vc_syntax_terms.specs.declared.tree.Owner.{Owner}
-use Rattle.vc_syntax_terms.specs.declared.tree.Owner.TheVariants as owners
-use Rattle.vc_syntax_terms.specs.Trees.{Dependency, Precondition, Selection, Procedure, Constrains, Counts}
+use Rattle.vc_syntax_tree.specs.declared.Alias.{Alias}
+use Rattle.vc_syntax_tree.specs.declared.Object as syntax
+use Rattle.vc_syntax_tree.specs.declared.ObjectKind.{ObjectKind}
+use Rattle.vc_syntax_tree.specs.declared.ObjectKind.TheVariants as objects
+use Rattle.vc_syntax_tree.specs.declared.Operand.{Operand}
+use Rattle.vc_syntax_tree.specs.declared.Operand.TheVariants as operands
+use Rattle.vc_syntax_tree.specs.declared.Owner.{Owner}
+use Rattle.vc_syntax_tree.specs.declared.Owner.TheVariants as owners
+use Rattle.vc_syntax_tree.specs.Trees.{Dependency, Precondition, Selection, Procedure, Constrains, Counts}
 use Rattle.vc_types.specs.Looking.{class_in, class_of, member_of, object_named}
 use Rattle.vc_types.specs.Meanings.{Variable, alias_of, class_meant, if_constraint, known, meaning_of, member_meaning}
 use Rattle.vc_types.specs.Meanings.{of_object, of_parent, owned_meaning, parent_meaning, plain_meaning, referent_of}

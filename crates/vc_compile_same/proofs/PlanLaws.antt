@@ -10,7 +10,7 @@ use Rattle.vc_model_parts.specs.declared.parts.Object.{Object}
 use Rattle.vc_model_parts.specs.declared.parts.Operation.{Operation}
 use Rattle.vc_model_drafts.specs.Seen.{SeenDependency, SeenItem, SeenObject, SeenOperation, seen_dependency, seen_item}
 use Rattle.vc_model_drafts.specs.Seen.{seen_model, seen_object, seen_operation}
-use Rattle.vc_syntax_terms.specs.Trees.{Dependency, Counts, term_of}
+use Rattle.vc_syntax_tree.specs.Trees.{Dependency, Counts, term_of}
 use Rattle.vc_table.specs.declared.table.VariantTable.{VariantTable}
 use Rattle.vc_types.specs.declared.place.At.TheVariants as at
 use Rattle.vc_types.specs.declared.place.Place.{Place}

@@ -4,10 +4,10 @@ use Rattle.std.proofs.Common.{◌∙◌, Option, None, Some, option_map}
 use Rattle.vc_value.specs.declared.value.Value.{Value}
 use Rattle.vc_model_parts.specs.declared.parts.BillItem.{BillItem}
 use Rattle.vc_model_drafts.specs.Seen.{SeenItem, seen_item}
-use Rattle.vc_syntax_terms.specs.declared.tree.Operand.{Operand as OperandLeaf}
-use Rattle.vc_syntax_terms.specs.declared.tree.Relator.{Relator}
-use Rattle.vc_syntax_terms.specs.declared.tree.Relator.TheVariants as relators
-use Rattle.vc_syntax_terms.specs.Trees as syntax
+use Rattle.vc_syntax_tree.specs.declared.Operand.{Operand as OperandLeaf}
+use Rattle.vc_syntax_tree.specs.declared.Relator.{Relator}
+use Rattle.vc_syntax_tree.specs.declared.Relator.TheVariants as relators
+use Rattle.vc_syntax_tree.specs.Trees as syntax
 use Rattle.vc_types.specs.Meanings.{Variable}
 use Rattle.vc_types.specs.declared.place.At.TheVariants as at
 use Rattle.vc_plan.specs.Pieces.{turned}

@@ -9,10 +9,10 @@ use Rattle.vc_model_parts.specs.declared.parts.Component.TheVariants as componen
 use Rattle.vc_model_parts.specs.declared.parts.Object.{Object}
 use Rattle.vc_model_parts.specs.declared.parts.Operation.{Operation}
 use Rattle.vc_model_drafts.specs.Seen.{SeenItem, SeenObject, SeenOperation, seen_item, seen_object, seen_operation}
-use Rattle.vc_syntax_terms.specs.declared.tree.Operand.TheVariants.{Owned}
-use Rattle.vc_syntax_terms.specs.declared.tree.Owner.TheVariants.{Itself}
-use Rattle.vc_syntax_terms.specs.Trees as syntax
-use Rattle.vc_syntax_terms.specs.Trees.{term_of}
+use Rattle.vc_syntax_tree.specs.declared.Operand.TheVariants.{Owned}
+use Rattle.vc_syntax_tree.specs.declared.Owner.TheVariants.{Itself}
+use Rattle.vc_syntax_tree.specs.Trees as syntax
+use Rattle.vc_syntax_tree.specs.Trees.{term_of}
 use Rattle.vc_types.specs.Looking.{column_in, table_named}
 use Rattle.vc_types.specs.PlaceFaults.{is_key}
 use Rattle.vc_types.specs.declared.place.At.TheVariants as at

@@ -1,13 +1,13 @@
 -- Where a tree stands it is the same term and the same condition in two models of which the same is seen.
 use Rattle.std.proofs.Common.{◌≡◌, ℕ, if◌then◌else◌, [], map, refl, Option, None, Some}
-use Rattle.vc_syntax_terms.specs.declared.tree.Operand.{Operand as OperandLeaf}
-use Rattle.vc_syntax_terms.specs.declared.tree.Operand.TheVariants as operands
-use Rattle.vc_syntax_terms.specs.declared.tree.Owner.{Owner}
-use Rattle.vc_syntax_terms.specs.declared.tree.Owner.TheVariants as owners
-use Rattle.vc_syntax_terms.specs.declared.tree.Relator.{Relator}
-use Rattle.vc_syntax_terms.specs.Trees.{Term, Number, Text, Operand, Negated, Combined, Applied, SumOfParts}
-use Rattle.vc_syntax_terms.specs.Trees.{CountOfParts, Relation, Compared, Within, Condition, Or, And, Not, Related}
-use Rattle.vc_syntax_terms.specs.Trees.{Specified, PartOf}
+use Rattle.vc_syntax_tree.specs.declared.Operand.{Operand as OperandLeaf}
+use Rattle.vc_syntax_tree.specs.declared.Operand.TheVariants as operands
+use Rattle.vc_syntax_tree.specs.declared.Owner.{Owner}
+use Rattle.vc_syntax_tree.specs.declared.Owner.TheVariants as owners
+use Rattle.vc_syntax_tree.specs.declared.Relator.{Relator}
+use Rattle.vc_syntax_tree.specs.Trees.{Term, Number, Text, Operand, Negated, Combined, Applied, SumOfParts}
+use Rattle.vc_syntax_tree.specs.Trees.{CountOfParts, Relation, Compared, Within, Condition, Or, And, Not, Related}
+use Rattle.vc_syntax_tree.specs.Trees.{Specified, PartOf}
 use Rattle.vc_types.specs.Settings.{is_line, is_multiple}
 use Rattle.vc_types.specs.declared.place.At.{At}
 use Rattle.vc_types.specs.declared.place.Place.{Place}

@@ -7,7 +7,7 @@ use Rattle.vc_model_parts.specs.declared.parts.BillItem.{BillItem}
 use Rattle.vc_model_parts.specs.declared.parts.NamedDependency.{NamedDependency}
 use Rattle.vc_model_parts.specs.declared.parts.Object.{Object}
 use Rattle.vc_model_drafts.specs.Seen.{SeenDependency, SeenItem, SeenObject, seen_dependency, seen_item, seen_object}
-use Rattle.vc_syntax_terms.specs.Trees.{Dependency, dependency_of}
+use Rattle.vc_syntax_tree.specs.Trees.{Dependency, dependency_of}
 use Rattle.vc_types.specs.Settings.{is_multiple}
 use Rattle.vc_plan.specs.declared.plans.Slot.{Slot}
 use Rattle.vc_compile_plan.specs.Layouts.{tree_of}
@@ -150,7 +150,8 @@ module _ (t : Twins) where
   pub tree_same : (d : ℕ) → tree_of t.one d ≡ tree_of (other t) d
   tree_same d =
       got seen_dependency (option_map (λ named. dependency_of named.tree))
-      (option_map (λ named. dependency_of named.tree)) seen_tree tree_seen tree_seen (t.one).dependencies t.dependencies t.same_dependencies
+      (option_map (λ named. dependency_of named.tree)) seen_tree tree_seen tree_seen
+      (t.one).dependencies t.dependencies t.same_dependencies
       d
 
   named_texts_same : named_texts t.one ≡ named_texts (other t)

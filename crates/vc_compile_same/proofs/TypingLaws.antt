@@ -4,16 +4,16 @@ use Rattle.std.specs.Prelude.{is_none, is_some}
 use Rattle.std.specs.List.{filter, list_any}
 use Rattle.vc_model_parts.specs.declared.parts.Table.{Table}
 use Rattle.vc_model_parts.specs.declared.parts.TableColumn.{TableColumn}
-use Rattle.vc_syntax_terms.specs.declared.tree.Alias.{Alias}
-use Rattle.vc_syntax_terms.specs.declared.tree.NameLeaf.{NameLeaf}
-use Rattle.vc_syntax_terms.specs.declared.tree.Object.{Object}
-use Rattle.vc_syntax_terms.specs.declared.tree.Operand.{Operand as Name}
-use Rattle.vc_syntax_terms.specs.declared.tree.Operand.TheVariants.{Owned}
-use Rattle.vc_syntax_terms.specs.declared.tree.Owner.TheVariants.{Itself}
-use Rattle.vc_syntax_terms.specs.Trees.{Term, Number, Text, Operand, Negated, Combined, Applied, SumOfParts}
-use Rattle.vc_syntax_terms.specs.Trees.{CountOfParts, Relation, Compared, Within, Binding, TableCall, Action, Assign}
-use Rattle.vc_syntax_terms.specs.Trees.{SetDefault, DelDefault, Calls}
-use Rattle.vc_syntax_terms.specs.Trees.{Dependency, Precondition, Selection, Procedure, Constrains, Counts}
+use Rattle.vc_syntax_tree.specs.declared.Alias.{Alias}
+use Rattle.vc_syntax_tree.specs.declared.NameLeaf.{NameLeaf}
+use Rattle.vc_syntax_tree.specs.declared.Object.{Object}
+use Rattle.vc_syntax_tree.specs.declared.Operand.{Operand as Name}
+use Rattle.vc_syntax_tree.specs.declared.Operand.TheVariants.{Owned}
+use Rattle.vc_syntax_tree.specs.declared.Owner.TheVariants.{Itself}
+use Rattle.vc_syntax_tree.specs.Trees.{Term, Number, Text, Operand, Negated, Combined, Applied, SumOfParts}
+use Rattle.vc_syntax_tree.specs.Trees.{CountOfParts, Relation, Compared, Within, Binding, TableCall, Action, Assign}
+use Rattle.vc_syntax_tree.specs.Trees.{SetDefault, DelDefault, Calls}
+use Rattle.vc_syntax_tree.specs.Trees.{Dependency, Precondition, Selection, Procedure, Constrains, Counts}
 use Rattle.vc_types.specs.Faults.{all_kinds, fault_of, first_of, stands}
 use Rattle.vc_types.specs.Looking.{column_in, member_of, table_named}
 use Rattle.vc_types.specs.Meanings.{Variable, known}

@@ -6,10 +6,10 @@ use Rattle.std.specs.List.{filter, list_all, list_any}
 use Rattle.vc_model_parts.specs.declared.parts.Model.{Model}
 use Rattle.vc_model_parts.specs.declared.parts.Object.{Object as Configurable}
 use Rattle.vc_model_drafts.specs.Seen.{SeenObject, seen_dependency, seen_item, seen_object, seen_operation}
-use Rattle.vc_syntax_terms.specs.declared.tree.Object.{Object}
-use Rattle.vc_syntax_terms.specs.declared.tree.ObjectKind.{ObjectKind}
-use Rattle.vc_syntax_terms.specs.declared.tree.ObjectKind.TheVariants as objects
-use Rattle.vc_syntax_terms.specs.Trees.{Condition, Or, And, Not, Related, Specified, PartOf, Constraint, Dependency}
+use Rattle.vc_syntax_tree.specs.declared.Object.{Object}
+use Rattle.vc_syntax_tree.specs.declared.ObjectKind.{ObjectKind}
+use Rattle.vc_syntax_tree.specs.declared.ObjectKind.TheVariants as objects
+use Rattle.vc_syntax_tree.specs.Trees.{Condition, Or, And, Not, Related, Specified, PartOf, Constraint, Dependency}
 use Rattle.vc_types.specs.Looking.{class_named}
 use Rattle.vc_types.specs.Occurrences.{if_there}
 use Rattle.vc_types.specs.PlaceFaults.{joined_parts}

@@ -4,7 +4,7 @@ use Rattle.vc_model_parts.specs.declared.parts.Model.{Model}
 use Rattle.vc_model_parts.specs.declared.parts.NamedDependency.{NamedDependency}
 use Rattle.vc_model_parts.specs.declared.parts.Object.{Object}
 use Rattle.vc_model_drafts.specs.Seen.{seen_dependency, seen_object}
-use Rattle.vc_syntax_terms.specs.declared.tree.Object as syntax
+use Rattle.vc_syntax_tree.specs.declared.Object as syntax
 use Rattle.vc_types.specs.Meanings.{Variable}
 use Rattle.vc_types.specs.Settings.{Setting}
 use Rattle.vc_types.specs.declared.place.Place.{Place}

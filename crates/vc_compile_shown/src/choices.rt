@@ -4,12 +4,14 @@ ghost use Rattle.std.specs.Prelude.{◌≡◌, ◌∷◌, [], length, map, IfOk,
 ghost use Rattle.vc_compile_plan.specs.Conditions.{condition_at};
 ghost use Rattle.vc_compile_plan.specs.Shown.{choice_at};
 ghost use Rattle.vc_compile_numbering.specs.Growing.{kept, with_conditions};
-ghost use Rattle.vc_compile_sites.specs.Standing.{asked_seen, layout_seen, site_seen};
+ghost use Rattle.vc_compile_layout.specs.Standing.{layout_seen};
+ghost use Rattle.vc_compile_sites.specs.Standing.{asked_seen, site_seen};
 ghost use Rattle.vc_compile_shown.specs.Choosing.{AreChosen};
 
 use std::alloc::{AllocError, Global};
+use vc_compile_layout::Layout;
 use vc_compile_numbering::Trees;
-use vc_compile_sites::{Asked, Layout, Site, condition_at};
+use vc_compile_sites::{Asked, Site, condition_at};
 use vc_plan::Selection;
 use vc_value::Listed;
 

@@ -6,12 +6,14 @@ ghost use Rattle.vc_compile_plan.specs.Shown as shown;
 ghost use Rattle.vc_compile_plan.specs.Sites.{named_at};
 ghost use Rattle.vc_compile_plan.specs.Variables.{by_slot};
 ghost use Rattle.vc_compile_numbering.specs.Growing.{seen, with_draft, with_drafts};
-ghost use Rattle.vc_compile_sites.specs.Standing.{asked_seen, entry_seen, layout_seen, site_seen};
+ghost use Rattle.vc_compile_layout.specs.Standing.{layout_seen};
+ghost use Rattle.vc_compile_sites.specs.Standing.{asked_seen, entry_seen, site_seen};
 
 use std::alloc::{AllocError, Global};
+use vc_compile_layout::Layout;
 use vc_compile_numbering::Numbering;
 use vc_compile_sites::{
-    Asked, Entry, Layout, Site, condition_at, entries_of, preconditions_among, setting_at, site_of,
+    Asked, Entry, Site, condition_at, entries_of, preconditions_among, setting_at, site_of,
 };
 use vc_model_parts::Characteristic;
 use vc_plan::{Guard, Named, Piece, Slot};

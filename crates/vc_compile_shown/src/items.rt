@@ -1,7 +1,7 @@
 //! The lines of bills and the operations of routings, at each slot.
 
 ghost use Rattle.std.specs.Prelude.{◌≡◌, ◌<◌, ◌^◌, length, map, slice_get, IfOk, OnOk};
-ghost use Rattle.vc_syntax_terms.specs.Trees.{term_of};
+ghost use Rattle.vc_syntax_tree.specs.Trees.{term_of};
 ghost use Rattle.vc_compile_plan.specs.Numbering.{item_brings, line_from, operation_from};
 ghost use Rattle.vc_compile_plan.specs.Places.{selections_among};
 ghost use Rattle.vc_compile_plan.specs.Shown as shown;
@@ -10,12 +10,14 @@ ghost use Rattle.vc_compile_plan.specs.Slots.{bill_of};
 ghost use Rattle.vc_compile_plan.specs.Terms as compiled;
 ghost use Rattle.vc_compile_plan.specs.Variables.{by_slot};
 ghost use Rattle.vc_compile_numbering.specs.Growing.{seen, with_draft, with_drafts};
-ghost use Rattle.vc_compile_sites.specs.Standing.{asked_seen, layout_seen, site_seen};
+ghost use Rattle.vc_compile_layout.specs.Standing.{layout_seen};
+ghost use Rattle.vc_compile_sites.specs.Standing.{asked_seen, site_seen};
 
 use crate::choices::selections_at;
 use std::alloc::{AllocError, Global};
+use vc_compile_layout::Layout;
 use vc_compile_numbering::Numbering;
-use vc_compile_sites::{Asked, Layout, Site, selections_among, setting_at, site_of, term_at};
+use vc_compile_sites::{Asked, Site, selections_among, setting_at, site_of, term_at};
 use vc_model_parts::{BillItem, Component, Operation as ListedOperation};
 use vc_plan::{Line, Operation, Slot};
 use vc_types::At;

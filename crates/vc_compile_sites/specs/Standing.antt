@@ -1,24 +1,12 @@
--- What a layout and a site of the program are, without the indexes that they keep.
+-- What a site of the program is, without the indexes that it keeps.
 use Rattle.vc_types_meanings.specs.Seen.{seen}
-use Rattle.vc_compile_plan.specs.Layouts as plan
-use Rattle.vc_syntax_terms.specs.Trees.{condition_of}
+use Rattle.vc_syntax_tree.specs.Trees.{condition_of}
 use Rattle.vc_compile_plan.specs.Places as places
 use Rattle.vc_compile_plan.specs.Shown as shown
 use Rattle.vc_compile_plan.specs.Sites as plan_sites
 use Rattle.vc_compile_sites.specs.declared.entries.Entry.{Entry}
-use Rattle.vc_compile_sites.specs.declared.layout.Layout.{Layout}
 use Rattle.vc_compile_sites.specs.declared.places.Asked.{Asked}
 use Rattle.vc_compile_sites.specs.declared.site.Site.{Site}
-
-abbrev pub layout_seen : Layout → plan.Layout
-layout_seen layout = record {
-  model = layout.names.now.model.now;
-  standings = layout.standings;
-  slots = layout.slots;
-  vars = layout.vars;
-  sets = layout.sets;
-  texts = layout.texts.all;
-}
 
 abbrev pub site_seen : Site → plan_sites.Site
 site_seen site = record {

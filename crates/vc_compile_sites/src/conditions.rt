@@ -1,20 +1,21 @@
 //! Conditions as the plan has them where they stand.
 
 ghost use Rattle.std.specs.Prelude.{◌≡◌, ◌∷◌, ◌++◌, map, IfOk, OnOk, Some};
-ghost use Rattle.vc_syntax_terms.specs.Trees.{term_of};
-ghost use Rattle.vc_syntax_terms.specs.Trees as trees;
+ghost use Rattle.vc_syntax_tree.specs.Trees.{term_of};
+ghost use Rattle.vc_syntax_tree.specs.Trees as trees;
 ghost use Rattle.vc_plan.specs.declared.conditions.Piece.TheVariants.{Stretch};
 ghost use Rattle.vc_compile_plan.specs.Conditions as conditions;
 ghost use Rattle.vc_compile_plan.specs.Terms as terms;
 ghost use Rattle.vc_compile_plan.specs.Trees as plan;
-ghost use Rattle.vc_compile_sites.specs.Standing.{layout_seen, site_seen};
+ghost use Rattle.vc_compile_layout.specs.Standing.{layout_seen};
+ghost use Rattle.vc_compile_sites.specs.Standing.{site_seen};
 
-use crate::layout::Layout;
 use crate::site::Site;
 use crate::terms::{literal_of, lone_of, opposite, term_at};
 use std::alloc::{AllocError, Global};
+use vc_compile_layout::Layout;
 use vc_plan::{Condition as PlanCondition, Piece, Relation as PlanRelation};
-use vc_syntax_terms::tree::{Condition, Item, Operand, Relation, Relator, SignedNumber, Term};
+use vc_syntax_tree::{Condition, Item, Operand, Relation, Relator, SignedNumber, Term};
 use vc_value::{Dec, Grain, Listed, Value};
 
 /// The relation of a relator.

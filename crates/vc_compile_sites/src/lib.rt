@@ -3,16 +3,12 @@
 
 pub mod conditions;
 pub mod entries;
-pub mod layout;
-pub mod numbers;
 pub mod places;
 pub mod site;
 pub mod terms;
 
 pub use conditions::{condition_at, pieces_of};
 pub use entries::{Entry, entries_of};
-pub use layout::{Layout, Lists};
-pub use numbers::Numbers;
 pub use places::{
     Asked, dependency, place_at, preconditions_among, selections_among, setting_at, site_of,
     statements_in,

@@ -2,19 +2,20 @@
 
 ghost use Rattle.std.specs.Prelude.{◌≡◌, [], ◌++◌, map, option_map, option_to_list, IfOk, OnOk, if◌then◌else◌};
 ghost use Rattle.std.specs.Option.{option_copied};
-ghost use Rattle.vc_syntax_terms.specs.Trees.{condition_of, dependency_of, statement_of};
+ghost use Rattle.vc_syntax_tree.specs.Trees.{condition_of, dependency_of, statement_of};
 ghost use Rattle.vc_types.specs.Settings.{is_line};
 ghost use Rattle.vc_types_meanings.specs.Seen.{seen};
 ghost use Rattle.vc_compile_plan.specs.Layouts.{tree_of, object_at, object_if};
 ghost use Rattle.vc_compile_plan.specs.Places as places;
 ghost use Rattle.vc_compile_plan.specs.Sites.{number_or_zero};
-ghost use Rattle.vc_compile_sites.specs.Standing.{asked_seen, layout_seen, site_seen};
+ghost use Rattle.vc_compile_layout.specs.Standing.{layout_seen};
+ghost use Rattle.vc_compile_sites.specs.Standing.{asked_seen, site_seen};
 
-use crate::layout::Layout;
 use crate::site::Site;
 use std::alloc::{AllocError, Global};
+use vc_compile_layout::Layout;
 use vc_plan::Slot;
-use vc_syntax_terms::tree::{Condition, Dependency, Statement};
+use vc_syntax_tree::{Condition, Dependency, Statement};
 use vc_types::{At, Place};
 use vc_types_meanings::{Setting, Tree};
 use vc_value::Listed;

@@ -4,10 +4,11 @@ ghost use Rattle.std.specs.Prelude.{◌≡◌, slice_get};
 ghost use Rattle.std.specs.List.{position_or_len};
 ghost use Rattle.std.specs.Option.{option_copied};
 ghost use Rattle.vc_compile_plan.specs.Sites as sites;
-ghost use Rattle.vc_compile_sites.specs.Standing.{layout_seen, site_seen};
+ghost use Rattle.vc_compile_layout.specs.Standing.{layout_seen};
+ghost use Rattle.vc_compile_sites.specs.Standing.{site_seen};
 
-use crate::layout::Layout;
-use vc_syntax_terms::tree::{Object, Operand, Owner};
+use vc_compile_layout::Layout;
+use vc_syntax_tree::{Object, Operand, Owner};
 use vc_types::Meaning;
 use vc_types_meanings::Setting;
 

@@ -2,17 +2,18 @@
 
 ghost use Rattle.std.specs.Prelude.{◌≡◌, neg_ℤ, IfOk};
 ghost use Rattle.std.specs.Option.{option_copied};
-ghost use Rattle.vc_syntax_terms.specs.Trees.{term_of};
+ghost use Rattle.vc_syntax_tree.specs.Trees.{term_of};
 ghost use Rattle.vc_compile_plan.specs.Terms as terms;
 ghost use Rattle.vc_compile_plan.specs.Sites as sites;
 ghost use Rattle.vc_compile_plan.specs.Trees as plan;
-ghost use Rattle.vc_compile_sites.specs.Standing.{layout_seen, site_seen};
+ghost use Rattle.vc_compile_layout.specs.Standing.{layout_seen};
+ghost use Rattle.vc_compile_sites.specs.Standing.{site_seen};
 
-use crate::layout::Layout;
 use crate::site::Site;
 use std::alloc::{AllocError, Global};
+use vc_compile_layout::Layout;
 use vc_plan::{Function, Operator, Term as PlanTerm};
-use vc_syntax_terms::tree::{Function as NamedFunction, Operand, Operator as NamedOperator, Term};
+use vc_syntax_tree::{Function as NamedFunction, Operand, Operator as NamedOperator, Term};
 use vc_value::{Dec, Value};
 
 fn function_of(function: NamedFunction) -> Function

@@ -24,7 +24,7 @@ use Rattle.vc_plan.specs.declared.plans.Plan.{Plan}
 use Rattle.vc_plan.specs.declared.plans.Table.{Table}
 use Rattle.vc_plan.specs.declared.procedures.FilledColumn.{FilledColumn}
 use Rattle.vc_plan.specs.declared.procedures.KeyTerm.{KeyTerm}
-use Rattle.vc_syntax_terms.specs.Trees.{Binding, TableCall}
+use Rattle.vc_syntax_tree.specs.Trees.{Binding, TableCall}
 use Rattle.vc_table.specs.declared.table.VariantTable.{VariantTable}
 use Rattle.vc_types.specs.Looking.{characteristic_named, column_if, column_in, table_named}
 use Rattle.vc_types.specs.NameFaults.{is_unknown_call, is_unknown_column, names_column_twice}

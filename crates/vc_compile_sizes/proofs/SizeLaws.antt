@@ -16,7 +16,7 @@ use Rattle.vc_plan.specs.declared.conditions.Condition.{Condition as StoredCondi
 use Rattle.vc_plan.specs.declared.conditions.Condition.TheVariants as conditions
 use Rattle.vc_plan.specs.declared.plans.Plan.{Plan}
 use Rattle.vc_plan.specs.declared.plans.Var.{Var}
-use Rattle.vc_syntax_terms.specs.Trees as syntax
+use Rattle.vc_syntax_tree.specs.Trees as syntax
 use Rattle.vc_table.specs.declared.table.VariantTable.{VariantTable}
 use Rattle.vc_types.specs.Faults.{fault_of}
 use Rattle.vc_types.specs.Occurrences.{as_value, calls_in, conditions_in, demanded_relations, is_equality, is_literal}

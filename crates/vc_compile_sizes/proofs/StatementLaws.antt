@@ -5,7 +5,7 @@ use Rattle.std.proofs.lemmas.Bool.{or_parts}
 use Rattle.vc_model_parts.specs.declared.parts.Model.{Model}
 use Rattle.vc_plan.specs.LookUps.{action_proper}
 use Rattle.vc_plan.specs.declared.plans.Plan.{Plan}
-use Rattle.vc_syntax_terms.specs.Trees as syntax
+use Rattle.vc_syntax_tree.specs.Trees as syntax
 use Rattle.vc_table.specs.declared.table.VariantTable.{VariantTable}
 use Rattle.vc_types.specs.Looking.{table_named}
 use Rattle.vc_types.specs.NameFaults.{is_unknown_call, names_column_twice, some_twice}

@@ -20,12 +20,12 @@ use Rattle.vc_plan.specs.declared.terms.Function.TheVariants as functions
 use Rattle.vc_plan.specs.declared.terms.Operator.{Operator}
 use Rattle.vc_plan.specs.declared.terms.Term.{Term as StoredTerm}
 use Rattle.vc_plan.specs.declared.terms.Term.TheVariants as terms
-use Rattle.vc_syntax_terms.specs.declared.tree.Function.{Function as NamedFunction}
-use Rattle.vc_syntax_terms.specs.declared.tree.Function.TheVariants as named_functions
-use Rattle.vc_syntax_terms.specs.declared.tree.Operand.{Operand as Name}
-use Rattle.vc_syntax_terms.specs.declared.tree.Operator.{Operator as NamedOperator}
-use Rattle.vc_syntax_terms.specs.declared.tree.Operator.TheVariants as named_operators
-use Rattle.vc_syntax_terms.specs.Trees as syntax
+use Rattle.vc_syntax_tree.specs.declared.Function.{Function as NamedFunction}
+use Rattle.vc_syntax_tree.specs.declared.Function.TheVariants as named_functions
+use Rattle.vc_syntax_tree.specs.declared.Operand.{Operand as Name}
+use Rattle.vc_syntax_tree.specs.declared.Operator.{Operator as NamedOperator}
+use Rattle.vc_syntax_tree.specs.declared.Operator.TheVariants as named_operators
+use Rattle.vc_syntax_tree.specs.Trees as syntax
 use Rattle.vc_table.specs.declared.table.VariantTable.{VariantTable}
 use Rattle.vc_types.specs.Occurrences.{operands_of}
 use Rattle.vc_types.specs.RangeFaults as ranges

@@ -15,7 +15,7 @@ use Rattle.vc_plan.specs.Typing.{characteristic_of_column, column_in, column_lis
 use Rattle.vc_plan.specs.Typing.{meets_list}
 use Rattle.vc_plan.specs.declared.plans.Plan.{Plan}
 use Rattle.vc_plan.specs.declared.terms.Term.{Term as StoredTerm}
-use Rattle.vc_syntax_terms.specs.Trees.{Binding, TableCall}
+use Rattle.vc_syntax_tree.specs.Trees.{Binding, TableCall}
 use Rattle.vc_table.specs.declared.table.VariantTable.{VariantTable}
 use Rattle.vc_types.specs.Looking as looking
 use Rattle.vc_types.specs.Looking.{characteristic_named, column_if, table_named}

@@ -8,13 +8,13 @@ use Rattle.vc_plan.specs.Typing.{condition_typed, is_number_var, is_piece_of, is
 use Rattle.vc_plan.specs.declared.conditions.Condition.{Condition as StoredCondition}
 use Rattle.vc_plan.specs.declared.conditions.Condition.TheVariants as conditions
 use Rattle.vc_plan.specs.declared.plans.Plan.{Plan}
-use Rattle.vc_syntax_terms.specs.declared.tree.Item.{Item}
-use Rattle.vc_syntax_terms.specs.declared.tree.Item.TheVariants as items
-use Rattle.vc_syntax_terms.specs.declared.tree.Operand.{Operand as Name}
-use Rattle.vc_syntax_terms.specs.declared.tree.Relator.{Relator}
-use Rattle.vc_syntax_terms.specs.Trees.{Term, Number, Text, Operand, Negated, Combined, Applied, SumOfParts}
-use Rattle.vc_syntax_terms.specs.Trees.{CountOfParts}
-use Rattle.vc_syntax_terms.specs.Trees.{Relation, Compared, Dependency}
+use Rattle.vc_syntax_tree.specs.declared.Item.{Item}
+use Rattle.vc_syntax_tree.specs.declared.Item.TheVariants as items
+use Rattle.vc_syntax_tree.specs.declared.Operand.{Operand as Name}
+use Rattle.vc_syntax_tree.specs.declared.Relator.{Relator}
+use Rattle.vc_syntax_tree.specs.Trees.{Term, Number, Text, Operand, Negated, Combined, Applied, SumOfParts}
+use Rattle.vc_syntax_tree.specs.Trees.{CountOfParts}
+use Rattle.vc_syntax_tree.specs.Trees.{Relation, Compared, Dependency}
 use Rattle.vc_table.specs.declared.table.VariantTable.{VariantTable}
 use Rattle.vc_types.specs.Occurrences.{Use, as_set, as_value, calls_in, conditions_in, demanded_relations, is_equality}
 use Rattle.vc_types.specs.Occurrences.{is_literal, operands_of, own_terms, relations_in, relations_of, sides_of}

@@ -10,12 +10,12 @@ use Rattle.vc_plan.specs.Typing as typing
 use Rattle.vc_plan.specs.Typing.{binding_typed, column_list, operand_term, restriction_typed}
 use Rattle.vc_plan.specs.declared.conditions.Relation.TheVariants as relations
 use Rattle.vc_plan.specs.declared.plans.Plan.{Plan}
-use Rattle.vc_syntax_terms.specs.declared.tree.Operand.{Operand as Name}
-use Rattle.vc_syntax_terms.specs.declared.tree.Relator.{Relator}
-use Rattle.vc_syntax_terms.specs.declared.tree.Relator.TheVariants as relators
-use Rattle.vc_syntax_terms.specs.Trees as syntax
-use Rattle.vc_syntax_terms.specs.Trees.{Term, Number, Text, Operand, Negated, Combined, Applied, SumOfParts}
-use Rattle.vc_syntax_terms.specs.Trees.{CountOfParts}
+use Rattle.vc_syntax_tree.specs.declared.Operand.{Operand as Name}
+use Rattle.vc_syntax_tree.specs.declared.Relator.{Relator}
+use Rattle.vc_syntax_tree.specs.declared.Relator.TheVariants as relators
+use Rattle.vc_syntax_tree.specs.Trees as syntax
+use Rattle.vc_syntax_tree.specs.Trees.{Term, Number, Text, Operand, Negated, Combined, Applied, SumOfParts}
+use Rattle.vc_syntax_tree.specs.Trees.{CountOfParts}
 use Rattle.vc_table.specs.declared.table.VariantTable.{VariantTable}
 use Rattle.vc_types.specs.NameFaults.{is_unknown_column}
 use Rattle.vc_types.specs.Occurrences.{call_of_demand, is_equality, is_literal, operands_of, relation_of_demand}

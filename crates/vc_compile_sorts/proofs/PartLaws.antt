@@ -20,8 +20,8 @@ use Rattle.vc_plan.specs.Seen.{parent_in}
 use Rattle.vc_plan.specs.Typing.{has_numbers}
 use Rattle.vc_plan.specs.declared.plans.Plan.{Plan}
 use Rattle.vc_plan.specs.declared.plans.Slot.{Slot}
-use Rattle.vc_syntax_terms.specs.declared.tree.NameLeaf.{NameLeaf}
-use Rattle.vc_syntax_terms.specs.Trees.{Dependency}
+use Rattle.vc_syntax_tree.specs.declared.NameLeaf.{NameLeaf}
+use Rattle.vc_syntax_tree.specs.Trees.{Dependency}
 use Rattle.vc_table.specs.declared.table.VariantTable.{VariantTable}
 use Rattle.vc_types.specs.Looking.{characteristic_named, class_of, member_in, member_of}
 use Rattle.vc_types.specs.Meanings.{known}

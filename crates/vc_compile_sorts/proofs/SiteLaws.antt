@@ -3,7 +3,7 @@ use Rattle.std.proofs.Common.{ℕ, ◌&&◌, List, refl}
 use Rattle.std.proofs.lemmas.Bool.{and_parts}
 use Rattle.vc_model_parts.specs.declared.parts.Model.{Model}
 use Rattle.vc_plan.specs.declared.plans.Slot.{Slot}
-use Rattle.vc_syntax_terms.specs.Trees as syntax
+use Rattle.vc_syntax_tree.specs.Trees as syntax
 use Rattle.vc_types.specs.declared.place.At.{At}
 use Rattle.vc_compile_plan.specs.Layouts.{layout_of}
 use Rattle.vc_compile_plan.specs.Places.{site_at}

@@ -9,10 +9,10 @@ use Rattle.vc_plan.specs.declared.conditions.Condition.TheVariants as conditions
 use Rattle.vc_plan.specs.declared.plans.Plan.{Plan}
 use Rattle.vc_plan.specs.declared.terms.Term.{Term as StoredTerm}
 use Rattle.vc_plan.specs.declared.terms.Term.TheVariants as terms
-use Rattle.vc_syntax_terms.specs.declared.tree.NameLeaf.{NameLeaf}
-use Rattle.vc_syntax_terms.specs.Trees.{Term, Number, Text, Operand, Negated, Combined, Applied, SumOfParts}
-use Rattle.vc_syntax_terms.specs.Trees.{CountOfParts}
-use Rattle.vc_syntax_terms.specs.Trees.{Relation, Dependency}
+use Rattle.vc_syntax_tree.specs.declared.NameLeaf.{NameLeaf}
+use Rattle.vc_syntax_tree.specs.Trees.{Term, Number, Text, Operand, Negated, Combined, Applied, SumOfParts}
+use Rattle.vc_syntax_tree.specs.Trees.{CountOfParts}
+use Rattle.vc_syntax_tree.specs.Trees.{Relation, Dependency}
 use Rattle.vc_types.specs.Looking.{characteristic_named}
 use Rattle.vc_types.specs.Occurrences.{calls_in, conditions_in, demanded_relations, own_terms, relations_of, sides_of}
 use Rattle.vc_types.specs.Occurrences.{summed_in, summed_names, terms_in, values_in}

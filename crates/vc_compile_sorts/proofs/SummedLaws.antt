@@ -5,7 +5,7 @@ use Rattle.vc_model_parts.specs.declared.parts.Model.{Model}
 use Rattle.vc_plan.specs.PartSums.{condition_sums_numbers, sums_numbers}
 use Rattle.vc_plan.specs.declared.plans.Plan.{Plan}
 use Rattle.vc_plan.specs.declared.plans.Slot.{Slot}
-use Rattle.vc_syntax_terms.specs.Trees as syntax
+use Rattle.vc_syntax_tree.specs.Trees as syntax
 use Rattle.vc_table.specs.declared.table.VariantTable.{VariantTable}
 use Rattle.vc_types.specs.declared.place.At.{At}
 use Rattle.vc_compile_plan.specs.Layouts.{layout_of}

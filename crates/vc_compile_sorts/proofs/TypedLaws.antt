@@ -14,7 +14,7 @@ use Rattle.vc_plan.specs.declared.conditions.Relation.TheVariants as relations
 use Rattle.vc_plan.specs.declared.plans.Plan.{Plan}
 use Rattle.vc_plan.specs.declared.plans.Slot.{Slot}
 use Rattle.vc_plan.specs.declared.terms.Term.TheVariants as terms
-use Rattle.vc_syntax_terms.specs.Trees as syntax
+use Rattle.vc_syntax_tree.specs.Trees as syntax
 use Rattle.vc_table.specs.declared.table.VariantTable.{VariantTable}
 use Rattle.vc_types.specs.Looking.{table_named}
 use Rattle.vc_types.specs.NameFaults.{is_unknown_call, is_unknown_column}

@@ -9,7 +9,7 @@ use vc_model_parts::parts::{
     Table, TableColumn, Values,
 };
 use vc_plan::Slot;
-use vc_syntax_terms::tree::{
+use vc_syntax_tree::{
     Alias, Binding, Condition, Constraint, Demand, Dependency, NameLeaf, NumberLeaf,
     Object as Declared, ObjectKind, Operand, Relation, Relator, Restriction, TableCall, Term,
 };

@@ -9,7 +9,7 @@ use vc_model_parts::parts::{
     Table, TextValue, Values,
 };
 use vc_plan::{Slot, TextSet, Var};
-use vc_syntax_terms::tree::Term;
+use vc_syntax_tree::Term;
 use vc_value::{Listed, Word};
 
 fn characteristic<R: Abort>(rt: &R, alloc: Global, name: &str, multiple: bool) -> Characteristic {

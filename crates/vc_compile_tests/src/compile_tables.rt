@@ -7,7 +7,7 @@ use vc_model_parts::parts::{
     BillItem, Characteristic, Class, Model, NamedDependency, Net, NumberValue, Object, Operation,
     Table, TableColumn, Values,
 };
-use vc_syntax_terms::tree::{Dependency, Statement};
+use vc_syntax_tree::{Dependency, Statement};
 use vc_table::{Row, VariantTable};
 use vc_value::{Listed, Value, Word};
 

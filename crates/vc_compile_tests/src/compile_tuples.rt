@@ -8,7 +8,7 @@ use vc_model_parts::parts::{
     BillItem, Characteristic, Class, Model, NamedDependency, Net, Object, Operation, Table,
 };
 use vc_plan::Slot;
-use vc_syntax_terms::tree::{
+use vc_syntax_tree::{
     Alias, Condition, Constraint, NameLeaf, Object as Declared, ObjectKind, Operand, Restriction,
 };
 use vc_types_names::Names;

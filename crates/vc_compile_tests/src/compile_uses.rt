@@ -9,7 +9,7 @@ use vc_model_parts::parts::{
     TextValue, Values,
 };
 use vc_plan::Slot;
-use vc_syntax_terms::tree::{
+use vc_syntax_tree::{
     Condition, Constraint, Dependency, Item, NameLeaf, Object as Declared, Operand, Relation,
     Restriction, TextLeaf,
 };

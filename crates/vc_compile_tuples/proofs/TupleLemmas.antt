@@ -9,10 +9,10 @@ use Rattle.std.proofs.lemmas.Bool.Decides.{nat_tests}
 use Rattle.std.proofs.lemmas.List.{map-append, append-nil}
 use Rattle.std.proofs.lemmas.List.Elements.{filter-append}
 use Rattle.std.proofs.lemmas.List.Folds.{list_all-append, list_any-append}
-use Rattle.vc_syntax_terms.specs.declared.tree.Object.{Object}
-use Rattle.vc_syntax_terms.specs.declared.tree.ObjectKind.{ObjectKind}
-use Rattle.vc_syntax_terms.specs.declared.tree.ObjectKind.TheVariants as objects
-use Rattle.vc_syntax_terms.specs.Trees.{Condition, Or, And, Not, Related, Specified, PartOf, Constraint}
+use Rattle.vc_syntax_tree.specs.declared.Object.{Object}
+use Rattle.vc_syntax_tree.specs.declared.ObjectKind.{ObjectKind}
+use Rattle.vc_syntax_tree.specs.declared.ObjectKind.TheVariants as objects
+use Rattle.vc_syntax_tree.specs.Trees.{Condition, Or, And, Not, Related, Specified, PartOf, Constraint}
 use Rattle.vc_types.specs.Occurrences.{if_there}
 use Rattle.vc_types.specs.PlaceFaults.{joined_parts}
 use Rattle.vc_plan.specs.Domains.{numbers_below}

@@ -1,5 +1,5 @@
 -- A condition whose parts are borrowed, as the tree that it is.
-use Rattle.vc_syntax_terms.specs.Trees.{Condition, And, condition_of}
+use Rattle.vc_syntax_tree.specs.Trees.{Condition, And, condition_of}
 use Rattle.vc_compile_tuples.specs.declared.asked.Asked.{Asked, Whole, Both'}
 
 abbrev pub asked_tree : Asked → Condition

@@ -2,10 +2,10 @@
 use Rattle.std.specs.Prelude.{◌≡◌, ◌≤◌, ◌<◌, ℕ, suc, Bool, true, false, not, ◌&&◌, ◌==◌, List, [], ◌∷◌, ◌++◌, length}
 use Rattle.std.specs.Prelude.{map, flat_map, if◌then◌else◌, Option, Some}
 use Rattle.std.specs.List.{filter, list_any}
-use Rattle.vc_syntax_terms.specs.declared.tree.Object.{Object}
-use Rattle.vc_syntax_terms.specs.declared.tree.ObjectKind.{ObjectKind}
+use Rattle.vc_syntax_tree.specs.declared.Object.{Object}
+use Rattle.vc_syntax_tree.specs.declared.ObjectKind.{ObjectKind}
 use Rattle.vc_plan.specs.declared.plans.Slot.{Slot}
-use Rattle.vc_syntax_terms.specs.declared.tree.ObjectKind.TheVariants as objects
+use Rattle.vc_syntax_tree.specs.declared.ObjectKind.TheVariants as objects
 use Rattle.vc_model_parts.specs.declared.parts.Model.{Model}
 use Rattle.vc_types.specs.Looking.{class_of, class_named, object_named}
 use Rattle.vc_compile_plan.specs.Tuples.{are_same}

@@ -2,8 +2,8 @@
 use Rattle.std.specs.Prelude.{ℕ, Bool, true, ◌&&◌, List, [], ◌∷◌, ◌++◌, length, nat_lt, slice_get, if◌then◌else◌}
 use Rattle.std.specs.Prelude.{Option, None, Some}
 use Rattle.std.specs.List.{list_all, position_or_len}
-use Rattle.vc_syntax_terms.specs.declared.tree.Object.{Object}
-use Rattle.vc_syntax_terms.specs.Trees.{Condition, Or, And, Not, Related, Specified, PartOf}
+use Rattle.vc_syntax_tree.specs.declared.Object.{Object}
+use Rattle.vc_syntax_tree.specs.Trees.{Condition, Or, And, Not, Related, Specified, PartOf}
 use Rattle.vc_plan.specs.Seen.{parent_in}
 use Rattle.vc_plan.specs.declared.plans.Slot.{Slot}
 use Rattle.vc_compile_plan.specs.Sites.{is_called}

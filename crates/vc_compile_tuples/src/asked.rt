@@ -1,12 +1,12 @@
 //! What a constraint's CONDITION asks of values: all but its PART_OFs.
 
 ghost use Rattle.std.specs.Prelude.{◌≡◌, option_map, IfOk};
-ghost use Rattle.vc_syntax_terms.specs.Trees.{condition_of};
+ghost use Rattle.vc_syntax_tree.specs.Trees.{condition_of};
 ghost use Rattle.vc_compile_plan.specs.Tuples as tuples;
 ghost use Rattle.vc_compile_tuples.specs.Asking.{asked_tree};
 
 use std::alloc::{AllocError, Global};
-use vc_syntax_terms::tree::Condition;
+use vc_syntax_tree::Condition;
 
 /// A condition whose parts are borrowed from another.
 #[derive(Drop)]

@@ -6,7 +6,7 @@ ghost use Rattle.vc_compile_tuples.specs.Growing.{choice_from, choices_of, is_ki
 
 use std::alloc::{AllocError, Global};
 use vc_plan::Slot;
-use vc_syntax_terms::tree::{Object, ObjectKind};
+use vc_syntax_tree::{Object, ObjectKind};
 use vc_types_names::Names;
 use vc_value::Listed;
 

@@ -2,14 +2,14 @@
 
 ghost use Rattle.std.specs.Prelude.{◌≡◌, ◌++◌, option_map, slice_get, OnOk};
 ghost use Rattle.std.specs.List.{position_or_len};
-ghost use Rattle.vc_syntax_terms.specs.Trees.{condition_of};
+ghost use Rattle.vc_syntax_tree.specs.Trees.{condition_of};
 ghost use Rattle.vc_compile_plan.specs.Sites.{is_called};
 ghost use Rattle.vc_compile_tuples.specs.Parts as met;
 
 use crate::choices::are_same;
 use std::alloc::AllocError;
 use vc_plan::Slot;
-use vc_syntax_terms::tree::{Condition, Object};
+use vc_syntax_tree::{Condition, Object};
 use vc_value::Listed;
 
 /// A PART_OF, by the places of its variables among the constraint's objects; a variable that is none

@@ -2,7 +2,7 @@
 
 ghost use Rattle.std.specs.Prelude.{◌≡◌, ◌==◌, ◌<◌, ◌≤◌, [], ◌∷◌, ◌++◌, List, length, IfNone, IfOk, IfSome};
 ghost use Rattle.std.specs.List.{list_any};
-ghost use Rattle.vc_syntax_terms.specs.Trees.{constraint_of};
+ghost use Rattle.vc_syntax_tree.specs.Trees.{constraint_of};
 ghost use Rattle.vc_compile_plan.specs.Layouts.{layout_over};
 ghost use Rattle.vc_compile_plan.specs.Tuples as tuples;
 ghost use Rattle.vc_compile_plan.specs.declared.standings.Standing.{Standing};
@@ -12,7 +12,7 @@ use crate::choices::choices_of;
 use crate::parts::{Part, are_met, may_be, put_parts_of};
 use std::alloc::{AllocError, Global};
 use vc_plan::Slot;
-use vc_syntax_terms::tree::Constraint;
+use vc_syntax_tree::Constraint;
 use vc_types_names::Names;
 use vc_value::Listed;
 

@@ -8,7 +8,7 @@ use Rattle.std.proofs.lemmas.List.Concat.{flat_map-append}
 use Rattle.std.proofs.lemmas.List.Elements.{filter_map-append}
 use Rattle.vc_model_parts.specs.declared.parts.Model.{Model}
 use Rattle.vc_model_parts.specs.declared.parts.NamedDependency.{NamedDependency}
-use Rattle.vc_syntax_terms.specs.Trees.{Dependency, dependency_of}
+use Rattle.vc_syntax_tree.specs.Trees.{Dependency, dependency_of}
 use Rattle.vc_types.specs.Kinds.{number_of}
 use Rattle.vc_types.specs.declared.place.Place.{Place}
 use Rattle.vc_compile_plan.specs.Refusals.{TypeFault, Typed, earlier, fault_at, first_of, is_before, typed_at, typed_if}

@@ -10,7 +10,7 @@ use Rattle.vc_model_parts.specs.declared.parts.BillItem.{BillItem}
 use Rattle.vc_model_parts.specs.declared.parts.Model.{Model}
 use Rattle.vc_model_parts.specs.declared.parts.Object.{Object}
 use Rattle.vc_model_parts.specs.declared.parts.Operation.{Operation}
-use Rattle.vc_syntax_terms.specs.Trees.{Counts, term_of}
+use Rattle.vc_syntax_tree.specs.Trees.{Counts, term_of}
 use Rattle.vc_types.specs.Kinds.{number_of}
 use Rattle.vc_types.specs.declared.place.At.{At}
 use Rattle.vc_types.specs.declared.place.At.TheVariants as at

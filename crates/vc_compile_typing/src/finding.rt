@@ -1,14 +1,14 @@
 //! The first fault of the typing among those found.
 
 ghost use Rattle.std.specs.Prelude.{◌≡◌, ◌∷◌, [], option_map, IfOk};
-ghost use Rattle.vc_syntax_terms.specs.Trees.{Counts, dependency_of, term_of};
+ghost use Rattle.vc_syntax_tree.specs.Trees.{Counts, dependency_of, term_of};
 ghost use Rattle.vc_types.specs.Faults.{fault_of};
 ghost use Rattle.vc_compile_plan.specs.Refusals as refusals;
 ghost use Rattle.vc_compile_typing.specs.Finding.{first_of_both, first_with, seen, seen_if};
 
 use std::alloc::{AllocError, Global};
 use vc_model_parts::NamedDependency;
-use vc_syntax_terms::tree::{Dependency, Term};
+use vc_syntax_tree::{Dependency, Term};
 use vc_types::{Place, TypeFaultKind};
 use vc_types_dependency::{TypeFault, type_dependency, type_term};
 use vc_types_names::Names;

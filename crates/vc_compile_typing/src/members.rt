@@ -4,13 +4,13 @@ ghost use Rattle.std.specs.Prelude.{◌≡◌, flat_map, slice_get, IfOk, Some};
 ghost use Rattle.vc_compile_plan.specs.Places as places;
 ghost use Rattle.vc_compile_plan.specs.Refusals as refusals;
 ghost use Rattle.vc_compile_plan.specs.Uses as uses;
-ghost use Rattle.vc_compile_sites.specs.Standing.{layout_seen};
+ghost use Rattle.vc_compile_layout.specs.Standing.{layout_seen};
 ghost use Rattle.vc_compile_typing.specs.Finding.{first_with, seen_if};
 
 use crate::finding::Found;
 use crate::uses::with_uses_at;
 use std::alloc::{AllocError, Global};
-use vc_compile_sites::Layout;
+use vc_compile_layout::Layout;
 use vc_model_parts::{Characteristic, NumberValue, TextValue, Values};
 use vc_plan::Slot;
 

@@ -2,10 +2,11 @@
 
 ghost use Rattle.std.specs.Prelude.{◌≡◌};
 ghost use Rattle.std.specs.List.{list_any};
-ghost use Rattle.vc_compile_sites.specs.Standing.{layout_seen};
+ghost use Rattle.vc_compile_layout.specs.Standing.{layout_seen};
 ghost use Rattle.vc_compile_typing.specs.Alike.{is_alike, is_same};
 
-use vc_compile_sites::{Layout, place_at};
+use vc_compile_layout::Layout;
+use vc_compile_sites::place_at;
 use vc_plan::Slot;
 use vc_types::At;
 

@@ -2,10 +2,10 @@
 
 ghost use Rattle.std.specs.Prelude.{◌≡◌, ◌∷◌, flat_map, if◌then◌else◌, IfOk, Some};
 ghost use Rattle.std.specs.List.{list_any};
-ghost use Rattle.vc_syntax_terms.specs.Trees.{Counts, term_of};
+ghost use Rattle.vc_syntax_tree.specs.Trees.{Counts, term_of};
 ghost use Rattle.vc_compile_plan.specs.Refusals as refusals;
 ghost use Rattle.vc_compile_plan.specs.Shown as shown;
-ghost use Rattle.vc_compile_sites.specs.Standing.{layout_seen};
+ghost use Rattle.vc_compile_layout.specs.Standing.{layout_seen};
 ghost use Rattle.vc_compile_typing.specs.Alike.{is_alike};
 ghost use Rattle.vc_compile_typing.specs.Finding.{first_with, seen_if};
 
@@ -14,10 +14,11 @@ use crate::members::with_members;
 use crate::skipping::has_alike;
 use crate::uses::{with_constraints, with_uses, with_uses_at};
 use std::alloc::{AllocError, Global};
-use vc_compile_sites::{Layout, place_at};
+use vc_compile_layout::Layout;
+use vc_compile_sites::place_at;
 use vc_model_parts::{BillItem, Component, Object, Operation};
 use vc_plan::Slot;
-use vc_syntax_terms::tree::Term;
+use vc_syntax_tree::Term;
 use vc_types::{At, Place};
 
 fn is_configurable(component: &Component) -> bool

@@ -1,19 +1,20 @@
 //! Dependencies by their numbers, typed where they stand.
 
 ghost use Rattle.std.specs.Prelude.{◌≡◌, IfOk, None};
-ghost use Rattle.vc_syntax_terms.specs.Trees.{dependency_of};
+ghost use Rattle.vc_syntax_tree.specs.Trees.{dependency_of};
 ghost use Rattle.vc_compile_plan.specs.Places as places;
 ghost use Rattle.vc_compile_plan.specs.Refusals as refusals;
 ghost use Rattle.vc_compile_plan.specs.Rules as rules;
-ghost use Rattle.vc_compile_sites.specs.Standing.{layout_seen};
+ghost use Rattle.vc_compile_layout.specs.Standing.{layout_seen};
 ghost use Rattle.vc_compile_typing.specs.Finding.{first_with, seen_if};
 
 use crate::finding::{Found, with_dependency};
 use std::alloc::{AllocError, Global};
-use vc_compile_sites::{Layout, place_at};
+use vc_compile_layout::Layout;
+use vc_compile_sites::place_at;
 use vc_compile_uses::net_constraints;
 use vc_plan::Slot;
-use vc_syntax_terms::tree::Dependency;
+use vc_syntax_tree::Dependency;
 use vc_types::{At, Place};
 
 // A procedure stands elsewhere than a condition at the same characteristic or value.

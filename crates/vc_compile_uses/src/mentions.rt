@@ -1,15 +1,15 @@
 //! The texts that dependencies name, each time, in the order of the model.
 
 ghost use Rattle.std.specs.Prelude.{◌≡◌, ◌++◌, map, flat_map, option_map, OnOk};
-ghost use Rattle.vc_syntax_terms.specs.Trees.{action_of, binding_of, condition_of, demand_of, dependency_of};
-ghost use Rattle.vc_syntax_terms.specs.Trees.{relation_of, restriction_of, statement_of, table_call_of, term_of};
+ghost use Rattle.vc_syntax_tree.specs.Trees.{action_of, binding_of, condition_of, demand_of, dependency_of};
+ghost use Rattle.vc_syntax_tree.specs.Trees.{relation_of, restriction_of, statement_of, table_call_of, term_of};
 ghost use Rattle.vc_types.specs.Occurrences.{if_there};
 ghost use Rattle.vc_compile_plan.specs.Texts as texts;
 ghost use Rattle.vc_compile_uses.specs.Growing.{texts_seen};
 
 use std::alloc::AllocError;
 use vc_model_parts::NamedDependency;
-use vc_syntax_terms::tree::{
+use vc_syntax_tree::{
     Action, Binding, Condition, Demand, Dependency, Item, Relation, Restriction, Statement,
     TableCall, Term,
 };

@@ -20,7 +20,7 @@ use Rattle.vc_plan.specs.declared.plans.Plan.{Plan}
 use Rattle.vc_plan.specs.declared.plans.Slot.{Slot}
 use Rattle.vc_plan.specs.declared.procedures.Trigger.{Trigger}
 use Rattle.vc_plan.specs.declared.procedures.Trigger.TheVariants.{Anyway}
-use Rattle.vc_syntax_terms.specs.Trees.{Statement}
+use Rattle.vc_syntax_tree.specs.Trees.{Statement}
 use Rattle.vc_table.specs.declared.table.VariantTable.{VariantTable}
 use Rattle.vc_compile_plan.specs.Layouts.{Layout, layout_of, tree_of}
 use Rattle.vc_compile_plan.specs.Numbering.{Brings, drafts_of, numbered, procedure_brings, procedure_from}

@@ -27,7 +27,7 @@ use Rattle.vc_plan.specs.declared.plans.Plan.{Plan}
 use Rattle.vc_plan.specs.declared.plans.Slot.{Slot}
 use Rattle.vc_plan.specs.declared.procedures.Trigger.{Trigger}
 use Rattle.vc_plan.specs.declared.procedures.Trigger.TheVariants.{Anyway}
-use Rattle.vc_syntax_terms.specs.Trees.{Statement}
+use Rattle.vc_syntax_tree.specs.Trees.{Statement}
 use Rattle.vc_table.specs.declared.table.VariantTable.{VariantTable}
 use Rattle.vc_types.specs.Looking as looking
 use Rattle.vc_types.specs.Settings.{is_multiple, multiple_in}

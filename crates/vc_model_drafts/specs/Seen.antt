@@ -1,6 +1,6 @@
 -- A model with the trees of its dependencies and terms, without the places of their nodes in memory.
 use Rattle.std.specs.Prelude.{ℕ, List, map}
-use Rattle.vc_syntax_terms.specs.Trees.{Dependency, Term, dependency_of, term_of}
+use Rattle.vc_syntax_tree.specs.Trees.{Dependency, Term, dependency_of, term_of}
 use Rattle.vc_model_parts.specs.declared.parts.Characteristic.{Characteristic}
 use Rattle.vc_model_parts.specs.declared.parts.Class.{Class}
 use Rattle.vc_model_parts.specs.declared.parts.Table.{Table}

@@ -9,7 +9,7 @@ ghost use Rattle.vc_model_faults.specs.Places.{Kept, seen_places};
 ghost use Rattle.vc_model_lines.specs.Classified.{lines_of};
 ghost use Rattle.vc_model_faults.specs.Readings.{Reading as Readings, reading, seen_reading, seen_readings};
 ghost use Rattle.vc_model_faults.specs.Readings.{dependency_read, term_read};
-ghost use Rattle.vc_syntax_terms.specs.Trees.{dependency_of, term_of};
+ghost use Rattle.vc_syntax_tree.specs.Trees.{dependency_of, term_of};
 ghost use Rattle.vc_model_lines.specs.declared.line.Line.TheVariants as lines;
 ghost use Rattle.vc_model_lines.specs.declared.line.Line.{Line as Lines};
 ghost use Rattle.vc_model_lines.specs.declared.line.Keyword.{Keyword as Keywords};
@@ -34,7 +34,7 @@ use vc_model_parts::{
 };
 use vc_model_scope::names::Names;
 use vc_model_scope::scope::Scope;
-use vc_syntax_terms::tree::{Dependency, Term};
+use vc_syntax_tree::{Dependency, Term};
 use vc_value::{Listed, Word};
 
 /// What belongs to a line that is still to come.

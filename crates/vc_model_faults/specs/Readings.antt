@@ -9,8 +9,8 @@ use Rattle.vc_model_scope.specs.LookAhead.{block_text}
 use Rattle.vc_syntax_tokens.specs.declared.fault.Kind.{Kind}
 use Rattle.vc_syntax_tokens.specs.declared.fault.Kind.TheVariants as kinds
 use Rattle.vc_syntax.specs.DependencyTexts.{dependency_in}
-use Rattle.vc_syntax_terms.specs.Trees as trees
-use Rattle.vc_syntax_terms.specs.Trees.{Dependency, Term, dependency_of, term_of}
+use Rattle.vc_syntax_tree.specs.Trees as trees
+use Rattle.vc_syntax_tree.specs.Trees.{Dependency, Term, dependency_of, term_of}
 
 -- what a block's text or a term is read as, without the places of nodes in memory
 pub data Reading : Type 0 where

@@ -5,13 +5,13 @@ ghost use Rattle.std.specs.Str.Lines.{lines};
 ghost use Rattle.vc_model_lines.specs.Classified.{lines_below, lines_from};
 ghost use Rattle.vc_model_scope.specs.LookAhead as ahead;
 ghost use Rattle.vc_model_faults.specs.Readings as readings;
-ghost use Rattle.vc_syntax_terms.specs.Trees.{term_of};
+ghost use Rattle.vc_syntax_tree.specs.Trees.{term_of};
 
 use std::alloc::{AllocError, Global};
 use vc_model_lines::{BlockLine, Line};
 use vc_model_scope::look_ahead::block_text;
 use vc_syntax::{Kind, SyntaxFault, read_dependency, read_term};
-use vc_syntax_terms::tree::{Dependency, Term};
+use vc_syntax_tree::{Dependency, Term};
 use vc_value::Word;
 
 /// What the text of a block, or a term, is read as.

@@ -18,8 +18,8 @@ use Rattle.vc_syntax_tokens.specs.Limits.{is_too_long, is_too_deep}
 use Rattle.vc_syntax_tokens.specs.Tokens.{tokens_of}
 use Rattle.vc_syntax.specs.DependencyReading.{dependency}
 use Rattle.vc_syntax.specs.DependencyTexts.{spelled, judged, judged_if}
-use Rattle.vc_syntax_terms.specs.Trees as trees
-use Rattle.vc_syntax_terms.specs.Trees.{Dependency}
+use Rattle.vc_syntax_tree.specs.Trees as trees
+use Rattle.vc_syntax_tree.specs.Trees.{Dependency}
 use Rattle.vc_model_lines.specs.declared.line.Line.{Line}
 use Rattle.vc_model_lines.specs.declared.line.Line.TheVariants as lines
 use Rattle.vc_model_lines.specs.declared.line.BlockLine.{BlockLine}

@@ -29,7 +29,7 @@ use Rattle.vc_model_drafts.specs.Models.{until, number_of, component_or, uses_be
 use Rattle.vc_model_drafts.specs.Models.{text_at, number_at, member_at, column_at, item_at, operation_at}
 use Rattle.vc_model_drafts.specs.Models.{characteristic_at, class_at, table_at, dependency_at, net_at, object_at}
 use Rattle.vc_model_drafts.specs.Seen.{SeenDependency, SeenItem, SeenOperation, SeenObject}
-use Rattle.vc_syntax_terms.specs.Trees.{Dependency, Term}
+use Rattle.vc_syntax_tree.specs.Trees.{Dependency, Term}
 use Rattle.vc_model_laws.proofs.Holding.{each, each_map}
 use Rattle.vc_model_laws.proofs.Walks.{Stands}
 

@@ -2,7 +2,7 @@
 use Rattle.std.proofs.Common.{◌≡◌, ℕ, ◌+◌, true, false, List, Option, Some, None, refl, sym, ap, ◌∙◌}
 use Rattle.std.specs.Prelude.{option_map, unwrap_or}
 use Rattle.std.proofs.lemmas.Bool.{not-false}
-use Rattle.vc_syntax_terms.specs.Trees.{Term}
+use Rattle.vc_syntax_tree.specs.Trees.{Term}
 use Rattle.vc_model_lines.specs.declared.line.Line.{Line}
 use Rattle.vc_model_lines.specs.declared.line.Line.TheVariants as lines
 use Rattle.vc_model_lines.specs.declared.line.BillLine.{BillLine}

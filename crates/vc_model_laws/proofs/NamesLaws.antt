@@ -7,7 +7,7 @@ use Rattle.std.specs.Char.{is_ascii_alphanumeric}
 use Rattle.std.proofs.lemmas.Bool.{and_parts, and_from, or_parts, not-false, leb-true, lt-ltb}
 use Rattle.vc_value.specs.Names.{is_name}
 use Rattle.vc_value.specs.Words.{same_bytes}
-use Rattle.vc_syntax_terms.specs.Trees.{Term}
+use Rattle.vc_syntax_tree.specs.Trees.{Term}
 use Rattle.vc_model_lines.specs.declared.line.Line.{Line}
 use Rattle.vc_model_lines.specs.declared.line.Line.TheVariants as lines
 use Rattle.vc_model_lines.specs.declared.line.BillLine.{BillLine}

@@ -1,7 +1,7 @@
 -- What a model keeps of what its numbers stand for: what is used at a place is of a kind that may be used there.
 use Rattle.std.specs.Prelude.{◌≡◌, ℕ, Bool, true, false, not, ◌||◌, List, slice_get, Option, None, Some}
 use Rattle.std.specs.List.{list_all}
-use Rattle.vc_syntax_terms.specs.Trees.{Dependency, Precondition, Selection, Procedure, Constrains}
+use Rattle.vc_syntax_tree.specs.Trees.{Dependency, Precondition, Selection, Procedure, Constrains}
 use Rattle.vc_model_parts.specs.declared.parts.Characteristic.{Characteristic}
 use Rattle.vc_model_parts.specs.declared.parts.Values.{Values}
 use Rattle.vc_model_parts.specs.declared.parts.Values.TheVariants.{Texts, Numbers}

@@ -1,6 +1,6 @@
 //! A model as plain data: indices stand in place of names wherever a name is declared.
 
-use vc_syntax_terms::tree::{Dependency, Term};
+use vc_syntax_tree::{Dependency, Term};
 use vc_value::{Dec, Listed, Word};
 
 /// A text that a characteristic may have as its value.

@@ -4,7 +4,7 @@ use crate::pieces::{Bare, Canonical, CanonicalTerm, Numbers};
 use std::alloc::Global;
 use std::fmt;
 use vc_model_parts::{BillItem, Component, NamedDependency, Net, Object, Operation};
-use vc_syntax_terms::tree::Dependency;
+use vc_syntax_tree::Dependency;
 
 fn keyword_of(dependency: &Dependency) -> &'static str {
     match dependency {

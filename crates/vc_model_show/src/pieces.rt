@@ -4,7 +4,7 @@ use std::alloc::Global;
 use std::fmt;
 use std::str::from_utf8;
 use vc_syntax_print::{print_dependency, print_term};
-use vc_syntax_terms::tree::{Dependency, Term};
+use vc_syntax_tree::{Dependency, Term};
 use vc_value::{Dec, Word};
 
 /// A word as it is.

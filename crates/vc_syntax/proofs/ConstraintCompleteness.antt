@@ -4,12 +4,12 @@ use Rattle.std.proofs.Common.{length-append, arith}
 use Rattle.vc_syntax_tokens.specs.declared.token.Token.{Token}
 use Rattle.vc_syntax_tokens.specs.declared.token.Sign.TheVariants as signs
 use Rattle.vc_syntax_tokens.specs.declared.token.Reserved.TheVariants as words
-use Rattle.vc_syntax_terms.specs.declared.tree.TextLeaf.{TextLeaf}
-use Rattle.vc_syntax_terms.specs.declared.tree.Operand.{Operand}
-use Rattle.vc_syntax_terms.specs.declared.tree.ObjectKind.{ObjectKind}
-use Rattle.vc_syntax_terms.specs.declared.tree.ObjectKind.TheVariants as kinds
-use Rattle.vc_syntax_terms.specs.declared.tree.Alias.{Alias}
-use Rattle.vc_syntax_terms.specs.declared.tree.Object.{Object}
+use Rattle.vc_syntax_tree.specs.declared.TextLeaf.{TextLeaf}
+use Rattle.vc_syntax_tree.specs.declared.Operand.{Operand}
+use Rattle.vc_syntax_tree.specs.declared.ObjectKind.{ObjectKind}
+use Rattle.vc_syntax_tree.specs.declared.ObjectKind.TheVariants as kinds
+use Rattle.vc_syntax_tree.specs.declared.Alias.{Alias}
+use Rattle.vc_syntax_tree.specs.declared.Object.{Object}
 use Rattle.vc_syntax_terms.specs.Leaves.{is_sign, is_word, after_sign, after_word, named, any_named}
 use Rattle.vc_syntax_terms.specs.Reading.{Reader, then, either, or_else, made, leaving, leaving_as, closed, listed}
 use Rattle.vc_syntax_terms.specs.TermReading.{product_operator_in, sum_operator_in, operand}
@@ -19,7 +19,7 @@ use Rattle.vc_syntax.specs.ConstraintReading.{after_class_type, class_type, mate
 use Rattle.vc_syntax.specs.ConstraintReading.{material_kind, object_kind, with_alias, with_object, alias, aliases}
 use Rattle.vc_syntax.specs.ConstraintReading.{object, section, object_section, condition_section, restriction_section}
 use Rattle.vc_syntax.specs.ConstraintReading.{inference_section, with_constraint, constraint}
-use Rattle.vc_syntax_terms.specs.Trees.{Condition, Restriction, Constraint}
+use Rattle.vc_syntax_tree.specs.Trees.{Condition, Restriction, Constraint}
 use Rattle.vc_syntax_terms.specs.TermGrammar.{IsSign, IsWord, IsText, IsOperand}
 use Rattle.vc_syntax_terms.specs.ConditionGrammar.{IsListed}
 use Rattle.vc_syntax.specs.StatementGrammar.{IsRestriction}

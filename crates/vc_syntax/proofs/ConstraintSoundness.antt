@@ -4,13 +4,13 @@ use Rattle.std.proofs.Common.{◌∙◌, append_assoc}
 use Rattle.vc_syntax_tokens.specs.declared.token.Token.{Token}
 use Rattle.vc_syntax_tokens.specs.declared.token.Sign.TheVariants as signs
 use Rattle.vc_syntax_tokens.specs.declared.token.Reserved.TheVariants as words
-use Rattle.vc_syntax_terms.specs.declared.tree.NameLeaf.{NameLeaf}
-use Rattle.vc_syntax_terms.specs.declared.tree.TextLeaf.{TextLeaf}
-use Rattle.vc_syntax_terms.specs.declared.tree.Operand.{Operand}
-use Rattle.vc_syntax_terms.specs.declared.tree.ObjectKind.{ObjectKind}
-use Rattle.vc_syntax_terms.specs.declared.tree.ObjectKind.TheVariants as kinds
-use Rattle.vc_syntax_terms.specs.declared.tree.Alias.{Alias}
-use Rattle.vc_syntax_terms.specs.declared.tree.Object.{Object}
+use Rattle.vc_syntax_tree.specs.declared.NameLeaf.{NameLeaf}
+use Rattle.vc_syntax_tree.specs.declared.TextLeaf.{TextLeaf}
+use Rattle.vc_syntax_tree.specs.declared.Operand.{Operand}
+use Rattle.vc_syntax_tree.specs.declared.ObjectKind.{ObjectKind}
+use Rattle.vc_syntax_tree.specs.declared.ObjectKind.TheVariants as kinds
+use Rattle.vc_syntax_tree.specs.declared.Alias.{Alias}
+use Rattle.vc_syntax_tree.specs.declared.Object.{Object}
 use Rattle.vc_syntax_terms.specs.Leaves.{after_sign, after_word, named, any_named}
 use Rattle.vc_syntax_terms.specs.Reading.{Reader, then, made, leaving_as, closed, listed}
 use Rattle.vc_syntax_terms.specs.TermReading.{operand}
@@ -21,7 +21,7 @@ use Rattle.vc_syntax.specs.ConstraintReading.{material_number, material_kind, ob
 use Rattle.vc_syntax.specs.ConstraintReading.{alias, aliases, object, section, object_section, condition_section}
 use Rattle.vc_syntax.specs.ConstraintReading.{restriction_word, restriction_section, inference_section, with_constraint}
 use Rattle.vc_syntax.specs.ConstraintReading.{constraint}
-use Rattle.vc_syntax_terms.specs.Trees.{Condition, Restriction, Constraint}
+use Rattle.vc_syntax_tree.specs.Trees.{Condition, Restriction, Constraint}
 use Rattle.vc_syntax_terms.specs.TermGrammar.{IsSign, IsWord, IsName, IsAnyName, IsVariable, IsText, IsOperand}
 use Rattle.vc_syntax_terms.specs.ConditionGrammar.{IsListed, IsCondition}
 use Rattle.vc_syntax.specs.StatementGrammar.{IsRestriction}

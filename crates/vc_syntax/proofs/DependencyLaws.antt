@@ -12,9 +12,9 @@ use Rattle.vc_syntax_terms.specs.ConditionReading.{condition}
 use Rattle.vc_syntax.specs.StatementReading.{statement}
 use Rattle.vc_syntax.specs.ConstraintReading.{constraint}
 use Rattle.vc_syntax.specs.DependencyReading.{is_end, without_period, is_stop, up_to, dependency}
-use Rattle.vc_syntax_terms.specs.Trees as trees
-use Rattle.vc_syntax_terms.specs.Trees.{Term, Condition, Statement, Constraint, Dependency, dependency_of}
-use Rattle.vc_syntax_terms.specs.declared.tree.Dependency.{Dependency as StoredDependency}
+use Rattle.vc_syntax_tree.specs.Trees as trees
+use Rattle.vc_syntax_tree.specs.Trees.{Term, Condition, Statement, Constraint, Dependency, dependency_of}
+use Rattle.vc_syntax_tree.specs.declared.Dependency.{Dependency as StoredDependency}
 use Rattle.vc_syntax_terms.specs.declared.reading.ReadFault.{ReadFault}
 use Rattle.std.specs.Prelude.{IfOk, Result, Ok, Err}
 use Rattle.vc_syntax_terms.specs.TermGrammar.{IsSign, IsSum}

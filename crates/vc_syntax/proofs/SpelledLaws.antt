@@ -16,7 +16,7 @@ use Rattle.vc_syntax.specs.Spelled as s
 use Rattle.vc_syntax.specs.Spelled.{Spells, IsFault}
 use Rattle.vc_syntax_tokens.specs.Tokens.{first_ones, tokens_of}
 use Rattle.vc_syntax_tokens.proofs.FirstTokens.{decided}
-use Rattle.vc_syntax_terms.specs.Trees.{Dependency}
+use Rattle.vc_syntax_tree.specs.Trees.{Dependency}
 use Rattle.vc_syntax.proofs.DependencyLaws.{dependency_is, reads_dependency}
 
 -- what is found, with how it was found

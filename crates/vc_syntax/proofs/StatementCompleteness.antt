@@ -6,16 +6,16 @@ use Rattle.vc_syntax_tokens.specs.declared.token.Lexeme.{Lexeme}
 use Rattle.vc_syntax_tokens.specs.declared.token.Lexeme.TheVariants as lexemes
 use Rattle.vc_syntax_tokens.specs.declared.token.Sign.TheVariants as signs
 use Rattle.vc_syntax_tokens.specs.declared.token.Reserved.TheVariants as words
-use Rattle.vc_syntax_terms.specs.declared.tree.NameLeaf.{NameLeaf}
+use Rattle.vc_syntax_tree.specs.declared.NameLeaf.{NameLeaf}
 use Rattle.vc_syntax_terms.specs.Leaves.{is_sign, is_word, after_sign, after_word}
 use Rattle.vc_syntax_terms.specs.Reading.{then, either, made, leaving, leaving_as, closed, grouped, word, listed}
 use Rattle.vc_syntax_terms.specs.TermReading.{product_operator_in, sum_operator_in, sum}
 use Rattle.vc_syntax_terms.specs.ConditionReading.{any, relation, conjunction, condition}
 use Rattle.vc_syntax.specs.StatementReading.{bind, call, state, demand, binding, table_call, defaulted, action_in}
 use Rattle.vc_syntax.specs.StatementReading.{action, condition_if, statement, demand_in, demanded, restriction}
-use Rattle.vc_syntax_terms.specs.Trees as trees
-use Rattle.vc_syntax_terms.specs.Trees.{Term, Relation, Condition, Binding, TableCall, Action, Statement, Demand}
-use Rattle.vc_syntax_terms.specs.Trees.{Restriction}
+use Rattle.vc_syntax_tree.specs.Trees as trees
+use Rattle.vc_syntax_tree.specs.Trees.{Term, Relation, Condition, Binding, TableCall, Action, Statement, Demand}
+use Rattle.vc_syntax_tree.specs.Trees.{Restriction}
 use Rattle.vc_syntax_terms.specs.TermGrammar.{IsSign, IsAnyName, IsSelfAndName, IsSum}
 use Rattle.vc_syntax_terms.specs.ConditionGrammar.{IsListed, IsCondition}
 use Rattle.vc_syntax.specs.StatementGrammar as grammar

@@ -7,7 +7,7 @@ use Rattle.vc_syntax_tokens.specs.declared.token.Lexeme.TheVariants as lexemes
 use Rattle.vc_syntax_tokens.specs.declared.token.Sign.TheVariants as signs
 use Rattle.vc_syntax_tokens.specs.declared.token.Dollar.TheVariants as dollars
 use Rattle.vc_syntax_tokens.specs.declared.token.Reserved.TheVariants as words
-use Rattle.vc_syntax_terms.specs.declared.tree.NameLeaf.{NameLeaf}
+use Rattle.vc_syntax_tree.specs.declared.NameLeaf.{NameLeaf}
 use Rattle.vc_syntax_terms.specs.Leaves.{after_sign, after_word, named, any_named}
 use Rattle.vc_syntax_terms.specs.Reading.{then, made, closed, grouped, listed}
 use Rattle.vc_syntax_terms.specs.TermReading.{dotted, self_and_name, sum}
@@ -15,9 +15,9 @@ use Rattle.vc_syntax_terms.specs.ConditionReading.{relation, condition}
 use Rattle.vc_syntax.specs.StatementReading.{bind, call, state, demand, binding, table_call, assignment, defaulted}
 use Rattle.vc_syntax.specs.StatementReading.{action_in, action, condition_if, statement, demand_in, demanded}
 use Rattle.vc_syntax.specs.StatementReading.{restriction}
-use Rattle.vc_syntax_terms.specs.Trees as trees
-use Rattle.vc_syntax_terms.specs.Trees.{Term, Relation, Condition, Binding, TableCall, Action, Statement, Demand}
-use Rattle.vc_syntax_terms.specs.Trees.{Restriction}
+use Rattle.vc_syntax_tree.specs.Trees as trees
+use Rattle.vc_syntax_tree.specs.Trees.{Term, Relation, Condition, Binding, TableCall, Action, Statement, Demand}
+use Rattle.vc_syntax_tree.specs.Trees.{Restriction}
 use Rattle.vc_syntax_terms.specs.TermGrammar.{IsSign, IsWord, IsDollar, IsName, IsAnyName, IsSelfAndName, IsSum}
 use Rattle.vc_syntax_terms.specs.ConditionGrammar.{IsListed, IsRelation, IsCondition}
 use Rattle.vc_syntax.specs.StatementGrammar as grammar

@@ -4,18 +4,18 @@ use Rattle.vc_syntax_tokens.specs.declared.token.Token.{Token}
 use Rattle.vc_syntax_tokens.specs.declared.token.Sign.TheVariants.{OpenParen, CloseParen, Comma, Semicolon, Colon}
 use Rattle.vc_syntax_tokens.specs.declared.token.Sign.TheVariants.{Period, Equal}
 use Rattle.vc_syntax_tokens.specs.declared.token.Reserved.TheVariants as words
-use Rattle.vc_syntax_terms.specs.declared.tree.NameLeaf.{NameLeaf}
-use Rattle.vc_syntax_terms.specs.declared.tree.TextLeaf.{TextLeaf}
-use Rattle.vc_syntax_terms.specs.declared.tree.Operand.{Operand}
-use Rattle.vc_syntax_terms.specs.declared.tree.ObjectKind.{ObjectKind}
-use Rattle.vc_syntax_terms.specs.declared.tree.ObjectKind.TheVariants.{Class, Material}
-use Rattle.vc_syntax_terms.specs.declared.tree.Alias.{Alias}
-use Rattle.vc_syntax_terms.specs.declared.tree.Object.{Object}
+use Rattle.vc_syntax_tree.specs.declared.NameLeaf.{NameLeaf}
+use Rattle.vc_syntax_tree.specs.declared.TextLeaf.{TextLeaf}
+use Rattle.vc_syntax_tree.specs.declared.Operand.{Operand}
+use Rattle.vc_syntax_tree.specs.declared.ObjectKind.{ObjectKind}
+use Rattle.vc_syntax_tree.specs.declared.ObjectKind.TheVariants.{Class, Material}
+use Rattle.vc_syntax_tree.specs.declared.Alias.{Alias}
+use Rattle.vc_syntax_tree.specs.declared.Object.{Object}
 use Rattle.vc_syntax_terms.specs.TermGrammar.{IsSign, IsWord, IsName, IsAnyName, IsVariable, IsText, IsOperand}
 use Rattle.vc_syntax_terms.specs.ConditionGrammar.{IsListed, IsCondition}
 use Rattle.vc_syntax.specs.StatementGrammar.{IsRestriction}
 use Rattle.vc_syntax.specs.ConstraintReading.{is_class_type, with_alias, with_object, with_constraint}
-use Rattle.vc_syntax_terms.specs.Trees.{Condition, Restriction, Constraint}
+use Rattle.vc_syntax_tree.specs.Trees.{Condition, Restriction, Constraint}
 
 -- the token is the number 300
 abbrev pub IsClassType : Token → Type 0

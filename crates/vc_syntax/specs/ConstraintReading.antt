@@ -6,18 +6,18 @@ use Rattle.vc_syntax_tokens.specs.declared.token.Lexeme.{Lexeme}
 use Rattle.vc_syntax_tokens.specs.declared.token.Lexeme.TheVariants as lexemes
 use Rattle.vc_syntax_tokens.specs.declared.token.Sign.TheVariants as signs
 use Rattle.vc_syntax_tokens.specs.declared.token.Reserved.TheVariants as words
-use Rattle.vc_syntax_terms.specs.declared.tree.NameLeaf.{NameLeaf}
-use Rattle.vc_syntax_terms.specs.declared.tree.Operand.{Operand}
-use Rattle.vc_syntax_terms.specs.declared.tree.ObjectKind.{ObjectKind}
-use Rattle.vc_syntax_terms.specs.declared.tree.ObjectKind.TheVariants as kinds
-use Rattle.vc_syntax_terms.specs.declared.tree.Alias.{Alias}
-use Rattle.vc_syntax_terms.specs.declared.tree.Object.{Object}
+use Rattle.vc_syntax_tree.specs.declared.NameLeaf.{NameLeaf}
+use Rattle.vc_syntax_tree.specs.declared.Operand.{Operand}
+use Rattle.vc_syntax_tree.specs.declared.ObjectKind.{ObjectKind}
+use Rattle.vc_syntax_tree.specs.declared.ObjectKind.TheVariants as kinds
+use Rattle.vc_syntax_tree.specs.declared.Alias.{Alias}
+use Rattle.vc_syntax_tree.specs.declared.Object.{Object}
 use Rattle.vc_syntax_terms.specs.Leaves.{after_sign, after_word, named, any_named}
 use Rattle.vc_syntax_terms.specs.Reading.{Reader, then, either, or_else, made, leaving_as, closed, listed}
 use Rattle.vc_syntax_terms.specs.TermReading.{operand}
 use Rattle.vc_syntax_terms.specs.ConditionReading.{text_ahead, variable_ahead, condition}
 use Rattle.vc_syntax.specs.StatementReading.{restriction}
-use Rattle.vc_syntax_terms.specs.Trees.{Condition, Restriction, Constraint}
+use Rattle.vc_syntax_tree.specs.Trees.{Condition, Restriction, Constraint}
 
 -- 300, the class type of configurable objects
 abbrev pub is_class_type : Lexeme → Bool

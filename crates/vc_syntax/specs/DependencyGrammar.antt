@@ -8,8 +8,8 @@ use Rattle.vc_syntax_terms.specs.TermGrammar.{IsSign, IsSum}
 use Rattle.vc_syntax_terms.specs.ConditionGrammar.{IsListed, IsCondition}
 use Rattle.vc_syntax.specs.StatementGrammar.{IsStatement}
 use Rattle.vc_syntax.specs.ConstraintGrammar.{IsConstraint}
-use Rattle.vc_syntax_terms.specs.Trees as trees
-use Rattle.vc_syntax_terms.specs.Trees.{Term, Condition, Statement, Constraint, Dependency}
+use Rattle.vc_syntax_tree.specs.Trees as trees
+use Rattle.vc_syntax_tree.specs.Trees.{Term, Condition, Statement, Constraint, Dependency}
 
 -- [period]
 pub data IsStop : List Token → Type 0 where

@@ -10,8 +10,8 @@ use Rattle.vc_syntax_terms.specs.TermReading.{sum}
 use Rattle.vc_syntax_terms.specs.ConditionReading.{condition}
 use Rattle.vc_syntax.specs.StatementReading.{statement}
 use Rattle.vc_syntax.specs.ConstraintReading.{constraint}
-use Rattle.vc_syntax_terms.specs.Trees as trees
-use Rattle.vc_syntax_terms.specs.Trees.{Dependency}
+use Rattle.vc_syntax_tree.specs.Trees as trees
+use Rattle.vc_syntax_tree.specs.Trees.{Dependency}
 
 abbrev pub is_end : List Token → Bool
 is_end [] = true

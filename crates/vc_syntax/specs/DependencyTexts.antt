@@ -11,7 +11,7 @@ use Rattle.vc_syntax_tokens.specs.declared.fault.SyntaxFault.TheVariants.{Bad, O
 use Rattle.vc_syntax.specs.DependencyReading.{dependency}
 use Rattle.vc_syntax_tokens.specs.Limits.{is_too_long, is_too_deep}
 use Rattle.vc_syntax_tokens.specs.Tokens.{tokens_of}
-use Rattle.vc_syntax_terms.specs.Trees.{Dependency}
+use Rattle.vc_syntax_tree.specs.Trees.{Dependency}
 
 abbrev pub spelled : Option Dependency → Result Dependency SyntaxFault
 spelled None = Err (Bad faults.NotADependency 0)

@@ -8,7 +8,7 @@ use Rattle.vc_syntax_tokens.specs.declared.fault.SyntaxFault.TheVariants.{Bad}
 use Rattle.vc_syntax.specs.DependencyGrammar.{IsDependency}
 use Rattle.vc_syntax_tokens.specs.Limits.{is_too_long, is_too_deep}
 use Rattle.vc_syntax_tokens.specs.Tokens.{tokens_of}
-use Rattle.vc_syntax_terms.specs.Trees.{Dependency}
+use Rattle.vc_syntax_tree.specs.Trees.{Dependency}
 
 -- the text is cut into tokens within the limits, and these spell the tree
 pub record Spells (kind : Kind) (text : List ℕ) (tree : Dependency) : Type 0 where

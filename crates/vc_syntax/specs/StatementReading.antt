@@ -6,13 +6,13 @@ use Rattle.vc_syntax_tokens.specs.declared.token.Lexeme.TheVariants as lexemes
 use Rattle.vc_syntax_tokens.specs.declared.token.Sign.TheVariants as signs
 use Rattle.vc_syntax_tokens.specs.declared.token.Dollar.TheVariants as dollars
 use Rattle.vc_syntax_tokens.specs.declared.token.Reserved.TheVariants as words
-use Rattle.vc_syntax_terms.specs.declared.tree.NameLeaf.{NameLeaf}
+use Rattle.vc_syntax_tree.specs.declared.NameLeaf.{NameLeaf}
 use Rattle.vc_syntax_terms.specs.Leaves.{after_sign, after_word, named, any_named}
 use Rattle.vc_syntax_terms.specs.Reading.{Reader, then, either, made, closed, grouped, listed}
 use Rattle.vc_syntax_terms.specs.TermReading.{dotted, self_and_name, sum}
 use Rattle.vc_syntax_terms.specs.ConditionReading.{relation, condition}
-use Rattle.vc_syntax_terms.specs.Trees as trees
-use Rattle.vc_syntax_terms.specs.Trees.{Term, Condition, Binding, TableCall, Action, Statement, Demand, Restriction}
+use Rattle.vc_syntax_tree.specs.Trees as trees
+use Rattle.vc_syntax_tree.specs.Trees.{Term, Condition, Binding, TableCall, Action, Statement, Demand, Restriction}
 
 abbrev pub bind : NameLeaf → Term → Binding
 bind column value = record { column = column; value = value }

@@ -4,7 +4,7 @@ ghost use Rattle.std.specs.Prelude.{map, option_map};
 ghost use Rattle.vc_syntax_terms.specs.Reading.{Gives, listed};
 ghost use Rattle.vc_syntax_terms.specs.TermReading as terms;
 ghost use Rattle.vc_syntax.specs.ConstraintReading as reads;
-ghost use Rattle.vc_syntax_terms.specs.Trees.{condition_of, restriction_of, constraint_of};
+ghost use Rattle.vc_syntax_tree.specs.Trees.{condition_of, restriction_of, constraint_of};
 ghost use Rattle.vc_syntax_tokens.specs.declared.token.Sign.TheVariants as signs;
 
 use crate::statements::restrictions;
@@ -14,10 +14,8 @@ use vc_syntax_terms::reading::{
     ReadFault, after_sign, after_word, any_named, named, sign_ahead, word_ahead,
 };
 use vc_syntax_terms::terms::operand;
-use vc_syntax_terms::tree::{
-    Alias, Condition, Constraint, Object, ObjectKind, Operand, Restriction,
-};
 use vc_syntax_tokens::token::{Lexeme, Reserved, Sign, Token};
+use vc_syntax_tree::{Alias, Condition, Constraint, Object, ObjectKind, Operand, Restriction};
 use vc_value::Listed;
 
 // What follows 300, where the tokens begin with it.

@@ -12,8 +12,8 @@ ghost use Rattle.vc_syntax.specs.DependencyTexts as texts;
 ghost use Rattle.vc_syntax.specs.Spelled.{Spells, IsFault};
 ghost use Rattle.vc_syntax_tokens.specs.declared.fault.Kind.{Kind};
 ghost use Rattle.vc_syntax_tokens.specs.declared.fault.SyntaxKind.{SyntaxKind};
-ghost use Rattle.vc_syntax_terms.specs.Trees as trees;
-ghost use Rattle.vc_syntax_terms.specs.Trees.{term_of, condition_of, statement_of, constraint_of, dependency_of};
+ghost use Rattle.vc_syntax_tree.specs.Trees as trees;
+ghost use Rattle.vc_syntax_tree.specs.Trees.{term_of, condition_of, statement_of, constraint_of, dependency_of};
 ghost use Rattle.vc_syntax_tokens.specs.declared.token.Sign.TheVariants as signs;
 
 use crate::constraints::constraint;
@@ -22,11 +22,11 @@ use std::alloc::Global;
 use vc_syntax_terms::conditions::condition;
 use vc_syntax_terms::reading::{ReadFault, sign_ahead};
 use vc_syntax_terms::terms::sum;
-use vc_syntax_terms::tree::{Condition, Constraint, Dependency, Statement, Term};
 use vc_syntax_tokens::fault::{Kind, SyntaxFault, SyntaxKind};
 use vc_syntax_tokens::lexing::first_tokens;
 use vc_syntax_tokens::limits::{is_too_deep, is_too_long};
 use vc_syntax_tokens::token::{Sign, Token};
+use vc_syntax_tree::{Condition, Constraint, Dependency, Statement, Term};
 use vc_value::Listed;
 
 // Whether nothing stands there, or a period and nothing more.

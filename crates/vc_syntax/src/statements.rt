@@ -3,19 +3,19 @@
 ghost use Rattle.std.specs.Prelude.{◌≡◌, map, option_map};
 ghost use Rattle.vc_syntax_terms.specs.Reading.{Gives, made, grouped, listed};
 ghost use Rattle.vc_syntax.specs.StatementReading as reads;
-ghost use Rattle.vc_syntax_terms.specs.Trees as trees;
-ghost use Rattle.vc_syntax_terms.specs.Trees.{term_of, condition_of, binding_of, table_call_of, action_of};
-ghost use Rattle.vc_syntax_terms.specs.Trees.{statement_of, demand_of, restriction_of};
+ghost use Rattle.vc_syntax_tree.specs.Trees as trees;
+ghost use Rattle.vc_syntax_tree.specs.Trees.{term_of, condition_of, binding_of, table_call_of, action_of};
+ghost use Rattle.vc_syntax_tree.specs.Trees.{statement_of, demand_of, restriction_of};
 ghost use Rattle.vc_syntax_tokens.specs.declared.token.Sign.TheVariants as signs;
 
 use std::alloc::Global;
 use vc_syntax_terms::conditions::{condition, relation};
 use vc_syntax_terms::reading::{ReadFault, after_sign, any_named, named, sign_ahead, word_ahead};
 use vc_syntax_terms::terms::{dotted, self_and_name, sum};
-use vc_syntax_terms::tree::{
+use vc_syntax_tokens::token::{Dollar, Lexeme, Reserved, Sign, Token};
+use vc_syntax_tree::{
     Action, Binding, Condition, Demand, NameLeaf, Restriction, Statement, TableCall, Term,
 };
-use vc_syntax_tokens::token::{Dollar, Lexeme, Reserved, Sign, Token};
 use vc_value::Listed;
 
 fn binding(alloc: Global, tokens: &[Token], left: u32) -> Result<(Binding, &[Token]), ReadFault>

@@ -10,16 +10,16 @@ use Rattle.vc_syntax_tokens.specs.declared.limits.Prefix.TheVariants.{Negation, 
 use Rattle.vc_syntax_tokens.specs.Limits.{is_open, is_close, is_prefix}
 use Rattle.vc_syntax_tokens.specs.Texts.{is_dot, is_period}
 use Rattle.vc_syntax_tokens.specs.Written.{is_lexeme}
-use Rattle.vc_syntax_terms.specs.declared.tree.SignedNumber.{SignedNumber}
-use Rattle.vc_syntax_terms.specs.declared.tree.Item.{Item}
-use Rattle.vc_syntax_terms.specs.declared.tree.Relator.{Relator}
-use Rattle.vc_syntax_terms.specs.declared.tree.Relator.TheVariants as relators
+use Rattle.vc_syntax_tree.specs.declared.SignedNumber.{SignedNumber}
+use Rattle.vc_syntax_tree.specs.declared.Item.{Item}
+use Rattle.vc_syntax_tree.specs.declared.Relator.{Relator}
+use Rattle.vc_syntax_tree.specs.declared.Relator.TheVariants as relators
 use Rattle.vc_syntax_terms.specs.ConditionReading.{relator_in}
 use Rattle.vc_syntax_terms.specs.ConditionGrammar as grammar
 use Rattle.vc_syntax_terms.specs.ConditionGrammar.{IsListed, IsSignedNumber, IsItem, IsRelation, IsNegation}
 use Rattle.vc_syntax_terms.specs.ConditionGrammar.{IsConjunction, IsCondition}
-use Rattle.vc_syntax_terms.specs.Trees as trees
-use Rattle.vc_syntax_terms.specs.Trees.{Relation, Condition}
+use Rattle.vc_syntax_tree.specs.Trees as trees
+use Rattle.vc_syntax_tree.specs.Trees.{Relation, Condition}
 use Rattle.vc_syntax_print.specs.TermLexemes.{wrapped_if, operand_lexemes, term_lexemes}
 use Rattle.vc_syntax_print.specs.ConditionLexemes.{signed_lexemes, item_lexemes, relator_sign, relation_lexemes, is_or}
 use Rattle.vc_syntax_print.specs.ConditionLexemes.{is_joined, condition_lexemes}

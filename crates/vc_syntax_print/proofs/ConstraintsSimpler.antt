@@ -12,10 +12,10 @@ use Rattle.vc_syntax_tokens.specs.declared.token.Sign.{Sign}
 use Rattle.vc_syntax_tokens.specs.declared.token.Sign.TheVariants as signs
 use Rattle.vc_syntax_tokens.specs.declared.token.Reserved.{Reserved}
 use Rattle.vc_syntax_tokens.specs.declared.token.Reserved.TheVariants as words
-use Rattle.vc_syntax_terms.specs.declared.tree.Operand.{Operand}
-use Rattle.vc_syntax_terms.specs.declared.tree.ObjectKind.{ObjectKind}
-use Rattle.vc_syntax_terms.specs.declared.tree.Alias.{Alias}
-use Rattle.vc_syntax_terms.specs.declared.tree.Object.{Object}
+use Rattle.vc_syntax_tree.specs.declared.Operand.{Operand}
+use Rattle.vc_syntax_tree.specs.declared.ObjectKind.{ObjectKind}
+use Rattle.vc_syntax_tree.specs.declared.Alias.{Alias}
+use Rattle.vc_syntax_tree.specs.declared.Object.{Object}
 use Rattle.vc_syntax.specs.ConstraintReading.{is_class_type}
 use Rattle.vc_syntax_terms.specs.TermGrammar.{IsOperand}
 use Rattle.vc_syntax_terms.specs.ConditionGrammar.{IsListed, IsCondition}
@@ -24,7 +24,7 @@ use Rattle.vc_syntax.specs.ConstraintGrammar as grammar
 use Rattle.vc_syntax.specs.ConstraintGrammar.{IsClassType, IsObjectKind, IsAlias, IsWhere, IsObject, IsSection}
 use Rattle.vc_syntax.specs.ConstraintGrammar.{IsObjectSection, IsConditionSection, IsRestrictionSection}
 use Rattle.vc_syntax.specs.ConstraintGrammar.{IsInferenceSection, IsConstraint}
-use Rattle.vc_syntax_terms.specs.Trees.{Condition, Restriction, Constraint}
+use Rattle.vc_syntax_tree.specs.Trees.{Condition, Restriction, Constraint}
 use Rattle.vc_syntax_print.specs.TermLexemes.{operand_lexemes}
 use Rattle.vc_syntax_print.specs.ConditionLexemes.{separated, condition_lexemes}
 use Rattle.vc_syntax_print.specs.StatementLexemes.{restriction_lexemes}

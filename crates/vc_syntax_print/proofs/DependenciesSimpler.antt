@@ -6,7 +6,7 @@ use Rattle.vc_syntax_tokens.specs.declared.fault.Kind.{Kind}
 use Rattle.vc_syntax.specs.StatementGrammar.{IsStatement}
 use Rattle.vc_syntax.specs.DependencyGrammar as grammar
 use Rattle.vc_syntax.specs.DependencyGrammar.{IsDependency}
-use Rattle.vc_syntax_terms.specs.Trees.{Dependency}
+use Rattle.vc_syntax_tree.specs.Trees.{Dependency}
 use Rattle.vc_syntax_print.specs.StatementLexemes.{statement_lexemes}
 use Rattle.vc_syntax_print.specs.DependencyLexemes.{dependency_lexemes}
 use Rattle.vc_syntax_print.proofs.Simplified.{Simplified, simplified_before, simplified, simplified_sections}

@@ -9,9 +9,9 @@ use Rattle.vc_syntax_tokens.specs.declared.limits.Prefix.TheVariants.{Negation, 
 use Rattle.vc_syntax_tokens.specs.Limits.{is_open, is_close, is_prefix}
 use Rattle.vc_syntax_tokens.specs.Texts.{is_dot, is_period}
 use Rattle.vc_syntax_tokens.specs.Written.{is_lexeme, is_star}
-use Rattle.vc_syntax_terms.specs.declared.tree.NameLeaf.{NameLeaf}
-use Rattle.vc_syntax_terms.specs.declared.tree.TextLeaf.{TextLeaf}
-use Rattle.vc_syntax_terms.specs.declared.tree.NumberLeaf.{NumberLeaf}
+use Rattle.vc_syntax_tree.specs.declared.NameLeaf.{NameLeaf}
+use Rattle.vc_syntax_tree.specs.declared.TextLeaf.{TextLeaf}
+use Rattle.vc_syntax_tree.specs.declared.NumberLeaf.{NumberLeaf}
 use Rattle.vc_syntax_terms.specs.Leaves.{name_in, variable_in, text_in, number_in}
 use Rattle.vc_syntax_terms.specs.TermGrammar.{IsSign, IsName, IsVariable, IsText, IsNumber}
 use Rattle.vc_syntax_print.specs.TermLexemes.{wrapped, wrapped_if}

@@ -5,9 +5,9 @@ use Rattle.vc_syntax_tokens.specs.declared.token.Token.{Token}
 use Rattle.vc_syntax_tokens.specs.declared.token.Lexeme.{Lexeme}
 use Rattle.vc_syntax_tokens.specs.declared.token.Lexeme.TheVariants as lexemes
 use Rattle.vc_syntax_tokens.specs.declared.token.Sign.{Sign}
-use Rattle.vc_syntax_terms.specs.declared.tree.NameLeaf.{NameLeaf}
-use Rattle.vc_syntax_terms.specs.declared.tree.TextLeaf.{TextLeaf}
-use Rattle.vc_syntax_terms.specs.declared.tree.NumberLeaf.{NumberLeaf}
+use Rattle.vc_syntax_tree.specs.declared.NameLeaf.{NameLeaf}
+use Rattle.vc_syntax_tree.specs.declared.TextLeaf.{TextLeaf}
+use Rattle.vc_syntax_tree.specs.declared.NumberLeaf.{NumberLeaf}
 use Rattle.vc_syntax_terms.specs.Leaves.{name_in, variable_in, text_in, number_in}
 use Rattle.vc_syntax_terms.specs.TermGrammar.{IsName, IsVariable, IsText, IsNumber}
 use Rattle.vc_syntax_terms.specs.ConditionGrammar as grammar

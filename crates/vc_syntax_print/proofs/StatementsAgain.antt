@@ -9,16 +9,16 @@ use Rattle.vc_syntax_tokens.specs.declared.token.Reserved.{Reserved}
 use Rattle.vc_syntax_tokens.specs.declared.token.Reserved.TheVariants as words
 use Rattle.vc_syntax_tokens.specs.Spellings.{reserved_of}
 use Rattle.vc_syntax_tokens.specs.Lexemes.{named, lexeme_of_word}
-use Rattle.vc_syntax_terms.specs.declared.tree.NameLeaf.{NameLeaf}
+use Rattle.vc_syntax_tree.specs.declared.NameLeaf.{NameLeaf}
 use Rattle.vc_syntax_terms.specs.Leaves.{any_name_in}
 use Rattle.vc_syntax.specs.StatementReading.{bind, call, state, demand}
 use Rattle.vc_syntax_terms.specs.TermGrammar.{IsAnyName, IsSelfAndName, IsSum}
 use Rattle.vc_syntax_terms.specs.ConditionGrammar.{IsListed, IsRelation, IsCondition}
 use Rattle.vc_syntax.specs.StatementGrammar as grammar
 use Rattle.vc_syntax.specs.StatementGrammar.{IsBinding, IsTable, IsAction, IsIf, IsStatement, IsDemand, IsRestriction}
-use Rattle.vc_syntax_terms.specs.Trees as trees
-use Rattle.vc_syntax_terms.specs.Trees.{Term, Relation, Condition, Binding, TableCall, Action, Statement, Demand}
-use Rattle.vc_syntax_terms.specs.Trees.{Restriction}
+use Rattle.vc_syntax_tree.specs.Trees as trees
+use Rattle.vc_syntax_tree.specs.Trees.{Term, Relation, Condition, Binding, TableCall, Action, Statement, Demand}
+use Rattle.vc_syntax_tree.specs.Trees.{Restriction}
 use Rattle.vc_syntax_print.specs.TermLexemes.{self_and_name, term_lexemes}
 use Rattle.vc_syntax_print.specs.ConditionLexemes.{separated, condition_lexemes}
 use Rattle.vc_syntax_print.specs.StatementLexemes.{binding_lexemes, call_lexemes, action_lexemes, if_lexemes}

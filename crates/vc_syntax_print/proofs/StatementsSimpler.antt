@@ -16,12 +16,12 @@ use Rattle.vc_syntax_tokens.specs.Lexemes.{named, lexeme_of_word}
 use Rattle.vc_syntax_tokens.specs.Texts.{is_dot, is_period}
 use Rattle.vc_syntax_tokens.specs.Written.{is_lexeme, is_upper, is_unreserved, is_star}
 use Rattle.vc_syntax_tokens.proofs.LexemesAgain.{reserved_again}
-use Rattle.vc_syntax_terms.specs.declared.tree.NameLeaf.{NameLeaf}
+use Rattle.vc_syntax_tree.specs.declared.NameLeaf.{NameLeaf}
 use Rattle.vc_syntax_terms.specs.Leaves.{any_name_in}
 use Rattle.vc_syntax_terms.specs.TermGrammar.{IsSign, IsAnyName, IsSelfAndName, IsSum}
 use Rattle.vc_syntax.specs.StatementGrammar as grammar
 use Rattle.vc_syntax.specs.StatementGrammar.{IsBinding, IsTable, IsAction, IsIf, IsStatement, IsDemand, IsRestriction}
-use Rattle.vc_syntax_terms.specs.Trees.{Term, Condition, Binding, TableCall, Action, Statement, Demand, Restriction}
+use Rattle.vc_syntax_tree.specs.Trees.{Term, Condition, Binding, TableCall, Action, Statement, Demand, Restriction}
 use Rattle.vc_syntax_print.specs.TermLexemes.{self_and_name, term_lexemes}
 use Rattle.vc_syntax_print.specs.ConditionLexemes.{condition_lexemes}
 use Rattle.vc_syntax_print.specs.StatementLexemes.{binding_lexemes, call_lexemes, default_lexemes, action_lexemes}

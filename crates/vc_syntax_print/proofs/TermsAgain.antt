@@ -4,20 +4,20 @@ use Rattle.vc_syntax_tokens.specs.declared.token.Token.{Token}
 use Rattle.vc_syntax_tokens.specs.declared.token.Lexeme.TheVariants as lexemes
 use Rattle.vc_syntax_tokens.specs.declared.token.Sign.TheVariants as signs
 use Rattle.vc_syntax_tokens.specs.declared.token.Dollar.TheVariants as dollars
-use Rattle.vc_syntax_terms.specs.declared.tree.NameLeaf.{NameLeaf}
-use Rattle.vc_syntax_terms.specs.declared.tree.Owner.{Owner}
-use Rattle.vc_syntax_terms.specs.declared.tree.Owner.TheVariants as owners
-use Rattle.vc_syntax_terms.specs.declared.tree.Operand.{Operand}
-use Rattle.vc_syntax_terms.specs.declared.tree.Operand.TheVariants as operands
-use Rattle.vc_syntax_terms.specs.declared.tree.Operator.{Operator}
-use Rattle.vc_syntax_terms.specs.declared.tree.Operator.TheVariants as operators
-use Rattle.vc_syntax_terms.specs.declared.tree.Function.{Function}
-use Rattle.vc_syntax_terms.specs.declared.tree.Function.TheVariants as functions
+use Rattle.vc_syntax_tree.specs.declared.NameLeaf.{NameLeaf}
+use Rattle.vc_syntax_tree.specs.declared.Owner.{Owner}
+use Rattle.vc_syntax_tree.specs.declared.Owner.TheVariants as owners
+use Rattle.vc_syntax_tree.specs.declared.Operand.{Operand}
+use Rattle.vc_syntax_tree.specs.declared.Operand.TheVariants as operands
+use Rattle.vc_syntax_tree.specs.declared.Operator.{Operator}
+use Rattle.vc_syntax_tree.specs.declared.Operator.TheVariants as operators
+use Rattle.vc_syntax_tree.specs.declared.Function.{Function}
+use Rattle.vc_syntax_tree.specs.declared.Function.TheVariants as functions
 use Rattle.vc_syntax_terms.specs.TermReading.{owner_of, function_of, product_operator_in, sum_operator_in}
 use Rattle.vc_syntax_terms.specs.TermGrammar as grammar
 use Rattle.vc_syntax_terms.specs.TermGrammar.{IsOperand, IsSelfAndName, IsFactor, IsProduct, IsSum}
-use Rattle.vc_syntax_terms.specs.Trees as trees
-use Rattle.vc_syntax_terms.specs.Trees.{Term}
+use Rattle.vc_syntax_tree.specs.Trees as trees
+use Rattle.vc_syntax_tree.specs.Trees.{Term}
 use Rattle.vc_syntax_print.specs.TermLexemes.{wrapped, wrapped_if, owner_word, function_word, operator_sign}
 use Rattle.vc_syntax_print.specs.TermLexemes.{operand_lexemes, is_sum, is_combined, self_and_name, term_lexemes}
 use Rattle.vc_syntax_print.specs.Places.{bare_name, bare_operand, bare_term}

@@ -10,20 +10,20 @@ use Rattle.vc_syntax_tokens.specs.declared.token.Dollar.TheVariants as dollars
 use Rattle.vc_syntax_tokens.specs.declared.token.Reserved.{Reserved}
 use Rattle.vc_syntax_tokens.specs.declared.token.Reserved.TheVariants as words
 use Rattle.vc_syntax_tokens.specs.Texts.{is_dot, is_period}
-use Rattle.vc_syntax_terms.specs.declared.tree.NameLeaf.{NameLeaf}
-use Rattle.vc_syntax_terms.specs.declared.tree.Owner.{Owner}
-use Rattle.vc_syntax_terms.specs.declared.tree.Owner.TheVariants as owners
-use Rattle.vc_syntax_terms.specs.declared.tree.Operand.{Operand}
-use Rattle.vc_syntax_terms.specs.declared.tree.Operator.{Operator}
-use Rattle.vc_syntax_terms.specs.declared.tree.Operator.TheVariants as operators
-use Rattle.vc_syntax_terms.specs.declared.tree.Function.{Function}
-use Rattle.vc_syntax_terms.specs.declared.tree.Function.TheVariants as functions
+use Rattle.vc_syntax_tree.specs.declared.NameLeaf.{NameLeaf}
+use Rattle.vc_syntax_tree.specs.declared.Owner.{Owner}
+use Rattle.vc_syntax_tree.specs.declared.Owner.TheVariants as owners
+use Rattle.vc_syntax_tree.specs.declared.Operand.{Operand}
+use Rattle.vc_syntax_tree.specs.declared.Operator.{Operator}
+use Rattle.vc_syntax_tree.specs.declared.Operator.TheVariants as operators
+use Rattle.vc_syntax_tree.specs.declared.Function.{Function}
+use Rattle.vc_syntax_tree.specs.declared.Function.TheVariants as functions
 use Rattle.vc_syntax_terms.specs.TermReading.{owner_of, function_of, product_operator_in, sum_operator_in}
 use Rattle.vc_syntax_terms.specs.TermGrammar as grammar
 use Rattle.vc_syntax_terms.specs.TermGrammar.{IsSign, IsOwner, IsFunction, IsOperand, IsSelfAndName, IsOnlySelf}
 use Rattle.vc_syntax_terms.specs.TermGrammar.{IsFactor, IsProduct, IsSum}
-use Rattle.vc_syntax_terms.specs.Trees as trees
-use Rattle.vc_syntax_terms.specs.Trees.{Term}
+use Rattle.vc_syntax_tree.specs.Trees as trees
+use Rattle.vc_syntax_tree.specs.Trees.{Term}
 use Rattle.vc_syntax_print.specs.TermLexemes.{wrapped, wrapped_if, owner_word, function_word, operator_sign}
 use Rattle.vc_syntax_print.specs.TermLexemes.{operand_lexemes, is_additive, is_sum, is_combined, left_needs}
 use Rattle.vc_syntax_print.specs.TermLexemes.{right_needs, self_and_name, term_lexemes}

@@ -19,8 +19,8 @@ use Rattle.vc_syntax.specs.DependencyGrammar as grammar
 use Rattle.vc_syntax.specs.DependencyGrammar.{IsDependency}
 use Rattle.vc_syntax.specs.Spelled.{Spells}
 use Rattle.vc_syntax.proofs.SpelledLaws.{one_tree}
-use Rattle.vc_syntax_terms.specs.Trees as trees
-use Rattle.vc_syntax_terms.specs.Trees.{Term, Condition, Constraint, Dependency}
+use Rattle.vc_syntax_tree.specs.Trees as trees
+use Rattle.vc_syntax_tree.specs.Trees.{Term, Condition, Constraint, Dependency}
 use Rattle.vc_syntax_print.specs.StatementLexemes.{statement_lexemes}
 use Rattle.vc_syntax_print.specs.DependencyLexemes.{dependency_lexemes, canonical_text}
 use Rattle.vc_syntax_print.specs.Places.{bare_term, bare_condition, bare_statement, bare_constraint, bare}

@@ -1,22 +1,22 @@
 -- Trees without the places of their leaves in the text.
 use Rattle.std.specs.Prelude.{map, option_map}
-use Rattle.vc_syntax_terms.specs.declared.tree.NameLeaf.{NameLeaf}
-use Rattle.vc_syntax_terms.specs.declared.tree.TextLeaf.{TextLeaf}
-use Rattle.vc_syntax_terms.specs.declared.tree.NumberLeaf.{NumberLeaf}
-use Rattle.vc_syntax_terms.specs.declared.tree.Operand.{Operand}
-use Rattle.vc_syntax_terms.specs.declared.tree.Operand.TheVariants as operands
-use Rattle.vc_syntax_terms.specs.declared.tree.SignedNumber.{SignedNumber}
-use Rattle.vc_syntax_terms.specs.declared.tree.Item.{Item}
-use Rattle.vc_syntax_terms.specs.declared.tree.Item.TheVariants as items
-use Rattle.vc_syntax_terms.specs.declared.tree.ObjectKind.{ObjectKind}
-use Rattle.vc_syntax_terms.specs.declared.tree.ObjectKind.TheVariants as kinds
-use Rattle.vc_syntax_terms.specs.declared.tree.Alias.{Alias}
-use Rattle.vc_syntax_terms.specs.declared.tree.Object.{Object}
-use Rattle.vc_syntax_terms.specs.Trees.{Term, Number, Text, Operand as Operand', Negated, Combined, Applied, SumOfParts}
-use Rattle.vc_syntax_terms.specs.Trees.{CountOfParts, Relation, Compared, Within, Condition, Or, And, Not, Related}
-use Rattle.vc_syntax_terms.specs.Trees.{Specified, PartOf, Binding, TableCall, Action, Assign, SetDefault, DelDefault}
-use Rattle.vc_syntax_terms.specs.Trees.{Calls, Statement, Demand, Relates, Holds, Never, Restriction, Constraint}
-use Rattle.vc_syntax_terms.specs.Trees.{Dependency, Precondition, Selection, Procedure, Constrains, Counts}
+use Rattle.vc_syntax_tree.specs.declared.NameLeaf.{NameLeaf}
+use Rattle.vc_syntax_tree.specs.declared.TextLeaf.{TextLeaf}
+use Rattle.vc_syntax_tree.specs.declared.NumberLeaf.{NumberLeaf}
+use Rattle.vc_syntax_tree.specs.declared.Operand.{Operand}
+use Rattle.vc_syntax_tree.specs.declared.Operand.TheVariants as operands
+use Rattle.vc_syntax_tree.specs.declared.SignedNumber.{SignedNumber}
+use Rattle.vc_syntax_tree.specs.declared.Item.{Item}
+use Rattle.vc_syntax_tree.specs.declared.Item.TheVariants as items
+use Rattle.vc_syntax_tree.specs.declared.ObjectKind.{ObjectKind}
+use Rattle.vc_syntax_tree.specs.declared.ObjectKind.TheVariants as kinds
+use Rattle.vc_syntax_tree.specs.declared.Alias.{Alias}
+use Rattle.vc_syntax_tree.specs.declared.Object.{Object}
+use Rattle.vc_syntax_tree.specs.Trees.{Term, Number, Text, Operand as Operand', Negated, Combined, Applied, SumOfParts}
+use Rattle.vc_syntax_tree.specs.Trees.{CountOfParts, Relation, Compared, Within, Condition, Or, And, Not, Related}
+use Rattle.vc_syntax_tree.specs.Trees.{Specified, PartOf, Binding, TableCall, Action, Assign, SetDefault, DelDefault}
+use Rattle.vc_syntax_tree.specs.Trees.{Calls, Statement, Demand, Relates, Holds, Never, Restriction, Constraint}
+use Rattle.vc_syntax_tree.specs.Trees.{Dependency, Precondition, Selection, Procedure, Constrains, Counts}
 
 abbrev pub bare_name : NameLeaf → NameLeaf
 bare_name leaf = record { name = leaf.name; start = 0; end = 0 }

@@ -6,9 +6,9 @@ use Rattle.vc_syntax_tokens.specs.declared.token.Sign.TheVariants as signs
 use Rattle.vc_syntax_tokens.specs.declared.token.Dollar.TheVariants as dollars
 use Rattle.vc_syntax_tokens.specs.declared.token.Reserved.TheVariants as words
 use Rattle.vc_syntax_tokens.specs.Lexemes.{lexeme_of_word}
-use Rattle.vc_syntax_terms.specs.declared.tree.NameLeaf.{NameLeaf}
-use Rattle.vc_syntax_terms.specs.Trees.{Term, Condition, Binding, TableCall, Action, Assign, SetDefault, DelDefault}
-use Rattle.vc_syntax_terms.specs.Trees.{Calls, Statement, Demand, Relates, Holds, Never, Restriction}
+use Rattle.vc_syntax_tree.specs.declared.NameLeaf.{NameLeaf}
+use Rattle.vc_syntax_tree.specs.Trees.{Term, Condition, Binding, TableCall, Action, Assign, SetDefault, DelDefault}
+use Rattle.vc_syntax_tree.specs.Trees.{Calls, Statement, Demand, Relates, Holds, Never, Restriction}
 use Rattle.vc_syntax_print.specs.TermLexemes.{wrapped, self_and_name, term_lexemes}
 use Rattle.vc_syntax_print.specs.ConditionLexemes.{separated, relation_lexemes, condition_lexemes}
 

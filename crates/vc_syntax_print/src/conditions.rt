@@ -4,15 +4,15 @@ ghost use Rattle.std.specs.Prelude.{◌≡◌, ◌++◌, ◌∷◌, [], OnOk};
 ghost use Rattle.vc_syntax_tokens.specs.declared.token.Lexeme.TheVariants as lexemes;
 ghost use Rattle.vc_syntax_tokens.specs.declared.token.Sign.TheVariants as signs;
 ghost use Rattle.vc_syntax_tokens.specs.declared.token.Reserved.TheVariants as words;
-ghost use Rattle.vc_syntax_terms.specs.Trees.{relation_of, condition_of};
+ghost use Rattle.vc_syntax_tree.specs.Trees.{relation_of, condition_of};
 ghost use Rattle.vc_syntax_print.specs.TermLexemes.{wrapped, wrapped_if, operand_lexemes};
 ghost use Rattle.vc_syntax_print.specs.ConditionLexemes as prints;
 
 use crate::leaves::{put_number, put_sign, put_text, put_variable, put_word};
 use crate::terms::{put_operand, put_term};
 use std::alloc::{AllocError, Global};
-use vc_syntax_terms::tree::{Condition, Item, NameLeaf, Operand, Relation, Relator, SignedNumber};
 use vc_syntax_tokens::token::{Lexeme, Reserved, Sign};
+use vc_syntax_tree::{Condition, Item, NameLeaf, Operand, Relation, Relator, SignedNumber};
 use vc_value::Listed;
 
 fn put_signed(out: &mut Listed<Lexeme>, signed: SignedNumber) -> Result<(), AllocError>

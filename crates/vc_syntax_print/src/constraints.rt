@@ -5,7 +5,7 @@ ghost use Rattle.vc_syntax_tokens.specs.declared.token.Lexeme.TheVariants as lex
 ghost use Rattle.vc_syntax_tokens.specs.declared.token.Sign.TheVariants as signs;
 ghost use Rattle.vc_syntax_tokens.specs.declared.token.Reserved.TheVariants as words;
 ghost use Rattle.vc_syntax_tokens.specs.Lexemes.{lexeme_of_word};
-ghost use Rattle.vc_syntax_terms.specs.Trees.{condition_of, restriction_of, constraint_of};
+ghost use Rattle.vc_syntax_tree.specs.Trees.{condition_of, restriction_of, constraint_of};
 ghost use Rattle.vc_syntax_print.specs.TermLexemes.{wrapped, operand_lexemes};
 ghost use Rattle.vc_syntax_print.specs.ConditionLexemes.{each_behind, separated};
 ghost use Rattle.vc_syntax_print.specs.StatementLexemes.{restriction_lexemes};
@@ -18,10 +18,10 @@ use crate::leaves::{
 use crate::statements::put_restrictions;
 use crate::terms::put_operand;
 use std::alloc::{AllocError, Global};
-use vc_syntax_terms::tree::{
+use vc_syntax_tokens::token::{Lexeme, Reserved, Sign};
+use vc_syntax_tree::{
     Alias, Condition, Constraint, NameLeaf, Object, ObjectKind, Operand, Restriction, TextLeaf,
 };
-use vc_syntax_tokens::token::{Lexeme, Reserved, Sign};
 use vc_value::{Dec, Listed};
 
 /// The type of a class that objects have, 300.

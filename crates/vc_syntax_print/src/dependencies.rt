@@ -3,8 +3,8 @@
 ghost use Rattle.std.specs.Prelude.{◌≡◌, ◌++◌, ℕ, List, IfOk, OnOk};
 ghost use Rattle.vc_syntax_tokens.specs.declared.fault.Kind.{Kind};
 ghost use Rattle.vc_syntax.specs.Spelled.{Spells};
-ghost use Rattle.vc_syntax_terms.specs.Trees as trees;
-ghost use Rattle.vc_syntax_terms.specs.Trees.{dependency_of, term_of};
+ghost use Rattle.vc_syntax_tree.specs.Trees as trees;
+ghost use Rattle.vc_syntax_tree.specs.Trees.{dependency_of, term_of};
 ghost use Rattle.vc_syntax_print.specs.DependencyLexemes as prints;
 ghost use Rattle.vc_syntax_print.specs.Places.{bare};
 
@@ -13,9 +13,9 @@ use crate::constraints::put_constraint;
 use crate::statements::put_statements;
 use crate::terms::put_term;
 use std::alloc::{AllocError, Global};
-use vc_syntax_terms::tree::{Dependency, Term};
 use vc_syntax_tokens::printing::text_of;
 use vc_syntax_tokens::token::Lexeme;
+use vc_syntax_tree::{Dependency, Term};
 use vc_value::{Listed, Word};
 
 fn put_dependency(

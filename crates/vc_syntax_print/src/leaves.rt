@@ -5,9 +5,9 @@ ghost use Rattle.vc_syntax_tokens.specs.Lexemes.{lexeme_of_word};
 ghost use Rattle.vc_syntax_tokens.specs.declared.token.Lexeme.TheVariants as lexemes;
 
 use std::alloc::{AllocError, Global};
-use vc_syntax_terms::tree::{NameLeaf, TextLeaf};
 use vc_syntax_tokens::lexing::lexeme_of_word;
 use vc_syntax_tokens::token::{Dollar, Lexeme, Reserved, Sign};
+use vc_syntax_tree::{NameLeaf, TextLeaf};
 use vc_value::{Dec, Listed, Word};
 
 /// Puts a sign.

@@ -5,8 +5,8 @@ ghost use Rattle.vc_syntax_tokens.specs.declared.token.Lexeme.TheVariants as lex
 ghost use Rattle.vc_syntax_tokens.specs.declared.token.Sign.TheVariants as signs;
 ghost use Rattle.vc_syntax_tokens.specs.declared.token.Dollar.TheVariants as dollars;
 ghost use Rattle.vc_syntax_tokens.specs.declared.token.Reserved.TheVariants as words;
-ghost use Rattle.vc_syntax_terms.specs.Trees.{term_of, condition_of, binding_of, table_call_of, action_of};
-ghost use Rattle.vc_syntax_terms.specs.Trees.{statement_of, demand_of, restriction_of};
+ghost use Rattle.vc_syntax_tree.specs.Trees.{term_of, condition_of, binding_of, table_call_of, action_of};
+ghost use Rattle.vc_syntax_tree.specs.Trees.{statement_of, demand_of, restriction_of};
 ghost use Rattle.vc_syntax_print.specs.TermLexemes.{wrapped, term_lexemes};
 ghost use Rattle.vc_syntax_print.specs.ConditionLexemes.{each_behind, separated};
 ghost use Rattle.vc_syntax_print.specs.StatementLexemes as prints;
@@ -15,10 +15,10 @@ use crate::conditions::{put_condition, put_relation};
 use crate::leaves::{put_any_name, put_dollar, put_name, put_sign, put_word};
 use crate::terms::{put_self_and_name, put_term};
 use std::alloc::{AllocError, Global};
-use vc_syntax_terms::tree::{
+use vc_syntax_tokens::token::{Dollar, Lexeme, Reserved, Sign};
+use vc_syntax_tree::{
     Action, Binding, Condition, Demand, NameLeaf, Restriction, Statement, TableCall, Term,
 };
-use vc_syntax_tokens::token::{Dollar, Lexeme, Reserved, Sign};
 use vc_value::Listed;
 
 fn put_assigned(

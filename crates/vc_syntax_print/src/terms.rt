@@ -4,13 +4,13 @@ ghost use Rattle.std.specs.Prelude.{◌≡◌, ◌++◌, ◌∷◌, [], OnOk};
 ghost use Rattle.vc_syntax_tokens.specs.declared.token.Lexeme.TheVariants as lexemes;
 ghost use Rattle.vc_syntax_tokens.specs.declared.token.Sign.TheVariants as signs;
 ghost use Rattle.vc_syntax_tokens.specs.declared.token.Dollar.TheVariants as dollars;
-ghost use Rattle.vc_syntax_terms.specs.Trees.{term_of};
+ghost use Rattle.vc_syntax_tree.specs.Trees.{term_of};
 ghost use Rattle.vc_syntax_print.specs.TermLexemes as prints;
 
 use crate::leaves::{put_dollar, put_name, put_number, put_sign, put_text, put_variable, put_word};
 use std::alloc::{AllocError, Global};
-use vc_syntax_terms::tree::{Function, NameLeaf, Operand, Operator, Owner, Term};
 use vc_syntax_tokens::token::{Dollar, Lexeme, Reserved, Sign};
+use vc_syntax_tree::{Function, NameLeaf, Operand, Operator, Owner, Term};
 use vc_value::Listed;
 
 fn owner_word(owner: Owner) -> Dollar

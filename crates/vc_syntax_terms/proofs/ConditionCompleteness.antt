@@ -7,14 +7,14 @@ use Rattle.vc_syntax_tokens.specs.declared.token.Lexeme.TheVariants as lexemes
 use Rattle.vc_syntax_tokens.specs.declared.token.Sign.TheVariants as signs
 use Rattle.vc_syntax_tokens.specs.declared.token.Reserved.{Reserved}
 use Rattle.vc_syntax_tokens.specs.declared.token.Reserved.TheVariants as words
-use Rattle.vc_syntax_terms.specs.declared.tree.NameLeaf.{NameLeaf}
-use Rattle.vc_syntax_terms.specs.declared.tree.TextLeaf.{TextLeaf}
-use Rattle.vc_syntax_terms.specs.declared.tree.NumberLeaf.{NumberLeaf}
-use Rattle.vc_syntax_terms.specs.declared.tree.Operand.{Operand}
-use Rattle.vc_syntax_terms.specs.declared.tree.SignedNumber.{SignedNumber}
-use Rattle.vc_syntax_terms.specs.declared.tree.Item.{Item}
-use Rattle.vc_syntax_terms.specs.declared.tree.Item.TheVariants as items
-use Rattle.vc_syntax_terms.specs.declared.tree.Relator.{Relator}
+use Rattle.vc_syntax_tree.specs.declared.NameLeaf.{NameLeaf}
+use Rattle.vc_syntax_tree.specs.declared.TextLeaf.{TextLeaf}
+use Rattle.vc_syntax_tree.specs.declared.NumberLeaf.{NumberLeaf}
+use Rattle.vc_syntax_tree.specs.declared.Operand.{Operand}
+use Rattle.vc_syntax_tree.specs.declared.SignedNumber.{SignedNumber}
+use Rattle.vc_syntax_tree.specs.declared.Item.{Item}
+use Rattle.vc_syntax_tree.specs.declared.Item.TheVariants as items
+use Rattle.vc_syntax_tree.specs.declared.Relator.{Relator}
 use Rattle.vc_syntax_terms.specs.Leaves.{is_sign, is_word, text_in, number_in, after_sign, after_word}
 use Rattle.vc_syntax_terms.specs.Reading.{Reader, then, either, or_else, made, leaving, leaving_as, closed, grouped}
 use Rattle.vc_syntax_terms.specs.Reading.{word, listed, chained}
@@ -24,8 +24,8 @@ use Rattle.vc_syntax_terms.specs.ConditionReading.{relator_in, relator, text_ahe
 use Rattle.vc_syntax_terms.specs.ConditionReading.{with_sign, signed_number, numbers, item, comparison, within}
 use Rattle.vc_syntax_terms.specs.ConditionReading.{relation, part_of, specified_behind, plain_condition, negation_in}
 use Rattle.vc_syntax_terms.specs.ConditionReading.{both, any, negation, conjunction, condition}
-use Rattle.vc_syntax_terms.specs.Trees as trees
-use Rattle.vc_syntax_terms.specs.Trees.{Term, Relation, Condition}
+use Rattle.vc_syntax_tree.specs.Trees as trees
+use Rattle.vc_syntax_tree.specs.Trees.{Term, Relation, Condition}
 use Rattle.vc_syntax_terms.specs.TermGrammar as terms
 use Rattle.vc_syntax_terms.specs.TermGrammar.{IsSign, IsWord, IsVariable, IsText, IsNumber, IsOperand, IsSum}
 use Rattle.vc_syntax_terms.specs.ConditionGrammar as grammar

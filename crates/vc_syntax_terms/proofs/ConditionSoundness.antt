@@ -6,14 +6,14 @@ use Rattle.vc_syntax_tokens.specs.declared.token.Lexeme.{Lexeme}
 use Rattle.vc_syntax_tokens.specs.declared.token.Lexeme.TheVariants as lexemes
 use Rattle.vc_syntax_tokens.specs.declared.token.Sign.TheVariants as signs
 use Rattle.vc_syntax_tokens.specs.declared.token.Reserved.TheVariants as words
-use Rattle.vc_syntax_terms.specs.declared.tree.NameLeaf.{NameLeaf}
-use Rattle.vc_syntax_terms.specs.declared.tree.TextLeaf.{TextLeaf}
-use Rattle.vc_syntax_terms.specs.declared.tree.NumberLeaf.{NumberLeaf}
-use Rattle.vc_syntax_terms.specs.declared.tree.Operand.{Operand}
-use Rattle.vc_syntax_terms.specs.declared.tree.SignedNumber.{SignedNumber}
-use Rattle.vc_syntax_terms.specs.declared.tree.Item.{Item}
-use Rattle.vc_syntax_terms.specs.declared.tree.Item.TheVariants as items
-use Rattle.vc_syntax_terms.specs.declared.tree.Relator.{Relator}
+use Rattle.vc_syntax_tree.specs.declared.NameLeaf.{NameLeaf}
+use Rattle.vc_syntax_tree.specs.declared.TextLeaf.{TextLeaf}
+use Rattle.vc_syntax_tree.specs.declared.NumberLeaf.{NumberLeaf}
+use Rattle.vc_syntax_tree.specs.declared.Operand.{Operand}
+use Rattle.vc_syntax_tree.specs.declared.SignedNumber.{SignedNumber}
+use Rattle.vc_syntax_tree.specs.declared.Item.{Item}
+use Rattle.vc_syntax_tree.specs.declared.Item.TheVariants as items
+use Rattle.vc_syntax_tree.specs.declared.Relator.{Relator}
 use Rattle.vc_syntax_terms.specs.Leaves.{text_of, number_of, variable_of, after_sign, after_word}
 use Rattle.vc_syntax_terms.specs.Reading.{Reader, then, either, or_else, made, leaving_as, closed, grouped, word}
 use Rattle.vc_syntax_terms.specs.Reading.{listed}
@@ -23,8 +23,8 @@ use Rattle.vc_syntax_terms.specs.ConditionReading.{with_sign, signed_number, num
 use Rattle.vc_syntax_terms.specs.ConditionReading.{relation, part_of, specified_behind, plain_condition, negation_in}
 use Rattle.vc_syntax_terms.specs.ConditionReading.{negation_by, both, any, conjunction_by, condition_by, negation}
 use Rattle.vc_syntax_terms.specs.ConditionReading.{conjunction, condition}
-use Rattle.vc_syntax_terms.specs.Trees as trees
-use Rattle.vc_syntax_terms.specs.Trees.{Term, Relation, Condition}
+use Rattle.vc_syntax_tree.specs.Trees as trees
+use Rattle.vc_syntax_tree.specs.Trees.{Term, Relation, Condition}
 use Rattle.vc_syntax_terms.specs.TermGrammar.{IsSign, IsWord, IsVariable, IsText, IsNumber, IsOperand, IsSum}
 use Rattle.vc_syntax_terms.specs.ConditionGrammar as grammar
 use Rattle.vc_syntax_terms.specs.ConditionGrammar.{IsRelator, IsListed, IsSignedNumber, IsItem, IsRelation, IsNegation}

@@ -6,17 +6,17 @@ use Rattle.vc_syntax_tokens.specs.declared.token.Lexeme.{Lexeme}
 use Rattle.vc_syntax_tokens.specs.declared.token.Lexeme.TheVariants as lexemes
 use Rattle.vc_syntax_tokens.specs.declared.token.Sign.TheVariants as signs
 use Rattle.vc_syntax_tokens.specs.declared.token.Dollar.TheVariants as dollars
-use Rattle.vc_syntax_terms.specs.declared.tree.NameLeaf.{NameLeaf}
-use Rattle.vc_syntax_terms.specs.declared.tree.TextLeaf.{TextLeaf}
-use Rattle.vc_syntax_terms.specs.declared.tree.NumberLeaf.{NumberLeaf}
-use Rattle.vc_syntax_terms.specs.declared.tree.Operand.{Operand}
-use Rattle.vc_syntax_terms.specs.declared.tree.Operand.TheVariants as operands
-use Rattle.vc_syntax_terms.specs.declared.tree.Operator.{Operator}
+use Rattle.vc_syntax_tree.specs.declared.NameLeaf.{NameLeaf}
+use Rattle.vc_syntax_tree.specs.declared.TextLeaf.{TextLeaf}
+use Rattle.vc_syntax_tree.specs.declared.NumberLeaf.{NumberLeaf}
+use Rattle.vc_syntax_tree.specs.declared.Operand.{Operand}
+use Rattle.vc_syntax_tree.specs.declared.Operand.TheVariants as operands
+use Rattle.vc_syntax_tree.specs.declared.Operator.{Operator}
 use Rattle.vc_syntax_terms.specs.Leaves.{is_sign, name_in, variable_in, text_in, number_in, after_sign, after_self}
 use Rattle.vc_syntax_terms.specs.Leaves.{named}
 use Rattle.vc_syntax_terms.specs.Reading.{Reader, then, either, made, leaving, closed, grouped, chained}
-use Rattle.vc_syntax_terms.specs.Trees as trees
-use Rattle.vc_syntax_terms.specs.Trees.{Term}
+use Rattle.vc_syntax_tree.specs.Trees as trees
+use Rattle.vc_syntax_tree.specs.Trees.{Term}
 use Rattle.vc_syntax_terms.specs.TermReading.{dotted, member, operand_in, operand, product_operator_in, sum_operator_in}
 use Rattle.vc_syntax_terms.specs.TermReading.{product_operator, sum_operator, self_and_name, only_self, factor_in, join}
 use Rattle.vc_syntax_terms.specs.TermReading.{factor, product, sum}

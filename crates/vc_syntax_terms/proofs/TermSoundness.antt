@@ -7,18 +7,18 @@ use Rattle.vc_syntax_tokens.specs.declared.token.Lexeme.TheVariants as lexemes
 use Rattle.vc_syntax_tokens.specs.declared.token.Sign.TheVariants as signs
 use Rattle.vc_syntax_tokens.specs.declared.token.Dollar.{Dollar}
 use Rattle.vc_syntax_tokens.specs.declared.token.Dollar.TheVariants as dollars
-use Rattle.vc_syntax_terms.specs.declared.tree.NameLeaf.{NameLeaf}
-use Rattle.vc_syntax_terms.specs.declared.tree.TextLeaf.{TextLeaf}
-use Rattle.vc_syntax_terms.specs.declared.tree.NumberLeaf.{NumberLeaf}
-use Rattle.vc_syntax_terms.specs.declared.tree.Owner.{Owner}
-use Rattle.vc_syntax_terms.specs.declared.tree.Operand.{Operand}
-use Rattle.vc_syntax_terms.specs.declared.tree.Operand.TheVariants as operands
-use Rattle.vc_syntax_terms.specs.declared.tree.Operator.{Operator}
-use Rattle.vc_syntax_terms.specs.declared.tree.Function.{Function}
+use Rattle.vc_syntax_tree.specs.declared.NameLeaf.{NameLeaf}
+use Rattle.vc_syntax_tree.specs.declared.TextLeaf.{TextLeaf}
+use Rattle.vc_syntax_tree.specs.declared.NumberLeaf.{NumberLeaf}
+use Rattle.vc_syntax_tree.specs.declared.Owner.{Owner}
+use Rattle.vc_syntax_tree.specs.declared.Operand.{Operand}
+use Rattle.vc_syntax_tree.specs.declared.Operand.TheVariants as operands
+use Rattle.vc_syntax_tree.specs.declared.Operator.{Operator}
+use Rattle.vc_syntax_tree.specs.declared.Function.{Function}
 use Rattle.vc_syntax_terms.specs.Leaves.{name_of, variable_of, text_of, number_of, after_sign, after_self, named}
 use Rattle.vc_syntax_terms.specs.Reading.{Reader, then, made, closed, grouped}
-use Rattle.vc_syntax_terms.specs.Trees as trees
-use Rattle.vc_syntax_terms.specs.Trees.{Term}
+use Rattle.vc_syntax_tree.specs.Trees as trees
+use Rattle.vc_syntax_tree.specs.Trees.{Term}
 use Rattle.vc_syntax_terms.specs.TermReading.{owner_of, dotted, member, operand_in, operand, function_of}
 use Rattle.vc_syntax_terms.specs.TermReading.{product_operator_in, sum_operator_in, product_operator, sum_operator}
 use Rattle.vc_syntax_terms.specs.TermReading.{self_and_name, only_self, dollar_factor, plain_factor, factor_in}

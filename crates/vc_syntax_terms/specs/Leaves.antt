@@ -9,9 +9,9 @@ use Rattle.vc_syntax_tokens.specs.Spellings.{reserved_spelling}
 use Rattle.vc_syntax_tokens.specs.declared.token.Token.{Token}
 use Rattle.vc_syntax_tokens.specs.declared.token.Lexeme.{Lexeme}
 use Rattle.vc_syntax_tokens.specs.declared.token.Lexeme.TheVariants as lexemes
-use Rattle.vc_syntax_terms.specs.declared.tree.NameLeaf.{NameLeaf}
-use Rattle.vc_syntax_terms.specs.declared.tree.TextLeaf.{TextLeaf}
-use Rattle.vc_syntax_terms.specs.declared.tree.NumberLeaf.{NumberLeaf}
+use Rattle.vc_syntax_tree.specs.declared.NameLeaf.{NameLeaf}
+use Rattle.vc_syntax_tree.specs.declared.TextLeaf.{TextLeaf}
+use Rattle.vc_syntax_tree.specs.declared.NumberLeaf.{NumberLeaf}
 use Rattle.vc_syntax_tokens.specs.declared.token.Dollar.TheVariants as dollars
 
 abbrev pub name_in : Lexeme → ℕ → ℕ → Option NameLeaf

@@ -4,4 +4,3 @@ pub mod Leaves
 pub mod Reading
 pub mod TermGrammar
 pub mod TermReading
-pub mod Trees

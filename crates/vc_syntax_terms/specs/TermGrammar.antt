@@ -8,18 +8,18 @@ use Rattle.vc_syntax_tokens.specs.declared.token.Sign.TheVariants.{OpenParen, Cl
 use Rattle.vc_syntax_tokens.specs.declared.token.Dollar.{Dollar}
 use Rattle.vc_syntax_tokens.specs.declared.token.Dollar.TheVariants.{Itself, SumParts, CountParts}
 use Rattle.vc_syntax_tokens.specs.declared.token.Reserved.{Reserved}
-use Rattle.vc_syntax_terms.specs.declared.tree.NameLeaf.{NameLeaf}
-use Rattle.vc_syntax_terms.specs.declared.tree.TextLeaf.{TextLeaf}
-use Rattle.vc_syntax_terms.specs.declared.tree.NumberLeaf.{NumberLeaf}
-use Rattle.vc_syntax_terms.specs.declared.tree.Owner.{Owner}
-use Rattle.vc_syntax_terms.specs.declared.tree.Operand.{Operand}
-use Rattle.vc_syntax_terms.specs.declared.tree.Operand.TheVariants.{Plain, Owned, Member, Variable}
-use Rattle.vc_syntax_terms.specs.declared.tree.Operator.{Operator}
-use Rattle.vc_syntax_terms.specs.declared.tree.Function.{Function}
+use Rattle.vc_syntax_tree.specs.declared.NameLeaf.{NameLeaf}
+use Rattle.vc_syntax_tree.specs.declared.TextLeaf.{TextLeaf}
+use Rattle.vc_syntax_tree.specs.declared.NumberLeaf.{NumberLeaf}
+use Rattle.vc_syntax_tree.specs.declared.Owner.{Owner}
+use Rattle.vc_syntax_tree.specs.declared.Operand.{Operand}
+use Rattle.vc_syntax_tree.specs.declared.Operand.TheVariants.{Plain, Owned, Member, Variable}
+use Rattle.vc_syntax_tree.specs.declared.Operator.{Operator}
+use Rattle.vc_syntax_tree.specs.declared.Function.{Function}
 use Rattle.vc_syntax_terms.specs.Leaves.{name_of, any_name_of, variable_of, text_of, number_of}
 use Rattle.vc_syntax_terms.specs.TermReading.{owner_of, function_of, product_operator_in, sum_operator_in}
-use Rattle.vc_syntax_terms.specs.Trees as trees
-use Rattle.vc_syntax_terms.specs.Trees.{Term}
+use Rattle.vc_syntax_tree.specs.Trees as trees
+use Rattle.vc_syntax_tree.specs.Trees.{Term}
 
 -- the token is this sign, this word, this `$` word
 abbrev pub IsSign : Sign → Token → Type 0

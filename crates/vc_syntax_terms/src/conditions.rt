@@ -4,8 +4,8 @@ ghost use Rattle.std.specs.Prelude.{Some};
 ghost use Rattle.vc_syntax_terms.specs.ConditionReading as reads;
 ghost use Rattle.vc_syntax_terms.specs.Reading.{Gives, made, closed, listed, or_else};
 ghost use Rattle.vc_syntax_terms.specs.TermReading as terms;
-ghost use Rattle.vc_syntax_terms.specs.Trees as trees;
-ghost use Rattle.vc_syntax_terms.specs.Trees.{relation_of, condition_of};
+ghost use Rattle.vc_syntax_tree.specs.Trees as trees;
+ghost use Rattle.vc_syntax_tree.specs.Trees.{relation_of, condition_of};
 ghost use Rattle.vc_syntax_tokens.specs.declared.token.Sign.TheVariants as signs;
 
 use crate::reading::{
@@ -13,11 +13,11 @@ use crate::reading::{
     word_ahead,
 };
 use crate::terms::{operand, sum};
-use crate::tree::{
-    Condition, Item, NameLeaf, NumberLeaf, Relation, Relator, SignedNumber, TextLeaf,
-};
 use std::alloc::Global;
 use vc_syntax_tokens::token::{Lexeme, Reserved, Sign, Token};
+use vc_syntax_tree::{
+    Condition, Item, NameLeaf, NumberLeaf, Relation, Relator, SignedNumber, TextLeaf,
+};
 use vc_value::Listed;
 
 fn relator_of(token: &Token) -> Result<Relator, ReadFault>

@@ -4,4 +4,3 @@
 pub mod conditions;
 pub mod reading;
 pub mod terms;
-pub mod tree;

@@ -6,10 +6,10 @@ ghost use Rattle.vc_syntax_terms.specs.Leaves.{name_of, any_name_of, any_named, 
 ghost use Rattle.vc_syntax_terms.specs.Leaves.{after_self, after_sign, after_word, named};
 ghost use Rattle.vc_syntax_terms.specs.Reading.{Gives};
 
-use crate::tree::{NameLeaf, NumberLeaf, TextLeaf};
 use std::alloc::{AllocError, AllocFailed, Global};
 use vc_syntax_tokens::spelling::reserved_spelling;
 use vc_syntax_tokens::token::{Dollar, Lexeme, Reserved, Sign, Token};
+use vc_syntax_tree::{NameLeaf, NumberLeaf, TextLeaf};
 use vc_value::Word;
 
 /// Why tokens were not read.

@@ -4,16 +4,16 @@ ghost use Rattle.std.specs.Prelude.{◌≡◌, option_map, Some};
 ghost use Rattle.vc_syntax_terms.specs.Reading.{Gives, made, closed};
 ghost use Rattle.vc_syntax_terms.specs.TermReading as reads;
 ghost use Rattle.vc_syntax_terms.specs.TermReading.{join};
-ghost use Rattle.vc_syntax_terms.specs.Trees as trees;
-ghost use Rattle.vc_syntax_terms.specs.Trees.{term_of};
+ghost use Rattle.vc_syntax_tree.specs.Trees as trees;
+ghost use Rattle.vc_syntax_tree.specs.Trees.{term_of};
 
 use crate::reading::{
     ReadFault, after_self, after_sign, name_leaf, named, number_leaf, sign_ahead, text_leaf,
     variable_leaf,
 };
-use crate::tree::{Function, NameLeaf, Operand, Operator, Owner, Term};
 use std::alloc::Global;
 use vc_syntax_tokens::token::{Dollar, Lexeme, Reserved, Sign, Token};
+use vc_syntax_tree::{Function, NameLeaf, Operand, Operator, Owner, Term};
 
 fn owner_of(dollar: Dollar) -> Result<Owner, ReadFault>
     ensures { Gives (λ owner. owner) result (reads.owner_of dollar) }

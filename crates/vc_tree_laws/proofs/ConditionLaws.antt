@@ -8,7 +8,7 @@ use Rattle.vc_syntax_tokens.specs.declared.token.Lexeme.TheVariants as lexemes
 use Rattle.vc_syntax_tokens.specs.declared.token.Reserved.TheVariants as words
 use Rattle.vc_syntax_tokens.specs.declared.token.Sign.TheVariants as signs
 use Rattle.vc_syntax_tokens.specs.declared.token.Token.{Token}
-use Rattle.vc_syntax_terms.specs.Trees as trees
+use Rattle.vc_syntax_tree.specs.Trees as trees
 use Rattle.vc_syntax_terms.specs.Reading.{Reader, then, either, made, leaving_as, closed, grouped}
 use Rattle.vc_syntax_terms.specs.Reading.{listed, word}
 use Rattle.vc_tree_laws.specs.Literals.{is_literal}
@@ -21,10 +21,10 @@ use Rattle.vc_tree_laws.proofs.ReadingLemmas.{put_keeps, leaf_keeps, rest_good, 
 use Rattle.vc_tree_laws.proofs.ReadingLemmas.{word_leaves}
 use Rattle.vc_tree_laws.proofs.ReadingLemmas.{word_reads, closed_keeps, grouped_reads, chain_reads}
 use Rattle.vc_tree_laws.proofs.ReadingLemmas.{listed_reads}
-use Rattle.vc_syntax_terms.specs.declared.tree.Item.{Item}
-use Rattle.vc_syntax_terms.specs.declared.tree.Item.TheVariants as items
+use Rattle.vc_syntax_tree.specs.declared.Item.{Item}
+use Rattle.vc_syntax_tree.specs.declared.Item.TheVariants as items
 use Rattle.vc_syntax_terms.specs.Leaves.{variable_of, text_of, number_of, after_sign, after_word}
-use Rattle.vc_syntax_terms.specs.Trees.{Term, Relation, Condition}
+use Rattle.vc_syntax_tree.specs.Trees.{Term, Relation, Condition}
 use Rattle.vc_syntax_terms.specs.TermReading.{operand, sum}
 use Rattle.vc_syntax_terms.specs.ConditionReading.{relator_in, relator, text_ahead, number_ahead, variable_ahead}
 use Rattle.vc_syntax_terms.specs.ConditionReading.{with_sign, signed_number, numbers, item}

@@ -6,7 +6,7 @@ use Rattle.std.specs.Result.{result_ok}
 use Rattle.vc_syntax_tokens.specs.declared.fault.Kind.{Kind}
 use Rattle.vc_syntax_tokens.specs.declared.fault.Kind.TheVariants as kinds
 use Rattle.vc_syntax_tokens.specs.declared.fault.SyntaxFault.{SyntaxFault}
-use Rattle.vc_syntax_terms.specs.Trees.{Constrains, Counts, Dependency, Precondition, Procedure, Selection, Term}
+use Rattle.vc_syntax_tree.specs.Trees.{Constrains, Counts, Dependency, Precondition, Procedure, Selection, Term}
 use Rattle.vc_syntax.specs.DependencyTexts.{dependency_in}
 use Rattle.vc_syntax.proofs.SpelledLaws as ways
 use Rattle.vc_syntax.proofs.SpelledLaws.{Found, found}

@@ -8,7 +8,7 @@ use Rattle.std.specs.Str.{IsAscii}
 use Rattle.std.proofs.lemmas.Str.{IsUtf8-append, IsUtf8-nil, IsUtf8-from_ascii, IsUtf8-from_is_utf8}
 use Rattle.vc_syntax_tokens.specs.declared.fault.Kind.{Kind}
 use Rattle.vc_syntax_tokens.specs.declared.fault.SyntaxFault.{SyntaxFault}
-use Rattle.vc_syntax_terms.specs.Trees.{Dependency}
+use Rattle.vc_syntax_tree.specs.Trees.{Dependency}
 use Rattle.vc_syntax.specs.DependencyTexts.{dependency_in}
 use Rattle.vc_syntax.proofs.SpelledLaws as ways
 use Rattle.vc_syntax.proofs.SpelledLaws.{Found, found}

@@ -9,8 +9,8 @@ use Rattle.vc_syntax_tokens.specs.declared.token.Lexeme.TheVariants as lexemes
 use Rattle.vc_syntax_tokens.specs.declared.token.Reserved.TheVariants as words
 use Rattle.vc_syntax_tokens.specs.declared.token.Sign.TheVariants as signs
 use Rattle.vc_syntax_tokens.specs.declared.token.Token.{Token}
-use Rattle.vc_syntax_terms.specs.declared.tree.NameLeaf.{NameLeaf}
-use Rattle.vc_syntax_terms.specs.Trees as trees
+use Rattle.vc_syntax_tree.specs.declared.NameLeaf.{NameLeaf}
+use Rattle.vc_syntax_tree.specs.Trees as trees
 use Rattle.vc_syntax_terms.specs.Reading.{Reader, then, or_else, made, leaving_as, closed, grouped}
 use Rattle.vc_syntax_terms.specs.Reading.{listed}
 use Rattle.vc_tree_laws.specs.Literals.{is_literal}
@@ -22,10 +22,10 @@ use Rattle.vc_tree_laws.proofs.ReadingLemmas.{put_keeps, rest_good, some_if, sig
 use Rattle.vc_tree_laws.proofs.ReadingLemmas.{word_leaves}
 use Rattle.vc_tree_laws.proofs.ReadingLemmas.{closed_keeps, grouped_reads}
 use Rattle.vc_tree_laws.proofs.ReadingLemmas.{listed_reads}
-use Rattle.vc_syntax_terms.specs.declared.tree.ObjectKind.TheVariants as kinds
+use Rattle.vc_syntax_tree.specs.declared.ObjectKind.TheVariants as kinds
 use Rattle.vc_syntax_terms.specs.Leaves.{after_sign, after_word, named, any_named}
-use Rattle.vc_syntax_terms.specs.Trees.{Term, Relation, Condition, Binding, TableCall, Action, Statement, Demand}
-use Rattle.vc_syntax_terms.specs.Trees.{Restriction, Constraint}
+use Rattle.vc_syntax_tree.specs.Trees.{Term, Relation, Condition, Binding, TableCall, Action, Statement, Demand}
+use Rattle.vc_syntax_tree.specs.Trees.{Restriction, Constraint}
 use Rattle.vc_syntax_terms.specs.TermReading.{dotted, operand, self_and_name, sum}
 use Rattle.vc_syntax_terms.specs.ConditionReading.{relation, condition, text_ahead, variable_ahead}
 use Rattle.vc_syntax.specs.StatementReading.{bind, call, state, demand, binding, table_call, assignment, defaulted}

@@ -8,12 +8,12 @@ use Rattle.vc_syntax_tokens.specs.declared.token.Lexeme.{Lexeme}
 use Rattle.vc_syntax_tokens.specs.declared.token.Lexeme.TheVariants as lexemes
 use Rattle.vc_syntax_tokens.specs.declared.token.Sign.TheVariants as signs
 use Rattle.vc_syntax_tokens.specs.declared.token.Token.{Token}
-use Rattle.vc_syntax_terms.specs.declared.tree.NameLeaf.{NameLeaf}
-use Rattle.vc_syntax_terms.specs.declared.tree.TextLeaf.{TextLeaf}
-use Rattle.vc_syntax_terms.specs.declared.tree.Operand.{Operand}
-use Rattle.vc_syntax_terms.specs.declared.tree.Operand.TheVariants as operands
-use Rattle.vc_syntax_terms.specs.declared.tree.Operator.{Operator}
-use Rattle.vc_syntax_terms.specs.Trees as trees
+use Rattle.vc_syntax_tree.specs.declared.NameLeaf.{NameLeaf}
+use Rattle.vc_syntax_tree.specs.declared.TextLeaf.{TextLeaf}
+use Rattle.vc_syntax_tree.specs.declared.Operand.{Operand}
+use Rattle.vc_syntax_tree.specs.declared.Operand.TheVariants as operands
+use Rattle.vc_syntax_tree.specs.declared.Operator.{Operator}
+use Rattle.vc_syntax_tree.specs.Trees as trees
 use Rattle.vc_syntax_terms.specs.Reading.{Reader, then, made, closed, grouped}
 use Rattle.vc_tree_laws.specs.Literals.{is_literal}
 use Rattle.vc_tree_laws.proofs.TokenLaws.{is_good, Good}
@@ -23,7 +23,7 @@ use Rattle.vc_tree_laws.proofs.ReadingLemmas.{put_keeps, leaf_keeps, rest_good, 
 use Rattle.vc_tree_laws.proofs.ReadingLemmas.{closed_keeps, grouped_reads, chain_reads}
 use Rattle.vc_syntax_terms.specs.Leaves.{name_of, any_name_of, any_named, variable_of, text_in, text_of, number_of}
 use Rattle.vc_syntax_terms.specs.Leaves.{is_self, after_sign, after_self, named}
-use Rattle.vc_syntax_terms.specs.Trees.{Term}
+use Rattle.vc_syntax_tree.specs.Trees.{Term}
 use Rattle.vc_syntax_terms.specs.TermReading.{owner_of, dotted, member, operand_in, operand, function_of}
 use Rattle.vc_syntax_terms.specs.TermReading.{product_operator_in, sum_operator_in}
 use Rattle.vc_syntax_terms.specs.TermReading.{product_operator, sum_operator, self_and_name, only_self}

@@ -18,8 +18,8 @@ use Rattle.vc_syntax_tokens.specs.Tokens.{tokens_of}
 use Rattle.vc_syntax_terms.specs.Reading.{listed}
 use Rattle.vc_syntax_terms.specs.TermReading.{sum}
 use Rattle.vc_syntax_terms.specs.ConditionReading.{condition}
-use Rattle.vc_syntax_terms.specs.Trees as trees
-use Rattle.vc_syntax_terms.specs.Trees.{Condition, Constraint, Dependency, Statement, Term}
+use Rattle.vc_syntax_tree.specs.Trees as trees
+use Rattle.vc_syntax_tree.specs.Trees.{Condition, Constraint, Dependency, Statement, Term}
 use Rattle.vc_syntax.specs.ConstraintReading.{constraint}
 use Rattle.vc_syntax.specs.DependencyReading.{is_end, is_stop, up_to, dependency}
 use Rattle.vc_syntax.specs.DependencyTexts.{spelled, judged, judged_if, dependency_in}

@@ -3,7 +3,7 @@ use Rattle.std.specs.Prelude.{◌≡◌, ℕ, Bool, true, ◌&&◌, List, Ok, Is
 use Rattle.std.specs.List.{list_all}
 use Rattle.std.specs.Str.{is_utf8}
 use Rattle.vc_syntax_tokens.specs.declared.fault.Kind.{Kind}
-use Rattle.vc_syntax_terms.specs.Trees.{Dependency}
+use Rattle.vc_syntax_tree.specs.Trees.{Dependency}
 use Rattle.vc_syntax.specs.DependencyTexts.{dependency_in}
 use Rattle.vc_model_drafts.specs.Seen.{SeenModel}
 use Rattle.vc_plan.specs.Spelling.{is_text}

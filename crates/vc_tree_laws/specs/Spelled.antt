@@ -2,7 +2,7 @@
 use Rattle.std.specs.Prelude.{◌≡◌, ℕ, Bool, true, List}
 use Rattle.std.specs.List.{list_all}
 use Rattle.vc_syntax_tokens.specs.declared.fault.Kind.{Kind}
-use Rattle.vc_syntax_terms.specs.Trees.{Counts, Dependency}
+use Rattle.vc_syntax_tree.specs.Trees.{Counts, Dependency}
 use Rattle.vc_syntax.specs.Spelled.{Spells}
 use Rattle.vc_model_drafts.specs.Seen.{SeenModel}
 

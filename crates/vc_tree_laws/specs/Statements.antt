@@ -1,7 +1,7 @@
 -- The procedures of a model are no longer than dependencies may be.
 use Rattle.std.specs.Prelude.{◌≡◌, ℕ, true, nat_le, length}
 use Rattle.std.specs.List.{list_all}
-use Rattle.vc_syntax_terms.specs.Trees.{Dependency, Procedure}
+use Rattle.vc_syntax_tree.specs.Trees.{Dependency, Procedure}
 use Rattle.vc_model_drafts.specs.Seen.{SeenModel}
 
 -- how many statements a procedure has

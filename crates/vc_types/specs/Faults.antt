@@ -1,7 +1,7 @@
 -- Which faults a dependency has at a place, and the least of them.
 use Rattle.std.specs.Prelude.{Bool, List, [], ◌∷◌, Option, Some, None, filter}
 use Rattle.vc_model_parts.specs.declared.parts.Model.{Model}
-use Rattle.vc_syntax_terms.specs.Trees.{Dependency}
+use Rattle.vc_syntax_tree.specs.Trees.{Dependency}
 use Rattle.vc_types.specs.NameFaults.{unknown_name, double_name, self_named, parent_missing, self_of_line, strays}
 use Rattle.vc_types.specs.NameFaults.{too_many_objects}
 use Rattle.vc_types.specs.PlaceFaults.{not_monotone, no_key, not_a_term, sum_place, part_of_place}

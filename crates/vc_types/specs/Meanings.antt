@@ -2,14 +2,14 @@
 use Rattle.std.specs.Prelude.{ℕ, List, ◌∷◌, map, flat_map, Option, Some, None, find}
 use Rattle.std.specs.Str.{bytes_eq}
 use Rattle.vc_model_parts.specs.declared.parts.Model.{Model}
-use Rattle.vc_syntax_terms.specs.declared.tree.Alias.{Alias}
-use Rattle.vc_syntax_terms.specs.declared.tree.Object.{Object}
-use Rattle.vc_syntax_terms.specs.declared.tree.ObjectKind.{ObjectKind}
-use Rattle.vc_syntax_terms.specs.declared.tree.ObjectKind.TheVariants as objects
-use Rattle.vc_syntax_terms.specs.declared.tree.Operand.{Operand}
-use Rattle.vc_syntax_terms.specs.declared.tree.Operand.TheVariants as operands
-use Rattle.vc_syntax_terms.specs.declared.tree.Owner.{Owner}
-use Rattle.vc_syntax_terms.specs.declared.tree.Owner.TheVariants as owners
+use Rattle.vc_syntax_tree.specs.declared.Alias.{Alias}
+use Rattle.vc_syntax_tree.specs.declared.Object.{Object}
+use Rattle.vc_syntax_tree.specs.declared.ObjectKind.{ObjectKind}
+use Rattle.vc_syntax_tree.specs.declared.ObjectKind.TheVariants as objects
+use Rattle.vc_syntax_tree.specs.declared.Operand.{Operand}
+use Rattle.vc_syntax_tree.specs.declared.Operand.TheVariants as operands
+use Rattle.vc_syntax_tree.specs.declared.Owner.{Owner}
+use Rattle.vc_syntax_tree.specs.declared.Owner.TheVariants as owners
 use Rattle.vc_types.specs.Looking.{member_of, class_of, class_named, object_named}
 use Rattle.vc_types.specs.declared.meaning.Meaning.{Meaning}
 use Rattle.vc_types.specs.declared.meaning.Meaning.TheVariants as meanings

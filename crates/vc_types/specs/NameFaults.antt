@@ -4,10 +4,10 @@ use Rattle.std.specs.Prelude.{ℕ, Bool, true, false, not, ◌&&◌, ◌||◌, L
 use Rattle.std.specs.Prelude.{is_some, is_none}
 use Rattle.std.specs.List.{list_any}
 use Rattle.std.specs.Str.{bytes_eq}
-use Rattle.vc_syntax_terms.specs.declared.tree.Alias.{Alias}
-use Rattle.vc_syntax_terms.specs.declared.tree.NameLeaf.{NameLeaf}
-use Rattle.vc_syntax_terms.specs.declared.tree.Object.{Object}
-use Rattle.vc_syntax_terms.specs.Trees.{Binding, TableCall, Dependency, Constrains}
+use Rattle.vc_syntax_tree.specs.declared.Alias.{Alias}
+use Rattle.vc_syntax_tree.specs.declared.NameLeaf.{NameLeaf}
+use Rattle.vc_syntax_tree.specs.declared.Object.{Object}
+use Rattle.vc_syntax_tree.specs.Trees.{Binding, TableCall, Dependency, Constrains}
 use Rattle.vc_types.specs.Looking.{member_of, table_named, column_in}
 use Rattle.vc_types.specs.Meanings.{class_meant, variable_named}
 use Rattle.vc_types.specs.Occurrences.{uses_in, calls_in, parted_names, summed_names, asks_sum}

@@ -7,12 +7,12 @@ use Rattle.vc_model_parts.specs.declared.parts.Model.{Model}
 use Rattle.vc_model_parts.specs.declared.parts.NumberValue.{NumberValue}
 use Rattle.vc_model_parts.specs.declared.parts.Values.{Values}
 use Rattle.vc_model_parts.specs.declared.parts.Values.TheVariants as values
-use Rattle.vc_syntax_terms.specs.declared.tree.Function.{Function}
-use Rattle.vc_syntax_terms.specs.declared.tree.Function.TheVariants.{Abs, Sign, Trunc, Floor, Ceil, Frac}
-use Rattle.vc_syntax_terms.specs.declared.tree.Operator.{Operator}
-use Rattle.vc_syntax_terms.specs.declared.tree.Operator.TheVariants.{Plus, Minus, Times, Over}
-use Rattle.vc_syntax_terms.specs.Trees.{Term, Number, Text, Operand, Negated, Combined, Applied, SumOfParts}
-use Rattle.vc_syntax_terms.specs.Trees.{CountOfParts, Dependency}
+use Rattle.vc_syntax_tree.specs.declared.Function.{Function}
+use Rattle.vc_syntax_tree.specs.declared.Function.TheVariants.{Abs, Sign, Trunc, Floor, Ceil, Frac}
+use Rattle.vc_syntax_tree.specs.declared.Operator.{Operator}
+use Rattle.vc_syntax_tree.specs.declared.Operator.TheVariants.{Plus, Minus, Times, Over}
+use Rattle.vc_syntax_tree.specs.Trees.{Term, Number, Text, Operand, Negated, Combined, Applied, SumOfParts}
+use Rattle.vc_syntax_tree.specs.Trees.{CountOfParts, Dependency}
 use Rattle.vc_types.specs.Occurrences.{terms_in}
 use Rattle.vc_types.specs.Settings.{Setting, meaning}
 use Rattle.vc_types.specs.declared.meaning.Meaning.{Meaning}

@@ -8,8 +8,8 @@ use Rattle.vc_model_parts.specs.declared.parts.Model.{Model}
 use Rattle.vc_model_parts.specs.declared.parts.Object.{Object}
 use Rattle.vc_model_parts.specs.declared.parts.Values.{Values}
 use Rattle.vc_model_parts.specs.declared.parts.Values.TheVariants as values
-use Rattle.vc_syntax_terms.specs.declared.tree.Operand.{Operand as Name}
-use Rattle.vc_syntax_terms.specs.Trees.{Dependency, Constrains}
+use Rattle.vc_syntax_tree.specs.declared.Operand.{Operand as Name}
+use Rattle.vc_syntax_tree.specs.Trees.{Dependency, Constrains}
 use Rattle.vc_types.specs.Looking.{class_of}
 use Rattle.vc_types.specs.Meanings.{Variable, variables_of, meaning_of}
 use Rattle.vc_types.specs.declared.meaning.Meaning.{Meaning}

@@ -2,18 +2,18 @@
 use Rattle.std.specs.Prelude.{ℕ, Bool, true, false, not, ◌&&◌, ◌||◌, Option, Some, None}
 use Rattle.std.specs.List.{list_any}
 use Rattle.vc_model_parts.specs.declared.parts.TableColumn.{TableColumn}
-use Rattle.vc_syntax_terms.specs.declared.tree.Alias.{Alias}
-use Rattle.vc_syntax_terms.specs.declared.tree.Item.{Item}
-use Rattle.vc_syntax_terms.specs.declared.tree.Item.TheVariants as items
-use Rattle.vc_syntax_terms.specs.declared.tree.NameLeaf.{NameLeaf}
-use Rattle.vc_syntax_terms.specs.declared.tree.Object.{Object}
-use Rattle.vc_syntax_terms.specs.declared.tree.Operand.TheVariants.{Owned}
-use Rattle.vc_syntax_terms.specs.declared.tree.Owner.TheVariants.{Itself}
-use Rattle.vc_syntax_terms.specs.Trees.{Term, Number, Text, Operand, Negated, Combined, Applied, SumOfParts}
-use Rattle.vc_syntax_terms.specs.Trees.{CountOfParts}
-use Rattle.vc_syntax_terms.specs.Trees.{Relation, Compared, Within, Binding, TableCall, Action, Assign, SetDefault}
-use Rattle.vc_syntax_terms.specs.Trees.{DelDefault, Calls}
-use Rattle.vc_syntax_terms.specs.Trees.{Dependency, Procedure, Counts}
+use Rattle.vc_syntax_tree.specs.declared.Alias.{Alias}
+use Rattle.vc_syntax_tree.specs.declared.Item.{Item}
+use Rattle.vc_syntax_tree.specs.declared.Item.TheVariants as items
+use Rattle.vc_syntax_tree.specs.declared.NameLeaf.{NameLeaf}
+use Rattle.vc_syntax_tree.specs.declared.Object.{Object}
+use Rattle.vc_syntax_tree.specs.declared.Operand.TheVariants.{Owned}
+use Rattle.vc_syntax_tree.specs.declared.Owner.TheVariants.{Itself}
+use Rattle.vc_syntax_tree.specs.Trees.{Term, Number, Text, Operand, Negated, Combined, Applied, SumOfParts}
+use Rattle.vc_syntax_tree.specs.Trees.{CountOfParts}
+use Rattle.vc_syntax_tree.specs.Trees.{Relation, Compared, Within, Binding, TableCall, Action, Assign, SetDefault}
+use Rattle.vc_syntax_tree.specs.Trees.{DelDefault, Calls}
+use Rattle.vc_syntax_tree.specs.Trees.{Dependency, Procedure, Counts}
 use Rattle.vc_types.specs.Looking.{member_of, table_named, column_in}
 use Rattle.vc_types.specs.Meanings.{class_meant, known, referent_of, variable_named}
 use Rattle.vc_types.specs.NameFaults.{some_operand, objects_in}

@@ -1,9 +1,9 @@
 -- Of which instance operands name a characteristic: at a line, elsewhere, and in a constraint with two objects.
 use Rattle.std.proofs.Common.{◌≡◌, true, false, [], ◌∷◌, refl}
 use Rattle.std.specs.Prelude.{codes, List}
-use Rattle.vc_syntax_terms.specs.declared.tree.Object.{Object}
-use Rattle.vc_syntax_terms.specs.declared.tree.Operand.TheVariants as operands
-use Rattle.vc_syntax_terms.specs.declared.tree.Owner.TheVariants.{Itself, Parent, Root}
+use Rattle.vc_syntax_tree.specs.declared.Object.{Object}
+use Rattle.vc_syntax_tree.specs.declared.Operand.TheVariants as operands
+use Rattle.vc_syntax_tree.specs.declared.Owner.TheVariants.{Itself, Parent, Root}
 use Rattle.vc_types.specs.declared.place.At.TheVariants as at
 use Rattle.vc_types.proofs.FaultRows.Small.{leaf, plain, owned, member, of_class, of_class_where}
 use Rattle.vc_types_dependency.specs.Instances.{instance_of}

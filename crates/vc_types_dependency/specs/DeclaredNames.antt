@@ -1,8 +1,8 @@
 -- Names as they are declared.
 use Rattle.std.specs.Prelude.{ℕ, List, ◌∷◌, map}
 use Rattle.std.proofs.Common.{Bor}
-use Rattle.vc_syntax_terms.specs.declared.tree.NameLeaf.{NameLeaf}
-use Rattle.vc_syntax_terms.specs.declared.tree.Object.{Object}
+use Rattle.vc_syntax_tree.specs.declared.NameLeaf.{NameLeaf}
+use Rattle.vc_syntax_tree.specs.declared.Object.{Object}
 
 abbrev pub name_seen : Bor NameLeaf → List ℕ
 name_seen leaf = (leaf.now).name

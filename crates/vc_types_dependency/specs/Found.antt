@@ -1,6 +1,6 @@
 -- A dependency at a place, with all that stands in it.
 use Rattle.std.specs.Prelude.{◌≡◌}
-use Rattle.vc_syntax_terms.specs.Trees.{Dependency}
+use Rattle.vc_syntax_tree.specs.Trees.{Dependency}
 use Rattle.vc_types.specs.Settings.{Setting, variables_in}
 use Rattle.vc_types_meanings.specs.Borrowed.{tree_of}
 use Rattle.vc_types_meanings.specs.Seen.{seen}

@@ -2,12 +2,12 @@
 use Rattle.std.specs.Prelude.{ℕ, Bool, List, [], position, Option, None, Some}
 use Rattle.std.specs.List.{list_any}
 use Rattle.std.specs.Str.{bytes_eq}
-use Rattle.vc_syntax_terms.specs.Trees.{Dependency, Precondition, Selection, Procedure, Constrains, Counts}
-use Rattle.vc_syntax_terms.specs.declared.tree.Object.{Object}
-use Rattle.vc_syntax_terms.specs.declared.tree.Operand.{Operand}
-use Rattle.vc_syntax_terms.specs.declared.tree.Operand.TheVariants as operands
-use Rattle.vc_syntax_terms.specs.declared.tree.Owner.{Owner}
-use Rattle.vc_syntax_terms.specs.declared.tree.Owner.TheVariants as owners
+use Rattle.vc_syntax_tree.specs.Trees.{Dependency, Precondition, Selection, Procedure, Constrains, Counts}
+use Rattle.vc_syntax_tree.specs.declared.Object.{Object}
+use Rattle.vc_syntax_tree.specs.declared.Operand.{Operand}
+use Rattle.vc_syntax_tree.specs.declared.Operand.TheVariants as operands
+use Rattle.vc_syntax_tree.specs.declared.Owner.{Owner}
+use Rattle.vc_syntax_tree.specs.declared.Owner.TheVariants as owners
 use Rattle.vc_types.specs.declared.place.At.{At}
 use Rattle.vc_types.specs.declared.place.At.TheVariants as at
 use Rattle.vc_types_dependency.specs.declared.instances.Instance.{Instance}

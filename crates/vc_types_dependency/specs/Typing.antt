@@ -1,7 +1,7 @@
 -- What a typed dependency is, and why one isn't typed.
 use Rattle.std.specs.Prelude.{◌≡◌, Option, Some}
 use Rattle.vc_model_parts.specs.declared.parts.Model.{Model}
-use Rattle.vc_syntax_terms.specs.Trees.{Dependency}
+use Rattle.vc_syntax_tree.specs.Trees.{Dependency}
 use Rattle.vc_types.specs.Settings.{setting_of}
 use Rattle.vc_types.specs.declared.fault.TypeFaultKind.{TypeFaultKind}
 use Rattle.vc_types.specs.declared.place.Place.{Place}

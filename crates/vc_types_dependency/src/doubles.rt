@@ -2,13 +2,13 @@
 
 ghost use Rattle.std.specs.Prelude.{◌≡◌, ◌++◌, map, flat_map, IfOk, OnOk};
 ghost use Rattle.std.specs.List.{list_any};
-ghost use Rattle.vc_syntax_terms.specs.Trees.{binding_of, table_call_of};
+ghost use Rattle.vc_syntax_tree.specs.Trees.{binding_of, table_call_of};
 ghost use Rattle.vc_types.specs.NameFaults as faults;
 ghost use Rattle.vc_types_dependency.specs.DeclaredNames.{declared_names, names_seen};
 ghost use Rattle.vc_types_occurrences.specs.Seen.{calls_seen};
 
 use std::alloc::{AllocError, Global};
-use vc_syntax_terms::tree::{Alias, Binding, NameLeaf, Object, TableCall};
+use vc_syntax_tree::{Alias, Binding, NameLeaf, Object, TableCall};
 use vc_types_names::FirstNamed;
 use vc_value::Listed;
 

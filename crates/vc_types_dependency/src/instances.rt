@@ -3,7 +3,7 @@
 ghost use Rattle.std.specs.Prelude.{◌≡◌, position};
 ghost use Rattle.vc_types_dependency.specs.Instances.{has_alias, instance_of, is_called, of_object, of_owner};
 
-use vc_syntax_terms::tree::{Object, Operand, Owner};
+use vc_syntax_tree::{Object, Operand, Owner};
 use vc_types::At;
 
 /// An instance, seen from where a dependency stands.

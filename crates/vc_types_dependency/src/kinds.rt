@@ -16,7 +16,7 @@ ghost use Rattle.vc_types_meanings.specs.Borrowed.{tree_of};
 use crate::doubles::{declares_twice, some_names_column_twice};
 use crate::found::Found;
 use std::alloc::{AllocError, Global};
-use vc_syntax_terms::tree::Object;
+use vc_syntax_tree::Object;
 use vc_types_faults::columns::some_wrong_look_up;
 use vc_types_faults::names::{
     some_lacks_parent, some_of_no_part, some_self_in_constraint, some_self_in_line,
@@ -26,13 +26,13 @@ use vc_types_faults::places::{
     is_constraint, is_for_net, is_line, is_procedure, part_of_place, some_denies_specified,
     some_has_computed, some_has_sum,
 };
-use vc_types_faults::sizes::some_gets_too_large;
-use vc_types_faults::sorts::{
+use vc_types_meanings::Tree;
+use vc_types_sorts::sizes::some_gets_too_large;
+use vc_types_sorts::sorts::{
     acts_or_counts_wrongly, some_calls_wrongly, some_computes_with_text, some_declares_set,
     some_misuses_set, some_other_variable, some_parts_a_value, some_relates_wrongly, some_set,
     some_sums_texts,
 };
-use vc_types_meanings::Tree;
 
 fn objects_in<'a>(tree: Tree<'a>) -> &'a [Object]
     ensures { result.now ≡ names.objects_in (tree_of tree.entry) }

@@ -1,25 +1,25 @@
 //! The typing of a dependency where it stands.
 
 ghost use Rattle.std.specs.Prelude.{◌≡◌, None, IfOk, IfErr};
-ghost use Rattle.vc_syntax_terms.specs.Trees.{Counts, dependency_of, term_of};
+ghost use Rattle.vc_syntax_tree.specs.Trees.{Counts, dependency_of, term_of};
 ghost use Rattle.vc_types.specs.Faults.{fault_of};
 ghost use Rattle.vc_types.specs.RangeFaults.{gets_too_large, size_of};
 ghost use Rattle.vc_types.specs.Settings.{is_set, meaning};
 ghost use Rattle.vc_types.specs.SortFaults.{sort_of};
 ghost use Rattle.vc_types_dependency.specs.Instances.{instance_of, objects_of};
 ghost use Rattle.vc_types_dependency.specs.Typing.{IsTyped, IsTypeFault};
-ghost use Rattle.vc_types_faults.specs.Terms.{bounded};
 ghost use Rattle.vc_types_meanings.specs.Borrowed.{tree_of};
 ghost use Rattle.vc_types_meanings.specs.Seen.{seen};
+ghost use Rattle.vc_types_sorts.specs.Sizes.{bounded};
 
 use crate::faults::type_fault;
 use crate::instances::{Instance, instance_of};
 use std::alloc::{AllocError, Global};
-use vc_syntax_terms::tree::{Dependency, Object, Operand, Term};
+use vc_syntax_tree::{Dependency, Object, Operand, Term};
 use vc_types::{Meaning, Place, Sort, TypeFaultKind};
-use vc_types_faults::{sizes, sorts};
 use vc_types_meanings::{Setting, Tree, borrowed};
 use vc_types_names::Names;
+use vc_types_sorts::{sizes, sorts};
 
 /// Why a dependency isn't typed.
 #[derive(Clone, Copy, Debug, PartialEq, Eq)]

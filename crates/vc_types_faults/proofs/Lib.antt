@@ -1,2 +1,1 @@
 pub mod AnyLemmas
-pub mod SizeLemmas

@@ -2,7 +2,7 @@
 
 ghost use Rattle.std.specs.Prelude.{◌≡◌, ◌||◌, not, option_copied};
 ghost use Rattle.std.specs.List.{list_any};
-ghost use Rattle.vc_syntax_terms.specs.Trees.{binding_of, table_call_of, term_of};
+ghost use Rattle.vc_syntax_tree.specs.Trees.{binding_of, table_call_of, term_of};
 ghost use Rattle.vc_types.specs.Looking.{characteristic_named, table_named};
 ghost use Rattle.vc_types.specs.PlaceFaults as faults;
 ghost use Rattle.vc_types_faults.specs.Terms.{is_itself};
@@ -10,7 +10,7 @@ ghost use Rattle.vc_types_meanings.specs.Seen.{seen};
 ghost use Rattle.vc_types_occurrences.specs.Seen.{calls_seen};
 
 use vc_model_parts::{Table, TableColumn};
-use vc_syntax_terms::tree::{Binding, Operand, Owner, TableCall, Term};
+use vc_syntax_tree::{Binding, Operand, Owner, TableCall, Term};
 use vc_types_meanings::Setting;
 
 fn is_other(column: Option<TableColumn>) -> bool

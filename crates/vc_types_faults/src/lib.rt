@@ -1,8 +1,6 @@
-//! Which faults the parts of a dependency have where it stands.
+//! Which faults of names and of places the parts of a dependency have where it stands.
 #![tactic(auto)]
 
 pub mod columns;
 pub mod names;
 pub mod places;
-pub mod sizes;
-pub mod sorts;

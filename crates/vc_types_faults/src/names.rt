@@ -2,7 +2,7 @@
 
 ghost use Rattle.std.specs.Prelude.{◌≡◌, Some, filter_map, is_some, is_none, slice_get};
 ghost use Rattle.std.specs.List.{list_any};
-ghost use Rattle.vc_syntax_terms.specs.Trees.{binding_of, table_call_of};
+ghost use Rattle.vc_syntax_tree.specs.Trees.{binding_of, table_call_of};
 ghost use Rattle.vc_types.specs.Looking.{member_in, member_of, table_named};
 ghost use Rattle.vc_types.specs.NameFaults as faults;
 ghost use Rattle.vc_types.specs.Settings.{component_class, component_classes};
@@ -13,7 +13,7 @@ ghost use Rattle.vc_types_occurrences.specs.Seen.{calls_seen, leaves_seen};
 use crate::columns::bound_column;
 use crate::places::{has_instance, is_constraint};
 use vc_model_parts::{BillItem, Component};
-use vc_syntax_terms::tree::{Alias, Binding, NameLeaf, Object, TableCall};
+use vc_syntax_tree::{Alias, Binding, NameLeaf, Object, TableCall};
 use vc_types::Meaning;
 use vc_types_meanings::Setting;
 use vc_types_meanings::meanings::class_meant;

@@ -2,7 +2,7 @@
 
 ghost use Rattle.std.specs.Prelude.{◌≡◌, ◌∷◌, [], map, option_map, flat_map};
 ghost use Rattle.std.specs.List.{list_any};
-ghost use Rattle.vc_syntax_terms.specs.Trees.{binding_of, condition_of, restriction_of, table_call_of, term_of};
+ghost use Rattle.vc_syntax_tree.specs.Trees.{binding_of, condition_of, restriction_of, table_call_of, term_of};
 ghost use Rattle.vc_types.specs.NameFaults.{has_some};
 ghost use Rattle.vc_types.specs.Occurrences.{condition_of_restriction, conditions_in, has_sum, if_there};
 ghost use Rattle.vc_types.specs.Occurrences.{parted_in, specified_in};
@@ -11,7 +11,7 @@ ghost use Rattle.vc_types.specs.Settings as settings;
 ghost use Rattle.vc_types_meanings.specs.Borrowed.{tree_of};
 ghost use Rattle.vc_types_occurrences.specs.Seen.{calls_seen, conditions_seen, terms_seen};
 
-use vc_syntax_terms::tree::{Binding, Condition, Restriction, TableCall, Term};
+use vc_syntax_tree::{Binding, Condition, Restriction, TableCall, Term};
 use vc_types::At;
 use vc_types_meanings::Tree;
 use vc_types_occurrences::terms::is_literal;

@@ -1,7 +1,7 @@
 -- The tree of a dependency, wherever its parts are kept.
 use Rattle.std.specs.Prelude.{map}
-use Rattle.vc_syntax_terms.specs.Trees.{Dependency, Precondition, Selection, Procedure, Constrains, Counts}
-use Rattle.vc_syntax_terms.specs.Trees.{condition_of, constraint_of, statement_of, term_of}
+use Rattle.vc_syntax_tree.specs.Trees.{Dependency, Precondition, Selection, Procedure, Constrains, Counts}
+use Rattle.vc_syntax_tree.specs.Trees.{condition_of, constraint_of, statement_of, term_of}
 use Rattle.vc_types_meanings.specs.declared.tree.Tree.{Tree}
 use Rattle.vc_types_meanings.specs.declared.tree.Tree.TheVariants as trees
 

@@ -3,7 +3,7 @@
 ghost use Rattle.std.specs.Prelude.{◌≡◌};
 ghost use Rattle.vc_types.specs.Meanings as meanings;
 
-use vc_syntax_terms::tree::{ObjectKind, Owner};
+use vc_syntax_tree::{ObjectKind, Owner};
 use vc_types::{At, Meaning, Place, Referent};
 use vc_types_names::Names;
 

@@ -10,7 +10,7 @@ use crate::meanings::{owned_meaning, plain_meaning, variable_member, variable_va
 use crate::tree::Tree;
 use crate::variables::referents;
 use std::alloc::{AllocError, Global};
-use vc_syntax_terms::tree::{NameLeaf, Object, Operand, Owner};
+use vc_syntax_tree::{NameLeaf, Object, Operand, Owner};
 use vc_types::{Meaning, Place, Referent};
 use vc_types_names::{FirstNamed, Names};
 
@@ -27,8 +27,8 @@ pub struct Setting<'n, 'm, 't> {
 
 impl<'n, 'm, 't> Setting<'n, 'm, 't> {
     ghost use Rattle.std.specs.Prelude.{IfOk};
-    ghost use Rattle.vc_syntax_terms.specs.declared.tree.Operand.TheVariants.{Owned};
-    ghost use Rattle.vc_syntax_terms.specs.declared.tree.Owner.TheVariants.{Itself};
+    ghost use Rattle.vc_syntax_tree.specs.declared.Operand.TheVariants.{Owned};
+    ghost use Rattle.vc_syntax_tree.specs.declared.Owner.TheVariants.{Itself};
     ghost use Rattle.vc_types.specs.Meanings.{referent_of, variable_named};
     ghost use Rattle.vc_types.specs.Settings.{setting_of, meaning};
     ghost use Rattle.vc_types_meanings.specs.Borrowed.{tree_of};

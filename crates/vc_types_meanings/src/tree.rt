@@ -1,10 +1,10 @@
 //! Dependencies as they are kept.
 
 ghost use Rattle.std.specs.Prelude.{◌≡◌};
-ghost use Rattle.vc_syntax_terms.specs.Trees.{dependency_of};
+ghost use Rattle.vc_syntax_tree.specs.Trees.{dependency_of};
 ghost use Rattle.vc_types_meanings.specs.Borrowed.{tree_of};
 
-use vc_syntax_terms::tree::{Condition, Constraint, Dependency, Statement, Term};
+use vc_syntax_tree::{Condition, Constraint, Dependency, Statement, Term};
 
 /// A dependency, wherever its parts are kept: a quantity or a time is the term of a line or an
 /// operation, and stands in no block.

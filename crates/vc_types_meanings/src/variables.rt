@@ -8,7 +8,7 @@ ghost use Rattle.vc_types_meanings.specs.Referents.{referent_among};
 
 use crate::meanings::class_meant;
 use std::alloc::{AllocError, Global};
-use vc_syntax_terms::tree::{Alias, Object};
+use vc_syntax_tree::{Alias, Object};
 use vc_types::Referent;
 use vc_types_names::{FirstNamed, Names};
 

@@ -1,6 +1,6 @@
 -- All that stands in a dependency.
 use Rattle.std.specs.Prelude.{◌≡◌, ◌++◌, flat_map}
-use Rattle.vc_syntax_terms.specs.Trees.{Dependency}
+use Rattle.vc_syntax_tree.specs.Trees.{Dependency}
 use Rattle.vc_types.specs.Occurrences.{conditions_in, relations_in, calls_in, own_terms, values_in, terms_in, uses_in}
 use Rattle.vc_types.specs.Occurrences.{parted_names, summed_names}
 use Rattle.vc_types.specs.Settings.{Setting}

@@ -1,13 +1,13 @@
 -- Parts of a tree that is kept in memory, as they are without their places there.
 use Rattle.std.specs.Prelude.{Bool, true, false, List, map}
 use Rattle.std.proofs.Common.{Bor}
-use Rattle.vc_syntax_terms.specs.declared.tree.Condition.{Condition as StoredCondition}
-use Rattle.vc_syntax_terms.specs.declared.tree.NameLeaf.{NameLeaf}
-use Rattle.vc_syntax_terms.specs.declared.tree.Relation.{Relation as StoredRelation}
-use Rattle.vc_syntax_terms.specs.declared.tree.TableCall.{TableCall as StoredTableCall}
-use Rattle.vc_syntax_terms.specs.declared.tree.Term.{Term as StoredTerm}
-use Rattle.vc_syntax_terms.specs.Trees.{Condition, condition_of, Relation, relation_of, TableCall, table_call_of, Term}
-use Rattle.vc_syntax_terms.specs.Trees.{Number, term_of}
+use Rattle.vc_syntax_tree.specs.declared.Condition.{Condition as StoredCondition}
+use Rattle.vc_syntax_tree.specs.declared.NameLeaf.{NameLeaf}
+use Rattle.vc_syntax_tree.specs.declared.Relation.{Relation as StoredRelation}
+use Rattle.vc_syntax_tree.specs.declared.TableCall.{TableCall as StoredTableCall}
+use Rattle.vc_syntax_tree.specs.declared.Term.{Term as StoredTerm}
+use Rattle.vc_syntax_tree.specs.Trees.{Condition, condition_of, Relation, relation_of, TableCall, table_call_of, Term}
+use Rattle.vc_syntax_tree.specs.Trees.{Number, term_of}
 
 abbrev pub conditions_seen : List (Bor StoredCondition) → List Condition
 conditions_seen conditions = map (λ c. condition_of c.now) conditions

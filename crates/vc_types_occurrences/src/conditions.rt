@@ -1,12 +1,12 @@
 //! What stands in a condition.
 
 ghost use Rattle.std.specs.Prelude.{◌≡◌, ◌++◌, OnOk};
-ghost use Rattle.vc_syntax_terms.specs.Trees.{condition_of};
+ghost use Rattle.vc_syntax_tree.specs.Trees.{condition_of};
 ghost use Rattle.vc_types.specs.Occurrences.{relations_of, parted_in};
 ghost use Rattle.vc_types_occurrences.specs.Seen.{relations_seen, leaves_seen};
 
 use std::alloc::AllocError;
-use vc_syntax_terms::tree::{Condition, NameLeaf, Relation};
+use vc_syntax_tree::{Condition, NameLeaf, Relation};
 use vc_value::Listed;
 
 /// Puts the relations of a condition.

@@ -18,7 +18,7 @@ use crate::uses::{
     Use, put_all_specified, put_relations_uses, put_targets, put_terms_uses, put_values,
 };
 use std::alloc::{AllocError, Global};
-use vc_syntax_terms::tree::{Condition, NameLeaf, Relation, TableCall, Term};
+use vc_syntax_tree::{Condition, NameLeaf, Relation, TableCall, Term};
 use vc_types_meanings::{Setting, Tree};
 use vc_value::Listed;
 

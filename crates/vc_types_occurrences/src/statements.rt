@@ -1,12 +1,12 @@
 //! What stands in the statements of a procedure and the restrictions of a constraint.
 
 ghost use Rattle.std.specs.Prelude.{◌≡◌, ◌∷◌, [], ◌++◌, map, flat_map, option_map, OnOk};
-ghost use Rattle.vc_syntax_terms.specs.Trees.{condition_of, action_of, demand_of, statement_of, restriction_of};
+ghost use Rattle.vc_syntax_tree.specs.Trees.{condition_of, action_of, demand_of, statement_of, restriction_of};
 ghost use Rattle.vc_types.specs.Occurrences as occurrences;
 ghost use Rattle.vc_types_occurrences.specs.Seen.{conditions_seen, relations_seen, calls_seen, terms_seen};
 
 use std::alloc::AllocError;
-use vc_syntax_terms::tree::{
+use vc_syntax_tree::{
     Action, Condition, Demand, Relation, Restriction, Statement, TableCall, Term,
 };
 use vc_value::Listed;

@@ -1,12 +1,12 @@
 //! What stands in relations, terms and calls of tables.
 
 ghost use Rattle.std.specs.Prelude.{◌≡◌, ◌++◌, map, flat_map, OnOk};
-ghost use Rattle.vc_syntax_terms.specs.Trees.{term_of, relation_of, binding_of, table_call_of};
+ghost use Rattle.vc_syntax_tree.specs.Trees.{term_of, relation_of, binding_of, table_call_of};
 ghost use Rattle.vc_types.specs.Occurrences as occurrences;
 ghost use Rattle.vc_types_occurrences.specs.Seen.{relations_seen, calls_seen, terms_seen, leaves_seen, is_number};
 
 use std::alloc::AllocError;
-use vc_syntax_terms::tree::{Binding, NameLeaf, Relation, Relator, TableCall, Term};
+use vc_syntax_tree::{Binding, NameLeaf, Relation, Relator, TableCall, Term};
 use vc_value::Listed;
 
 /// Whether the term is a text, or a number with or without a minus.

@@ -1,9 +1,9 @@
 //! The operands of a dependency, with what they mean.
 
 ghost use Rattle.std.specs.Prelude.{◌≡◌, ◌++◌, ◌∷◌, [], true, map, flat_map, OnOk};
-ghost use Rattle.vc_syntax_terms.specs.Trees.{term_of, relation_of, condition_of, action_of, statement_of};
-ghost use Rattle.vc_syntax_terms.specs.declared.tree.Operand.TheVariants.{Owned};
-ghost use Rattle.vc_syntax_terms.specs.declared.tree.Owner.TheVariants.{Itself};
+ghost use Rattle.vc_syntax_tree.specs.Trees.{term_of, relation_of, condition_of, action_of, statement_of};
+ghost use Rattle.vc_syntax_tree.specs.declared.Operand.TheVariants.{Owned};
+ghost use Rattle.vc_syntax_tree.specs.declared.Owner.TheVariants.{Itself};
 ghost use Rattle.vc_types.specs.Occurrences as occurrences;
 ghost use Rattle.vc_types_meanings.specs.Seen.{seen};
 ghost use Rattle.vc_types_occurrences.specs.Met.{met, all_met};
@@ -11,7 +11,7 @@ ghost use Rattle.vc_types_occurrences.specs.Seen.{conditions_seen, relations_see
 
 use crate::terms::{is_equality, is_literal};
 use std::alloc::AllocError;
-use vc_syntax_terms::tree::{Action, Condition, NameLeaf, Operand, Relation, Statement, Term};
+use vc_syntax_tree::{Action, Condition, NameLeaf, Operand, Relation, Statement, Term};
 use vc_types::Meaning;
 use vc_types_meanings::Setting;
 use vc_value::Listed;

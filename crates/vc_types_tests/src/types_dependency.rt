@@ -5,7 +5,7 @@ use std::test::Fail;
 use vc_model_parts::{
     Characteristic, Class, Model, NamedDependency, Net, Object as Material, Table, Values,
 };
-use vc_syntax_terms::tree::{
+use vc_syntax_tree::{
     Condition, Dependency, NameLeaf, NumberLeaf, Operand, Relation, Relator, Term, TextLeaf,
 };
 use vc_types::{At, Place, TypeFaultKind};

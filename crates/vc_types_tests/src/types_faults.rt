@@ -1,7 +1,7 @@
 //! What stands where it may, and what doesn't.
 
 use std::test::Fail;
-use vc_syntax_terms::tree::Dependency;
+use vc_syntax_tree::Dependency;
 use vc_types::At;
 use vc_types_faults::places::{has_instance, is_constraint, is_for_net, is_line, is_procedure};
 use vc_types_meanings::borrowed;

@@ -6,9 +6,7 @@ use std::test::Fail;
 use vc_model_parts::{
     Characteristic, Class, Model, NamedDependency, Net, Object as Material, Table, Values,
 };
-use vc_syntax_terms::tree::{
-    Alias, Constraint, Dependency, NameLeaf, Object, ObjectKind, Operand, Owner,
-};
+use vc_syntax_tree::{Alias, Constraint, Dependency, NameLeaf, Object, ObjectKind, Operand, Owner};
 use vc_types::{At, Meaning, Place};
 use vc_types_meanings::{Setting, borrowed};
 use vc_types_names::Names;

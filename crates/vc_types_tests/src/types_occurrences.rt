@@ -4,7 +4,7 @@ use std::alloc::Global;
 use std::process::Abort;
 use std::test::Fail;
 use vc_model_parts::{Characteristic, Class, Model, NamedDependency, Net, Object, Table};
-use vc_syntax_terms::tree::{Action, Condition, Dependency, NameLeaf, Operand, Statement, Term};
+use vc_syntax_tree::{Action, Condition, Dependency, NameLeaf, Operand, Statement, Term};
 use vc_types::{At, Place};
 use vc_types_meanings::{Setting, Tree, borrowed};
 use vc_types_names::Names;

@@ -1,7 +1,7 @@
 //! What the lines of a chain file have told so far.
 
 ghost use Rattle.std.specs.Prelude.{◌≡◌, IfOk};
-ghost use Rattle.vc_wire_chains_lines.specs.Meant.{HasNumbers};
+ghost use Rattle.vc_wire_chains_meanings.specs.Meant.{HasNumbers};
 ghost use Rattle.vc_wire_chains.specs.Files as files;
 
 use std::alloc::{AllocError, Global};

@@ -2,7 +2,7 @@
 
 ghost use Rattle.std.specs.Prelude.{◌≡◌, IfOk};
 ghost use Rattle.vc_plan.specs.Valid.{IsValid};
-ghost use Rattle.vc_wire_chains_lines.specs.Meant.{HasNumbers};
+ghost use Rattle.vc_wire_chains_meanings.specs.Meant.{HasNumbers};
 ghost use Rattle.vc_wire_chains.specs.Files as files;
 ghost use Rattle.vc_wire_chains.specs.Reading as told;
 
@@ -71,7 +71,7 @@ fn read(alloc: Global, plan: &Plan, text: &[u8]) -> Result<Result<ChainFile, u64
 }
 
 /// The chain file that the text spells in the plan.
-#[tactic(auto, using(vc_wire_chains_lines::proofs::NumberLemmas::have_numbers))]
+#[tactic(auto, using(vc_wire_chains_meanings::proofs::NumberLemmas::have_numbers))]
 pub fn read_chain(alloc: Global, plan: &Plan, text: &[u8]) -> Result<ChainFile, ChainFault>
     requires { IsValid plan.now }
     ensures { told.Answers (files.chain_of plan.now text.now) result }

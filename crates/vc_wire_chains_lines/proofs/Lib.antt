@@ -1,4 +1,3 @@
 mod CuttingLemmas
-pub mod NumberLemmas
+mod NumberLemmas
 pub mod RangeLemmas
-mod WritingLemmas

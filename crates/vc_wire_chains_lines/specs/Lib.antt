@@ -1,5 +1,3 @@
 pub mod Cutting
-pub mod Laws
-pub mod Meant
 pub mod Steps
 pub mod Values

@@ -12,8 +12,8 @@ use Rattle.vc_plan.specs.declared.atoms.Step.{Step}
 use Rattle.vc_plan.specs.declared.plans.Plan.{Plan}
 use Rattle.vc_wire_requests.specs.Requests.{cut_at_space, ◌>>=◌}
 use Rattle.vc_wire_chains_lines.specs.Cutting.{after, number_in, numbers_at, part_before, part_behind}
-use Rattle.vc_wire_chains_lines.specs.Meant.{constraint_named, is_writer, last_of, line_numbered, statement_numbered}
-use Rattle.vc_wire_chains_lines.specs.Meant.{variable_named}
+use Rattle.vc_wire_chains_meanings.specs.Meant.{constraint_named, is_writer, last_of, line_numbered, statement_numbered}
+use Rattle.vc_wire_chains_meanings.specs.Meant.{variable_named}
 use Rattle.vc_wire_chains_lines.specs.Values.{behind_grain, behind_value, grain_ahead, value_ahead}
 use Rattle.vc_wire_chains_lines.specs.declared.endings.Ending.{Ending}
 use Rattle.vc_wire_chains_lines.specs.declared.places.Place.{Place}

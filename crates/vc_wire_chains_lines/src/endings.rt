@@ -2,7 +2,7 @@
 
 ghost use Rattle.std.specs.Prelude.{◌≡◌, IfOk};
 ghost use Rattle.std.specs.Option.{option_copied};
-ghost use Rattle.vc_wire_chains_lines.specs.Meant.{HasNumbers};
+ghost use Rattle.vc_wire_chains_meanings.specs.Meant.{HasNumbers};
 ghost use Rattle.vc_wire_chains_lines.specs.Steps as steps;
 
 use crate::cutting::after;

@@ -3,8 +3,6 @@
 
 pub mod cutting;
 pub mod endings;
-pub mod laws;
-pub mod meaning;
 pub mod numbers;
 pub mod places;
 pub mod spelling;

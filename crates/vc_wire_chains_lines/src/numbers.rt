@@ -1,20 +1,12 @@
 //! Numbers of 32 bits, and lists of them.
 
-ghost use Rattle.std.specs.Prelude.{◌≡◌, ◌≤◌, ◌<◌, ◌^◌, length, IfOk, IsTrue};
-ghost use Rattle.std.specs.Char.{is_ascii_digit};
-ghost use Rattle.std.specs.List.{list_all};
-ghost use Rattle.vc_value.specs.Decimals.{number_of};
+ghost use Rattle.std.specs.Prelude.{◌≡◌, IfOk};
 ghost use Rattle.vc_wire_chains_lines.specs.Cutting as cutting;
 
 use crate::cutting::cut;
 use std::alloc::{AllocError, Global};
 use vc_value::Listed;
-
-fn all_digits(word: &[u8]) -> bool
-    ensures { result ≡ list_all is_ascii_digit word.now }
-{
-    word.iter().all(|byte| byte.is_ascii_digit())
-}
+use vc_wire_requests::cutting::{all_digits, number_of};
 
 fn is_plain(word: &[u8]) -> bool
     ensures { result ≡ cutting.is_plain word.now }
@@ -25,19 +17,6 @@ fn is_plain(word: &[u8]) -> bool
         }
         [] => false,
     }
-}
-
-fn number_of(digits: &[u8]) -> u64
-    requires digits { IsTrue (list_all is_ascii_digit digits.now) }
-    requires fits { length digits.now ≤ 10 }
-    ensures value { result ≡ number_of digits.now }
-    ensures small { result < 10 ^ length digits.now }
-{
-    let mut number = 0;
-    for digit in digits {
-        number = number * 10 + u64::from(*digit - b'0');
-    }
-    number
 }
 
 fn narrow(number: u64) -> Option<u32>

@@ -2,15 +2,15 @@
 
 ghost use Rattle.std.specs.Prelude.{◌≡◌, IfOk};
 ghost use Rattle.std.specs.Option.{option_map};
-ghost use Rattle.vc_wire_chains_lines.specs.Meant.{HasNumbers};
+ghost use Rattle.vc_wire_chains_meanings.specs.Meant.{HasNumbers};
 ghost use Rattle.vc_wire_chains_lines.specs.Steps as steps;
 
 use crate::cutting::{after, cut};
-use crate::meaning::{constraint_named, statement_numbered};
 use crate::numbers::{number_in, numbers_at};
 use std::alloc::{AllocError, Global};
 use vc_plan::Plan;
 use vc_value::equals_ignoring_case;
+use vc_wire_chains_meanings::meaning::{constraint_named, statement_numbered};
 use vc_wire_requests::cutting::cut_at_space;
 
 /// `NAME k at W`: a dependency's name, a number and a word, and what follows the space behind it.

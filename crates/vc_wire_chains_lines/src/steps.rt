@@ -2,17 +2,17 @@
 
 ghost use Rattle.std.specs.Prelude.{◌≡◌, IfOk};
 ghost use Rattle.std.specs.Option.{option_copied, option_map};
-ghost use Rattle.vc_wire_chains_lines.specs.Meant.{HasNumbers};
+ghost use Rattle.vc_wire_chains_meanings.specs.Meant.{HasNumbers};
 ghost use Rattle.vc_wire_chains_lines.specs.Steps as steps;
 
 use crate::cutting::{after, cut};
-use crate::meaning::{is_writer, last_of, line_numbered, variable_named};
 use crate::numbers::{number_in, numbers_at};
 use crate::places::{Place, constraint_at, is_word, place_of, statement_at};
 use crate::values::{behind_grain, behind_value, grain_ahead, value_ahead};
 use std::alloc::{AllocError, Global};
 use vc_plan::{Atom, Origin, Plan, Step};
 use vc_value::Listed;
+use vc_wire_chains_meanings::meaning::{is_writer, last_of, line_numbered, variable_named};
 use vc_wire_requests::cutting::cut_at_space;
 
 fn premises_from(alloc: Global, text: &[u8]) -> Result<Option<Listed<u32>>, AllocError>

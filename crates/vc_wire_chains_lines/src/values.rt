@@ -7,7 +7,7 @@ ghost use Rattle.vc_plan.specs.Fitting.{may_have};
 ghost use Rattle.vc_value.specs.Decimals.{read_number};
 ghost use Rattle.vc_value.specs.declared.value.Value.TheVariants.{Num};
 ghost use Rattle.vc_wire_chains_lines.specs.Cutting as cutting;
-ghost use Rattle.vc_wire_chains_lines.specs.Meant.{HasNumbers};
+ghost use Rattle.vc_wire_chains_meanings.specs.Meant.{HasNumbers};
 ghost use Rattle.vc_wire_chains_lines.specs.Values as told;
 
 use crate::cutting::{after, behind_quoted, is_quoted, quoted_text};

@@ -5,10 +5,10 @@ use Rattle.vc_value.specs.declared.value.Value.TheVariants.{Text}
 use Rattle.vc_model_parts.specs.declared.parts.BillItem.{BillItem}
 use Rattle.vc_model_parts.specs.declared.parts.Component.TheVariants as components
 use Rattle.vc_model_parts.specs.declared.parts.Model.{Model}
-use Rattle.vc_syntax_terms.specs.declared.tree.Operand.TheVariants.{Owned}
-use Rattle.vc_syntax_terms.specs.declared.tree.Owner.TheVariants.{Root}
-use Rattle.vc_syntax_terms.specs.declared.tree.Relator.TheVariants as relators
-use Rattle.vc_syntax_terms.specs.declared.tree.Term.TheVariants as terms
+use Rattle.vc_syntax_tree.specs.declared.Operand.TheVariants.{Owned}
+use Rattle.vc_syntax_tree.specs.declared.Owner.TheVariants.{Root}
+use Rattle.vc_syntax_tree.specs.declared.Relator.TheVariants as relators
+use Rattle.vc_syntax_tree.specs.declared.Term.TheVariants as terms
 use Rattle.vc_plan.specs.declared.conditions.Condition.TheVariants.{Always, Compared}
 use Rattle.vc_plan.specs.declared.conditions.Relation.TheVariants.{Equal}
 use Rattle.vc_plan.specs.declared.plans.Slot.{Slot}

@@ -11,15 +11,15 @@ use Rattle.vc_model_parts.specs.declared.parts.Component.TheVariants as componen
 use Rattle.vc_model_parts.specs.declared.parts.Model.{Model}
 use Rattle.vc_model_parts.specs.declared.parts.NamedDependency.{NamedDependency}
 use Rattle.vc_model_parts.specs.declared.parts.Object.{Object}
-use Rattle.vc_syntax_terms.specs.declared.tree.Action.TheVariants as actions
-use Rattle.vc_syntax_terms.specs.declared.tree.Demand.TheVariants as demands
-use Rattle.vc_syntax_terms.specs.declared.tree.Operand.TheVariants.{Variable}
-use Rattle.vc_syntax_terms.specs.declared.tree.Operator.TheVariants.{Times}
-use Rattle.vc_syntax_terms.specs.declared.tree.Relator.{Relator}
-use Rattle.vc_syntax_terms.specs.declared.tree.Relator.TheVariants as relators
-use Rattle.vc_syntax_terms.specs.declared.tree.Restriction.{Restriction}
-use Rattle.vc_syntax_terms.specs.declared.tree.Term.{Term}
-use Rattle.vc_syntax_terms.specs.declared.tree.Term.TheVariants as terms
+use Rattle.vc_syntax_tree.specs.declared.Action.TheVariants as actions
+use Rattle.vc_syntax_tree.specs.declared.Demand.TheVariants as demands
+use Rattle.vc_syntax_tree.specs.declared.Operand.TheVariants.{Variable}
+use Rattle.vc_syntax_tree.specs.declared.Operator.TheVariants.{Times}
+use Rattle.vc_syntax_tree.specs.declared.Relator.{Relator}
+use Rattle.vc_syntax_tree.specs.declared.Relator.TheVariants as relators
+use Rattle.vc_syntax_tree.specs.declared.Restriction.{Restriction}
+use Rattle.vc_syntax_tree.specs.declared.Term.{Term}
+use Rattle.vc_syntax_tree.specs.declared.Term.TheVariants as terms
 use Rattle.vc_table.specs.declared.table.VariantTable.{VariantTable}
 use Rattle.vc_plan.proofs.PlanRows.Models as plans
 use Rattle.vc_compile_plan.specs.Cuts.{domains_of}

@@ -4,13 +4,13 @@ use Rattle.std.specs.Prelude.{None, Some, codes}
 use Rattle.vc_value.specs.declared.value.Value.TheVariants.{Num}
 use Rattle.vc_model_parts.specs.declared.parts.Component.TheVariants as components
 use Rattle.vc_model_parts.specs.declared.parts.Model.{Model}
-use Rattle.vc_syntax_terms.specs.declared.tree.Action.TheVariants as actions
-use Rattle.vc_syntax_terms.specs.declared.tree.Demand.TheVariants as demands
-use Rattle.vc_syntax_terms.specs.declared.tree.Operator.TheVariants as operators
-use Rattle.vc_syntax_terms.specs.declared.tree.Relator.TheVariants as relators
-use Rattle.vc_syntax_terms.specs.declared.tree.Restriction.{Restriction}
-use Rattle.vc_syntax_terms.specs.declared.tree.Term.{Term}
-use Rattle.vc_syntax_terms.specs.declared.tree.Term.TheVariants as terms
+use Rattle.vc_syntax_tree.specs.declared.Action.TheVariants as actions
+use Rattle.vc_syntax_tree.specs.declared.Demand.TheVariants as demands
+use Rattle.vc_syntax_tree.specs.declared.Operator.TheVariants as operators
+use Rattle.vc_syntax_tree.specs.declared.Relator.TheVariants as relators
+use Rattle.vc_syntax_tree.specs.declared.Restriction.{Restriction}
+use Rattle.vc_syntax_tree.specs.declared.Term.{Term}
+use Rattle.vc_syntax_tree.specs.declared.Term.TheVariants as terms
 use Rattle.vc_types.specs.declared.fault.TypeFaultKind.TheVariants as kinds
 use Rattle.vc_plan.specs.declared.conditions.Relation.TheVariants as relations
 use Rattle.vc_plan.specs.declared.plans.Plan.{Plan}

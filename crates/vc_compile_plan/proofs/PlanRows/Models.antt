@@ -6,11 +6,11 @@ use Rattle.vc_value.specs.declared.value.Value.TheVariants.{Text}
 use Rattle.vc_model_parts.specs.declared.parts.Component.TheVariants as components
 use Rattle.vc_model_parts.specs.declared.parts.Model.{Model}
 use Rattle.vc_model_parts.specs.declared.parts.Values.TheVariants as values
-use Rattle.vc_syntax_terms.specs.declared.tree.Demand.TheVariants as demands
-use Rattle.vc_syntax_terms.specs.declared.tree.Operator.TheVariants.{Plus, Times, Over}
-use Rattle.vc_syntax_terms.specs.declared.tree.Relator.TheVariants.{Equal, LessEqual, Greater, GreaterEqual}
-use Rattle.vc_syntax_terms.specs.declared.tree.Term.TheVariants as terms
-use Rattle.vc_syntax_terms.specs.declared.tree.Restriction.{Restriction}
+use Rattle.vc_syntax_tree.specs.declared.Demand.TheVariants as demands
+use Rattle.vc_syntax_tree.specs.declared.Operator.TheVariants.{Plus, Times, Over}
+use Rattle.vc_syntax_tree.specs.declared.Relator.TheVariants.{Equal, LessEqual, Greater, GreaterEqual}
+use Rattle.vc_syntax_tree.specs.declared.Term.TheVariants as terms
+use Rattle.vc_syntax_tree.specs.declared.Restriction.{Restriction}
 use Rattle.vc_table.specs.declared.table.VariantTable.{VariantTable}
 use Rattle.vc_plan.specs.declared.plans.Plan.{Plan}
 use Rattle.vc_plan.proofs.PlanRows.Models as plans

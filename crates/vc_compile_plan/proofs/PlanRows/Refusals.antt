@@ -6,11 +6,11 @@ use Rattle.vc_model_parts.specs.declared.parts.Component.TheVariants as componen
 use Rattle.vc_model_parts.specs.declared.parts.Model.{Model}
 use Rattle.vc_model_parts.specs.declared.parts.NamedDependency.{NamedDependency}
 use Rattle.vc_model_parts.specs.declared.parts.Object.{Object}
-use Rattle.vc_syntax_terms.specs.declared.tree.Action.TheVariants as actions
-use Rattle.vc_syntax_terms.specs.declared.tree.Condition.TheVariants as conditions
-use Rattle.vc_syntax_terms.specs.declared.tree.Operand.TheVariants.{Plain}
-use Rattle.vc_syntax_terms.specs.declared.tree.Relator.TheVariants as relators
-use Rattle.vc_syntax_terms.specs.declared.tree.Term.{Term}
+use Rattle.vc_syntax_tree.specs.declared.Action.TheVariants as actions
+use Rattle.vc_syntax_tree.specs.declared.Condition.TheVariants as conditions
+use Rattle.vc_syntax_tree.specs.declared.Operand.TheVariants.{Plain}
+use Rattle.vc_syntax_tree.specs.declared.Relator.TheVariants as relators
+use Rattle.vc_syntax_tree.specs.declared.Term.{Term}
 use Rattle.vc_types.specs.declared.fault.TypeFaultKind.{TypeFaultKind}
 use Rattle.vc_types.specs.declared.fault.TypeFaultKind.TheVariants as kinds
 use Rattle.vc_plan.proofs.PlanRows.Models as plans

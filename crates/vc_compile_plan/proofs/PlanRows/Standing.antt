@@ -3,14 +3,14 @@ use Rattle.std.proofs.Common.{◌≡◌, ℕ, ◌+◌, pos, neg_ℤ, true, false
 use Rattle.std.specs.Prelude.{None, Some, codes}
 use Rattle.vc_value.specs.declared.value.Value.TheVariants.{Text}
 use Rattle.vc_model_parts.specs.declared.parts.Model.{Model}
-use Rattle.vc_syntax_terms.specs.declared.tree.Action.TheVariants as actions
-use Rattle.vc_syntax_terms.specs.declared.tree.Condition.TheVariants as conditions
-use Rattle.vc_syntax_terms.specs.declared.tree.Item.TheVariants as items
-use Rattle.vc_syntax_terms.specs.declared.tree.Operand.TheVariants.{Plain}
-use Rattle.vc_syntax_terms.specs.declared.tree.Relation.TheVariants as relations
-use Rattle.vc_syntax_terms.specs.declared.tree.Relator.TheVariants as relators
-use Rattle.vc_syntax_terms.specs.declared.tree.Term.TheVariants as terms
-use Rattle.vc_syntax_terms.specs.declared.tree.TextLeaf.{TextLeaf}
+use Rattle.vc_syntax_tree.specs.declared.Action.TheVariants as actions
+use Rattle.vc_syntax_tree.specs.declared.Condition.TheVariants as conditions
+use Rattle.vc_syntax_tree.specs.declared.Item.TheVariants as items
+use Rattle.vc_syntax_tree.specs.declared.Operand.TheVariants.{Plain}
+use Rattle.vc_syntax_tree.specs.declared.Relation.TheVariants as relations
+use Rattle.vc_syntax_tree.specs.declared.Relator.TheVariants as relators
+use Rattle.vc_syntax_tree.specs.declared.Term.TheVariants as terms
+use Rattle.vc_syntax_tree.specs.declared.TextLeaf.{TextLeaf}
 use Rattle.vc_plan.specs.declared.conditions.Condition.TheVariants.{Always, Specified, Holds, Filled, Not', Or'}
 use Rattle.vc_plan.specs.declared.conditions.Piece.TheVariants.{OneText, Stretch}
 use Rattle.vc_plan.specs.declared.plans.Named.TheVariants.{Var, Set}

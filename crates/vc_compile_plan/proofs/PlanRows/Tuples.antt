@@ -6,17 +6,17 @@ use Rattle.vc_value.specs.declared.table_header.Domain.TheVariants.{Texts, Nums}
 use Rattle.vc_value.specs.declared.value.Value.TheVariants.{Text}
 use Rattle.vc_model_parts.specs.declared.parts.Component.TheVariants as components
 use Rattle.vc_model_parts.specs.declared.parts.Model.{Model}
-use Rattle.vc_syntax_terms.specs.declared.tree.Condition.TheVariants as conditions
-use Rattle.vc_syntax_terms.specs.declared.tree.Demand.TheVariants as demands
-use Rattle.vc_syntax_terms.specs.declared.tree.Item.TheVariants as items
-use Rattle.vc_syntax_terms.specs.declared.tree.Object.{Object}
-use Rattle.vc_syntax_terms.specs.declared.tree.ObjectKind.TheVariants as kinds
-use Rattle.vc_syntax_terms.specs.declared.tree.Operand.TheVariants.{Member, Variable}
-use Rattle.vc_syntax_terms.specs.declared.tree.Relation.TheVariants as relations
-use Rattle.vc_syntax_terms.specs.declared.tree.Relator.TheVariants as relators
-use Rattle.vc_syntax_terms.specs.declared.tree.SignedNumber.{SignedNumber}
-use Rattle.vc_syntax_terms.specs.declared.tree.Term.TheVariants as terms
-use Rattle.vc_syntax_terms.specs.Trees.{Constraint}
+use Rattle.vc_syntax_tree.specs.declared.Condition.TheVariants as conditions
+use Rattle.vc_syntax_tree.specs.declared.Demand.TheVariants as demands
+use Rattle.vc_syntax_tree.specs.declared.Item.TheVariants as items
+use Rattle.vc_syntax_tree.specs.declared.Object.{Object}
+use Rattle.vc_syntax_tree.specs.declared.ObjectKind.TheVariants as kinds
+use Rattle.vc_syntax_tree.specs.declared.Operand.TheVariants.{Member, Variable}
+use Rattle.vc_syntax_tree.specs.declared.Relation.TheVariants as relations
+use Rattle.vc_syntax_tree.specs.declared.Relator.TheVariants as relators
+use Rattle.vc_syntax_tree.specs.declared.SignedNumber.{SignedNumber}
+use Rattle.vc_syntax_tree.specs.declared.Term.TheVariants as terms
+use Rattle.vc_syntax_tree.specs.Trees.{Constraint}
 use Rattle.vc_plan.specs.declared.conditions.Condition.{Condition}
 use Rattle.vc_plan.specs.declared.conditions.Condition.TheVariants.{Always, Compared, And'}
 use Rattle.vc_plan.specs.declared.conditions.Piece.TheVariants.{Stretch}

@@ -17,27 +17,27 @@ use Rattle.vc_model_parts.specs.declared.parts.TableColumn.{TableColumn}
 use Rattle.vc_model_parts.specs.declared.parts.TextValue.{TextValue}
 use Rattle.vc_model_parts.specs.declared.parts.Values.{Values}
 use Rattle.vc_model_parts.specs.declared.parts.Values.TheVariants as values
-use Rattle.vc_syntax_terms.specs.declared.tree.Action as doing
-use Rattle.vc_syntax_terms.specs.declared.tree.Binding.{Binding}
-use Rattle.vc_syntax_terms.specs.declared.tree.Condition as asking
-use Rattle.vc_syntax_terms.specs.declared.tree.Condition.TheVariants as conditions
-use Rattle.vc_syntax_terms.specs.declared.tree.Demand as demanding
-use Rattle.vc_syntax_terms.specs.declared.tree.Dependency as depending
-use Rattle.vc_syntax_terms.specs.declared.tree.Dependency.TheVariants as dependencies
-use Rattle.vc_syntax_terms.specs.declared.tree.NameLeaf.{NameLeaf}
-use Rattle.vc_syntax_terms.specs.declared.tree.Object.{Object}
-use Rattle.vc_syntax_terms.specs.declared.tree.ObjectKind.TheVariants as kinds
-use Rattle.vc_syntax_terms.specs.declared.tree.Operand.{Operand}
-use Rattle.vc_syntax_terms.specs.declared.tree.Operand.TheVariants.{Plain, Owned, Member}
-use Rattle.vc_syntax_terms.specs.declared.tree.Owner.TheVariants.{Itself}
-use Rattle.vc_syntax_terms.specs.declared.tree.Relation as relating
-use Rattle.vc_syntax_terms.specs.declared.tree.Relation.TheVariants as relations
-use Rattle.vc_syntax_terms.specs.declared.tree.Relator.{Relator}
-use Rattle.vc_syntax_terms.specs.declared.tree.Restriction.{Restriction}
-use Rattle.vc_syntax_terms.specs.declared.tree.Statement.{Statement}
-use Rattle.vc_syntax_terms.specs.declared.tree.TableCall.{TableCall}
-use Rattle.vc_syntax_terms.specs.declared.tree.Term as counting
-use Rattle.vc_syntax_terms.specs.declared.tree.Term.TheVariants as terms
+use Rattle.vc_syntax_tree.specs.declared.Action as doing
+use Rattle.vc_syntax_tree.specs.declared.Binding.{Binding}
+use Rattle.vc_syntax_tree.specs.declared.Condition as asking
+use Rattle.vc_syntax_tree.specs.declared.Condition.TheVariants as conditions
+use Rattle.vc_syntax_tree.specs.declared.Demand as demanding
+use Rattle.vc_syntax_tree.specs.declared.Dependency as depending
+use Rattle.vc_syntax_tree.specs.declared.Dependency.TheVariants as dependencies
+use Rattle.vc_syntax_tree.specs.declared.NameLeaf.{NameLeaf}
+use Rattle.vc_syntax_tree.specs.declared.Object.{Object}
+use Rattle.vc_syntax_tree.specs.declared.ObjectKind.TheVariants as kinds
+use Rattle.vc_syntax_tree.specs.declared.Operand.{Operand}
+use Rattle.vc_syntax_tree.specs.declared.Operand.TheVariants.{Plain, Owned, Member}
+use Rattle.vc_syntax_tree.specs.declared.Owner.TheVariants.{Itself}
+use Rattle.vc_syntax_tree.specs.declared.Relation as relating
+use Rattle.vc_syntax_tree.specs.declared.Relation.TheVariants as relations
+use Rattle.vc_syntax_tree.specs.declared.Relator.{Relator}
+use Rattle.vc_syntax_tree.specs.declared.Restriction.{Restriction}
+use Rattle.vc_syntax_tree.specs.declared.Statement.{Statement}
+use Rattle.vc_syntax_tree.specs.declared.TableCall.{TableCall}
+use Rattle.vc_syntax_tree.specs.declared.Term as counting
+use Rattle.vc_syntax_tree.specs.declared.Term.TheVariants as terms
 use Rattle.vc_table.specs.declared.table.Row.{Row}
 use Rattle.vc_table.specs.declared.table.VariantTable.{VariantTable}
 use Rattle.vc_compile_plan.specs.Trees.{Spot}

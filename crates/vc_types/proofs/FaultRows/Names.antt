@@ -1,10 +1,10 @@
 -- What isn't there, what stands twice, and whose characteristic is meant.
 use Rattle.std.proofs.Common.{◌≡◌, [], ◌∷◌, refl}
 use Rattle.std.specs.Prelude.{None, Some, codes}
-use Rattle.vc_syntax_terms.specs.declared.tree.ObjectKind.TheVariants as objects
-use Rattle.vc_syntax_terms.specs.declared.tree.Owner.TheVariants.{Itself, Parent, Root}
-use Rattle.vc_syntax_terms.specs.Trees.{Operand, SumOfParts, PartOf, Precondition, Selection, Procedure, Counts, Assign}
-use Rattle.vc_syntax_terms.specs.Trees.{Calls}
+use Rattle.vc_syntax_tree.specs.declared.ObjectKind.TheVariants as objects
+use Rattle.vc_syntax_tree.specs.declared.Owner.TheVariants.{Itself, Parent, Root}
+use Rattle.vc_syntax_tree.specs.Trees.{Operand, SumOfParts, PartOf, Precondition, Selection, Procedure, Counts, Assign}
+use Rattle.vc_syntax_tree.specs.Trees.{Calls}
 use Rattle.vc_types.specs.Faults.{fault_of}
 use Rattle.vc_types.specs.declared.fault.TypeFaultKind.TheVariants.{UnknownName, DoubleName, SelfInConstraint, NoParent}
 use Rattle.vc_types.specs.declared.fault.TypeFaultKind.TheVariants.{SelfInLine, VariableOutside, TooManyObjects}

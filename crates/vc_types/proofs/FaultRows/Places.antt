@@ -1,12 +1,12 @@
 -- What may not be asked where the dependency stands.
 use Rattle.std.proofs.Common.{◌≡◌, ℕ, List, [], ◌∷◌, refl}
 use Rattle.std.specs.Prelude.{None, Some, codes}
-use Rattle.vc_syntax_terms.specs.declared.tree.Operator.TheVariants.{Plus}
-use Rattle.vc_syntax_terms.specs.declared.tree.Owner.TheVariants.{Itself}
-use Rattle.vc_syntax_terms.specs.declared.tree.Relator.TheVariants.{Equal}
-use Rattle.vc_syntax_terms.specs.Trees.{Binding, Condition, And, Or, Not, PartOf, Specified, Operand, Negated, Combined}
-use Rattle.vc_syntax_terms.specs.Trees.{SumOfParts, CountOfParts, Precondition, Selection, Procedure, Counts}
-use Rattle.vc_syntax_terms.specs.Trees.{Constrains, Holds, Never, Assign, Calls, Dependency}
+use Rattle.vc_syntax_tree.specs.declared.Operator.TheVariants.{Plus}
+use Rattle.vc_syntax_tree.specs.declared.Owner.TheVariants.{Itself}
+use Rattle.vc_syntax_tree.specs.declared.Relator.TheVariants.{Equal}
+use Rattle.vc_syntax_tree.specs.Trees.{Binding, Condition, And, Or, Not, PartOf, Specified, Operand, Negated, Combined}
+use Rattle.vc_syntax_tree.specs.Trees.{SumOfParts, CountOfParts, Precondition, Selection, Procedure, Counts}
+use Rattle.vc_syntax_tree.specs.Trees.{Constrains, Holds, Never, Assign, Calls, Dependency}
 use Rattle.vc_types.specs.Faults.{fault_of}
 use Rattle.vc_types.specs.declared.fault.TypeFaultKind.TheVariants.{NotMonotone, SelfInConstraint, SelfInLine, NoKey}
 use Rattle.vc_types.specs.declared.fault.TypeFaultKind.TheVariants.{NotATerm, SumPlace, PartOfPlace}

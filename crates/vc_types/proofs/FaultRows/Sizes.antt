@@ -1,11 +1,11 @@
 -- How large numbers may get: both sides of each limit.
 use Rattle.std.proofs.Common.{◌≡◌, ℕ, ◌-◌, ◌^◌, [], ◌∷◌, refl}
 use Rattle.std.specs.Prelude.{None, Some, codes}
-use Rattle.vc_syntax_terms.specs.declared.tree.Function.TheVariants.{Abs, Sign, Trunc, Floor, Ceil, Frac}
-use Rattle.vc_syntax_terms.specs.declared.tree.Operator.TheVariants.{Plus, Minus, Times, Over}
-use Rattle.vc_syntax_terms.specs.declared.tree.Relator.TheVariants.{Equal}
-use Rattle.vc_syntax_terms.specs.Trees.{Term, Operand, Negated, Combined, Applied, SumOfParts, CountOfParts, Counts}
-use Rattle.vc_syntax_terms.specs.Trees.{Procedure, Precondition, Assign}
+use Rattle.vc_syntax_tree.specs.declared.Function.TheVariants.{Abs, Sign, Trunc, Floor, Ceil, Frac}
+use Rattle.vc_syntax_tree.specs.declared.Operator.TheVariants.{Plus, Minus, Times, Over}
+use Rattle.vc_syntax_tree.specs.declared.Relator.TheVariants.{Equal}
+use Rattle.vc_syntax_tree.specs.Trees.{Term, Operand, Negated, Combined, Applied, SumOfParts, CountOfParts, Counts}
+use Rattle.vc_syntax_tree.specs.Trees.{Procedure, Precondition, Assign}
 use Rattle.vc_types.specs.Faults.{fault_of}
 use Rattle.vc_types.specs.RangeFaults.{size_of}
 use Rattle.vc_types.specs.Settings.{setting_of}

@@ -11,17 +11,17 @@ use Rattle.vc_model_parts.specs.declared.parts.Component.TheVariants as componen
 use Rattle.vc_model_parts.specs.declared.parts.Model.{Model}
 use Rattle.vc_model_parts.specs.declared.parts.Values.{Values}
 use Rattle.vc_model_parts.specs.declared.parts.Values.TheVariants as values
-use Rattle.vc_syntax_terms.specs.declared.tree.NameLeaf.{NameLeaf}
-use Rattle.vc_syntax_terms.specs.declared.tree.Object.{Object}
-use Rattle.vc_syntax_terms.specs.declared.tree.ObjectKind.TheVariants as objects
-use Rattle.vc_syntax_terms.specs.declared.tree.Operand.{Operand as Name}
-use Rattle.vc_syntax_terms.specs.declared.tree.Operand.TheVariants.{Plain, Owned, Member, Variable}
-use Rattle.vc_syntax_terms.specs.declared.tree.Owner.{Owner}
-use Rattle.vc_syntax_terms.specs.declared.tree.Relator.{Relator}
-use Rattle.vc_syntax_terms.specs.declared.tree.Relator.TheVariants.{Equal}
-use Rattle.vc_syntax_terms.specs.declared.tree.Term.{Term as StoredTerm}
-use Rattle.vc_syntax_terms.specs.Trees.{Term, Number, Text, Operand, Condition, Related, Compared, Dependency}
-use Rattle.vc_syntax_terms.specs.Trees.{Constrains}
+use Rattle.vc_syntax_tree.specs.declared.NameLeaf.{NameLeaf}
+use Rattle.vc_syntax_tree.specs.declared.Object.{Object}
+use Rattle.vc_syntax_tree.specs.declared.ObjectKind.TheVariants as objects
+use Rattle.vc_syntax_tree.specs.declared.Operand.{Operand as Name}
+use Rattle.vc_syntax_tree.specs.declared.Operand.TheVariants.{Plain, Owned, Member, Variable}
+use Rattle.vc_syntax_tree.specs.declared.Owner.{Owner}
+use Rattle.vc_syntax_tree.specs.declared.Relator.{Relator}
+use Rattle.vc_syntax_tree.specs.declared.Relator.TheVariants.{Equal}
+use Rattle.vc_syntax_tree.specs.declared.Term.{Term as StoredTerm}
+use Rattle.vc_syntax_tree.specs.Trees.{Term, Number, Text, Operand, Condition, Related, Compared, Dependency}
+use Rattle.vc_syntax_tree.specs.Trees.{Constrains}
 use Rattle.vc_types.specs.declared.place.At.TheVariants as at
 use Rattle.vc_types.specs.declared.place.Place.{Place}
 

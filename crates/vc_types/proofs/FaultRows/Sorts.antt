@@ -1,15 +1,15 @@
 -- Texts and numbers that meet, sets, and what stands for something else.
 use Rattle.std.proofs.Common.{◌≡◌, pos, true, List, [], ◌∷◌, refl}
 use Rattle.std.specs.Prelude.{None, Some, codes}
-use Rattle.vc_syntax_terms.specs.declared.tree.Function.TheVariants.{Abs}
-use Rattle.vc_syntax_terms.specs.declared.tree.Item.{Item}
-use Rattle.vc_syntax_terms.specs.declared.tree.Item.TheVariants as items
-use Rattle.vc_syntax_terms.specs.declared.tree.Operator.TheVariants.{Plus}
-use Rattle.vc_syntax_terms.specs.declared.tree.SignedNumber.{SignedNumber}
-use Rattle.vc_syntax_terms.specs.declared.tree.Relator.TheVariants.{Equal, Unequal, Less}
-use Rattle.vc_syntax_terms.specs.Trees.{Related, Within, PartOf, Specified, Operand, Negated, Combined, Applied}
-use Rattle.vc_syntax_terms.specs.Trees.{SumOfParts, Precondition, Procedure, Counts, Constrains, Assign, SetDefault}
-use Rattle.vc_syntax_terms.specs.Trees.{DelDefault, Calls}
+use Rattle.vc_syntax_tree.specs.declared.Function.TheVariants.{Abs}
+use Rattle.vc_syntax_tree.specs.declared.Item.{Item}
+use Rattle.vc_syntax_tree.specs.declared.Item.TheVariants as items
+use Rattle.vc_syntax_tree.specs.declared.Operator.TheVariants.{Plus}
+use Rattle.vc_syntax_tree.specs.declared.SignedNumber.{SignedNumber}
+use Rattle.vc_syntax_tree.specs.declared.Relator.TheVariants.{Equal, Unequal, Less}
+use Rattle.vc_syntax_tree.specs.Trees.{Related, Within, PartOf, Specified, Operand, Negated, Combined, Applied}
+use Rattle.vc_syntax_tree.specs.Trees.{SumOfParts, Precondition, Procedure, Counts, Constrains, Assign, SetDefault}
+use Rattle.vc_syntax_tree.specs.Trees.{DelDefault, Calls}
 use Rattle.vc_types.specs.Faults.{fault_of}
 use Rattle.vc_types.specs.declared.fault.TypeFaultKind.TheVariants.{WrongKind, NotMonotone}
 use Rattle.vc_types.proofs.FaultRows.Small.{Quantity, small, in_net, at_root, by_root, at_operation, leaf, plain}

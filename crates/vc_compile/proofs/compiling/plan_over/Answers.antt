@@ -1,6 +1,6 @@
 -- What isn't typed, or too large, refuses the layout.
 use Rattle.std.proofs.lemmas.Result.{err_from_is_err_and}
-use Rattle.vc_compile_sites.specs.Standing.{layout_seen}
+use Rattle.vc_compile_layout.specs.Standing.{layout_seen}
 use Rattle.vc_compile.proofs.RefusalLaws.{size_refuses}
 use Rattle.vc_compile.proofs.compiling.plan_over.Goals as goal
 

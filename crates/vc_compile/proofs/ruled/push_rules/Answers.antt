@@ -2,7 +2,7 @@ use Rattle.std.proofs.Common.{◌++◌, subst}
 use Rattle.vc_compile_plan.specs.Rules.{constraints_drafts, last_drafts, slot_drafts_from}
 use Rattle.vc_compile_numbering.specs.Growing.{seen}
 use Rattle.vc_compile_rules.specs.Adding.{Adds}
-use Rattle.vc_compile_sites.specs.Standing.{layout_seen}
+use Rattle.vc_compile_layout.specs.Standing.{layout_seen}
 use Rattle.vc_compile.proofs.RoomLaws.{adds_both}
 use Rattle.vc_compile.proofs.ruled.push_rules.Goals as goal
 

@@ -1,5 +1,5 @@
 use Rattle.std.proofs.Common.{◌∙◌}
-use Rattle.vc_compile_sites.specs.Standing.{layout_seen}
+use Rattle.vc_compile_layout.specs.Standing.{layout_seen}
 use Rattle.vc_compile_constraints.proofs.ConstraintLemmas.{same_active}
 use Rattle.vc_compile_constraints.proofs.constraints.active.Goals as goal
 

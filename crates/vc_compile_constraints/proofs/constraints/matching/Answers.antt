@@ -1,7 +1,7 @@
 use Rattle.std.proofs.Common.{◌<◌, ◌∙◌, length, subst}
-use Rattle.vc_syntax_terms.specs.Trees.{constraint_of}
+use Rattle.vc_syntax_tree.specs.Trees.{constraint_of}
 use Rattle.vc_compile_plan.specs.Refusals.{most_rules}
-use Rattle.vc_compile_sites.specs.Standing.{layout_seen}
+use Rattle.vc_compile_layout.specs.Standing.{layout_seen}
 use Rattle.vc_compile_constraints.proofs.ConstraintLemmas.{if_none, if_some, same_tuples}
 use Rattle.vc_compile_constraints.proofs.constraints.matching.Goals as goal
 

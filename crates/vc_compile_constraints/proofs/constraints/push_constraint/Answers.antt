@@ -1,8 +1,8 @@
 use Rattle.std.proofs.Common.{ap, arith, sym}
-use Rattle.vc_syntax_terms.specs.Trees.{constraint_of, restriction_of}
+use Rattle.vc_syntax_tree.specs.Trees.{constraint_of, restriction_of}
 use Rattle.vc_compile_plan.specs.Tuples.{tuples_of}
 use Rattle.vc_compile_numbering.specs.Growing.{seen}
-use Rattle.vc_compile_sites.specs.Standing.{layout_seen}
+use Rattle.vc_compile_layout.specs.Standing.{layout_seen}
 use Rattle.vc_compile_rules.proofs.RuleLemmas.{with_rules}
 use Rattle.vc_compile_constraints.proofs.ConstraintLemmas.{no_more, none_at, some_at, some_more, told_of_none}
 use Rattle.vc_compile_constraints.proofs.constraints.push_constraint.Goals as goal

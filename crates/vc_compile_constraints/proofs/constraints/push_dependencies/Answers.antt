@@ -2,7 +2,7 @@ use Rattle.std.proofs.Common.{ℕ, List, ◌+◌, ◌∙◌, ap, drop, flat_map,
 use Rattle.vc_compile_plan.specs.Layouts.{tree_of}
 use Rattle.vc_compile_plan.specs.Rules.{Draft, constraint_drafts}
 use Rattle.vc_compile_numbering.specs.Growing.{seen}
-use Rattle.vc_compile_sites.specs.Standing.{layout_seen}
+use Rattle.vc_compile_layout.specs.Standing.{layout_seen}
 use Rattle.vc_compile_rules.proofs.RuleLemmas.{adds_enough, adds_too_many, with_rules}
 use Rattle.vc_compile_constraints.proofs.ConstraintLemmas.{first_number}
 use Rattle.vc_compile_constraints.proofs.constraints.push_dependencies.Goals as goal

@@ -3,7 +3,7 @@ use Rattle.vc_compile_plan.specs.Layouts.{tree_of}
 use Rattle.vc_compile_plan.specs.Rules.{constraint_drafts}
 use Rattle.vc_compile_numbering.specs.Growing.{seen}
 use Rattle.vc_compile_rules.proofs.RuleLemmas.{with_rules}
-use Rattle.vc_compile_sites.specs.Standing.{layout_seen}
+use Rattle.vc_compile_layout.specs.Standing.{layout_seen}
 use Rattle.vc_compile_constraints.proofs.constraints.push_dependencies.Given as goal
 
 abbrev pub invariant-loop-number : goal.invariant-loop-number

@@ -1,6 +1,6 @@
 use Rattle.std.proofs.Common.{◌∙◌, ap, sym}
 use Rattle.std.specs.Prelude.{option_copied, option_map, slice_get}
-use Rattle.vc_syntax_terms.specs.Trees.{dependency_of}
+use Rattle.vc_syntax_tree.specs.Trees.{dependency_of}
 use Rattle.vc_compile_plan.specs.Cuts.{marks_if}
 use Rattle.vc_compile_cuts.specs.Cutting.{cut_from, domains_seen}
 use Rattle.vc_compile_cuts.proofs.CuttingLemmas.{cut_nothing}

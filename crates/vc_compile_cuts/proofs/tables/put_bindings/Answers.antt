@@ -1,4 +1,4 @@
-use Rattle.vc_syntax_terms.specs.Trees.{binding_of, table_call_of}
+use Rattle.vc_syntax_tree.specs.Trees.{binding_of, table_call_of}
 use Rattle.vc_types_meanings.specs.Seen.{seen}
 use Rattle.vc_compile_plan.specs.Cuts.{binding_marks}
 use Rattle.vc_compile_cuts.proofs.MarkLemmas.{next_marks}

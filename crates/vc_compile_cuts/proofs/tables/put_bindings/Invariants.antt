@@ -1,5 +1,5 @@
 use Rattle.std.proofs.Common.{◌≡◌, ◌++◌, drop, map, flat_map}
-use Rattle.vc_syntax_terms.specs.Trees.{binding_of, table_call_of}
+use Rattle.vc_syntax_tree.specs.Trees.{binding_of, table_call_of}
 use Rattle.vc_compile_plan.specs.Cuts.{binding_marks}
 use Rattle.vc_compile_cuts.specs.Marks.{marks_seen}
 use Rattle.vc_types_meanings.specs.Seen.{seen}

@@ -1,5 +1,5 @@
 use Rattle.std.proofs.Common.{◌≡◌, ◌+◌, ◌++◌, [], length, drop, map, flat_map, slice_get, Some}
-use Rattle.vc_syntax_terms.specs.Trees.{binding_of, statement_of}
+use Rattle.vc_syntax_tree.specs.Trees.{binding_of, statement_of}
 use Rattle.vc_plan.specs.declared.procedures.Trigger.TheVariants.{Anyway}
 use Rattle.vc_compile_plan.specs.Numbering.{keys_from, procedure_brings, procedure_from, statement_brings}
 use Rattle.vc_compile_plan.specs.Numbering.{statement_from}
@@ -7,7 +7,8 @@ use Rattle.vc_compile_plan.specs.Procedures.{filled_by, key_of, procedures_among
 use Rattle.vc_compile_plan.specs.Procedures.{trigger_of, uses_in, value_procedures}
 use Rattle.vc_compile_plan.specs.Variables.{by_slot}
 use Rattle.vc_compile_numbering.specs.Growing.{kept, seen, with_drafts, with_terms}
-use Rattle.vc_compile_sites.specs.Standing.{entry_seen, layout_seen, site_seen}
+use Rattle.vc_compile_layout.specs.Standing.{layout_seen}
+use Rattle.vc_compile_sites.specs.Standing.{entry_seen, site_seen}
 use Rattle.vc_compile_procedures.specs.Doing.{seen_with}
 use Rattle.vc_compile_procedures.proofs.actions.keys_at.Given as goal
 

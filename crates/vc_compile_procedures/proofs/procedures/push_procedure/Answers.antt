@@ -1,8 +1,9 @@
 use Rattle.std.proofs.Common.{◌∷◌, [], ◌++◌, ◌∙◌, ap, map}
-use Rattle.vc_syntax_terms.specs.Trees.{statement_of}
+use Rattle.vc_syntax_tree.specs.Trees.{statement_of}
 use Rattle.vc_compile_plan.specs.Procedures.{ProcedureDraft, statement_at}
 use Rattle.vc_compile_numbering.specs.Growing.{kept, seen}
-use Rattle.vc_compile_sites.specs.Standing.{layout_seen, site_seen}
+use Rattle.vc_compile_layout.specs.Standing.{layout_seen}
+use Rattle.vc_compile_sites.specs.Standing.{site_seen}
 use Rattle.vc_compile_procedures.specs.Doing.{seen_with}
 use Rattle.vc_compile_procedures.proofs.ProcedureLemmas.{on_ok, procedure_more, with_procedure}
 use Rattle.vc_compile_procedures.proofs.procedures.push_procedure.Goals as goal

@@ -1,8 +1,8 @@
 use Rattle.std.proofs.Common.{ℕ, List, ◌+◌, ◌++◌, ◌∙◌, ap, drop, flat_map, sym}
-use Rattle.vc_syntax_terms.specs.Trees.{constraint_of}
+use Rattle.vc_syntax_tree.specs.Trees.{constraint_of}
 use Rattle.vc_compile_plan.specs.Rules.{Draft, restriction_drafts}
 use Rattle.vc_compile_numbering.specs.Growing.{seen}
-use Rattle.vc_compile_sites.specs.Standing.{layout_seen}
+use Rattle.vc_compile_layout.specs.Standing.{layout_seen}
 use Rattle.vc_compile_rules.proofs.RuleLemmas.{adds_enough, adds_too_many, first_of_all, with_rules}
 use Rattle.vc_compile_rules.proofs.constraints.push_at_tuples.Goals as goal
 

@@ -1,8 +1,8 @@
 use Rattle.std.proofs.Common.{◌≡◌, drop, flat_map}
-use Rattle.vc_syntax_terms.specs.Trees.{constraint_of}
+use Rattle.vc_syntax_tree.specs.Trees.{constraint_of}
 use Rattle.vc_compile_plan.specs.Rules.{restriction_drafts}
 use Rattle.vc_compile_numbering.specs.Growing.{seen}
-use Rattle.vc_compile_sites.specs.Standing.{layout_seen}
+use Rattle.vc_compile_layout.specs.Standing.{layout_seen}
 use Rattle.vc_compile_rules.proofs.RuleLemmas.{with_rules}
 use Rattle.vc_compile_rules.proofs.constraints.push_at_tuples.Given as goal
 

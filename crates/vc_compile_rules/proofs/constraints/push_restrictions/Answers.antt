@@ -1,9 +1,9 @@
 use Rattle.std.proofs.Common.{◌+◌, ap, arith, drop, length, map, length-drop}
 use Rattle.std.proofs.lemmas.List.{length-map}
-use Rattle.vc_syntax_terms.specs.Trees.{constraint_of, restriction_of}
+use Rattle.vc_syntax_tree.specs.Trees.{constraint_of, restriction_of}
 use Rattle.vc_compile_plan.specs.Rules.{restriction_drafts}
 use Rattle.vc_compile_numbering.specs.Growing.{seen}
-use Rattle.vc_compile_sites.specs.Standing.{layout_seen}
+use Rattle.vc_compile_layout.specs.Standing.{layout_seen}
 use Rattle.vc_compile_rules.proofs.RuleLemmas.{restrictions_are_counted, too_many_if}
 use Rattle.vc_compile_rules.proofs.constraints.push_restrictions.Goals as goal
 

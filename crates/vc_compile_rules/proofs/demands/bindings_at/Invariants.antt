@@ -1,7 +1,8 @@
 use Rattle.std.proofs.Common.{◌≡◌, ◌++◌, drop, map}
-use Rattle.vc_syntax_terms.specs.Trees.{binding_of}
+use Rattle.vc_syntax_tree.specs.Trees.{binding_of}
 use Rattle.vc_compile_plan.specs.Rules.{binding_at}
-use Rattle.vc_compile_sites.specs.Standing.{layout_seen, site_seen}
+use Rattle.vc_compile_layout.specs.Standing.{layout_seen}
+use Rattle.vc_compile_sites.specs.Standing.{site_seen}
 use Rattle.vc_compile_rules.proofs.demands.bindings_at.Given as goal
 
 abbrev pub invariant-loop-binding : goal.invariant-loop-binding

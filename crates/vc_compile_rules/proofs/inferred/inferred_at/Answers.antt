@@ -1,7 +1,8 @@
 use Rattle.std.proofs.Common.{◌∙◌, ap, map, sym}
 use Rattle.std.proofs.lemmas.List.{drop_all}
 use Rattle.vc_compile_plan.specs.Sites.{var_meant}
-use Rattle.vc_compile_sites.specs.Standing.{layout_seen, site_seen}
+use Rattle.vc_compile_layout.specs.Standing.{layout_seen}
+use Rattle.vc_compile_sites.specs.Standing.{site_seen}
 use Rattle.vc_compile_rules.specs.Inferring.{with_numbers}
 use Rattle.vc_compile_rules.proofs.InferringLemmas.{met_is_distinct}
 use Rattle.vc_compile_rules.proofs.inferred.inferred_at.Goals as goal

@@ -2,7 +2,7 @@ use Rattle.std.proofs.Common.{◌-◌, arith, length, map}
 use Rattle.std.specs.List.{range_with_len}
 use Rattle.vc_compile_plan.specs.Rules.{last, last_drafts, own_draft}
 use Rattle.vc_compile_numbering.specs.Growing.{seen}
-use Rattle.vc_compile_sites.specs.Standing.{layout_seen}
+use Rattle.vc_compile_layout.specs.Standing.{layout_seen}
 use Rattle.vc_compile_rules.proofs.RuleLemmas.{last_more, some_left, too_many_if}
 use Rattle.vc_compile_rules.proofs.own.push_last_rules.Goals as goal
 

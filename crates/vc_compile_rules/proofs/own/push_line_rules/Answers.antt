@@ -3,7 +3,7 @@ use Rattle.vc_compile_plan.specs.Rules.{drafts_of_slot, slot_drafts_from}
 use Rattle.vc_compile_plan.specs.Refusals.{most_rules}
 use Rattle.vc_compile_plan.specs.declared.standings.Standing.{Standing}
 use Rattle.vc_compile_numbering.specs.Growing.{seen}
-use Rattle.vc_compile_sites.specs.Standing.{layout_seen}
+use Rattle.vc_compile_layout.specs.Standing.{layout_seen}
 use Rattle.vc_compile_rules.proofs.RuleLemmas.{adds_enough, adds_too_many, first_slot, with_rules}
 use Rattle.vc_compile_rules.proofs.own.push_line_rules.Goals as goal
 

@@ -1,7 +1,7 @@
 use Rattle.std.proofs.Common.{◌≡◌, drop}
 use Rattle.vc_compile_plan.specs.Rules.{slot_drafts_from}
 use Rattle.vc_compile_numbering.specs.Growing.{seen}
-use Rattle.vc_compile_sites.specs.Standing.{layout_seen}
+use Rattle.vc_compile_layout.specs.Standing.{layout_seen}
 use Rattle.vc_compile_rules.proofs.RuleLemmas.{with_rules}
 use Rattle.vc_compile_rules.proofs.own.push_line_rules.Given as goal
 

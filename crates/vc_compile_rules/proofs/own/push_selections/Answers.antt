@@ -2,7 +2,8 @@ use Rattle.std.proofs.Common.{◌+◌, arith, drop, map, length-drop}
 use Rattle.std.proofs.lemmas.List.{length-map}
 use Rattle.vc_compile_plan.specs.Rules.{line_drafts_from}
 use Rattle.vc_compile_numbering.specs.Growing.{seen}
-use Rattle.vc_compile_sites.specs.Standing.{asked_seen, layout_seen, site_seen}
+use Rattle.vc_compile_layout.specs.Standing.{layout_seen}
+use Rattle.vc_compile_sites.specs.Standing.{asked_seen, site_seen}
 use Rattle.vc_compile_rules.proofs.RuleLemmas.{selections_are_counted, too_many_if}
 use Rattle.vc_compile_rules.proofs.own.push_selections.Goals as goal
 

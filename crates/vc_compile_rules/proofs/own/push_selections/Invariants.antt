@@ -1,7 +1,8 @@
 use Rattle.std.proofs.Common.{◌≡◌, ◌+◌, drop, map}
 use Rattle.vc_compile_plan.specs.Rules.{line_drafts_from}
 use Rattle.vc_compile_numbering.specs.Growing.{seen}
-use Rattle.vc_compile_sites.specs.Standing.{asked_seen, layout_seen, site_seen}
+use Rattle.vc_compile_layout.specs.Standing.{layout_seen}
+use Rattle.vc_compile_sites.specs.Standing.{asked_seen, site_seen}
 use Rattle.vc_compile_rules.proofs.RuleLemmas.{with_rules}
 use Rattle.vc_compile_rules.proofs.own.push_selections.Given as goal
 

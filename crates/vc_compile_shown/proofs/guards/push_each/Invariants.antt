@@ -4,7 +4,8 @@ use Rattle.vc_compile_plan.specs.Shown.{GuardDraft, choice_at, guards_among, gua
 use Rattle.vc_compile_plan.specs.Sites.{named_at}
 use Rattle.vc_compile_plan.specs.Variables.{by_slot}
 use Rattle.vc_compile_numbering.specs.Growing.{seen, with_drafts}
-use Rattle.vc_compile_sites.specs.Standing.{asked_seen, entry_seen, layout_seen, site_seen}
+use Rattle.vc_compile_layout.specs.Standing.{layout_seen}
+use Rattle.vc_compile_sites.specs.Standing.{asked_seen, entry_seen, site_seen}
 use Rattle.vc_compile_shown.proofs.guards.push_each.Given as goal
 
 abbrev pub invariant-loop-asked : goal.invariant-loop-asked

@@ -8,7 +8,8 @@ use Rattle.vc_compile_plan.specs.Sites.{named_at}
 use Rattle.vc_compile_plan.specs.Slots.{bill_of}
 use Rattle.vc_compile_plan.specs.Variables.{by_slot, members_of}
 use Rattle.vc_compile_numbering.specs.Growing.{kept, seen, with_conditions, with_drafts}
-use Rattle.vc_compile_sites.specs.Standing.{asked_seen, entry_seen, layout_seen, site_seen}
+use Rattle.vc_compile_layout.specs.Standing.{layout_seen}
+use Rattle.vc_compile_sites.specs.Standing.{asked_seen, entry_seen, site_seen}
 use Rattle.vc_compile_shown.proofs.items.push_lines_at.Given as goal
 
 abbrev pub invariant-loop-item : goal.invariant-loop-item

@@ -5,7 +5,8 @@ use Rattle.vc_compile_plan.specs.Shown.{ItemDraft, line_at, operation_at, operat
 use Rattle.vc_compile_plan.specs.Slots.{bill_of}
 use Rattle.vc_compile_plan.specs.Variables.{by_slot}
 use Rattle.vc_compile_numbering.specs.Growing.{seen, with_drafts}
-use Rattle.vc_compile_sites.specs.Standing.{asked_seen, entry_seen, layout_seen, site_seen}
+use Rattle.vc_compile_layout.specs.Standing.{layout_seen}
+use Rattle.vc_compile_sites.specs.Standing.{asked_seen, entry_seen, site_seen}
 use Rattle.vc_compile_shown.proofs.ShownLemmas.{flat_step, mapped_step, slot_step}
 use Rattle.vc_compile_shown.proofs.items.push_lines_of_slots.Goals as goal
 

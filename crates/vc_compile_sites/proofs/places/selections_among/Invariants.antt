@@ -1,6 +1,7 @@
 use Rattle.std.proofs.Common.{◌≡◌, ◌++◌, drop, map}
 use Rattle.vc_compile_plan.specs.Places.{selections_among}
-use Rattle.vc_compile_sites.specs.Standing.{asked_seen, layout_seen}
+use Rattle.vc_compile_layout.specs.Standing.{layout_seen}
+use Rattle.vc_compile_sites.specs.Standing.{asked_seen}
 use Rattle.vc_compile_sites.proofs.places.selections_among.Given as goal
 
 abbrev pub invariant-loop-number : goal.invariant-loop-number

@@ -1,6 +1,6 @@
 use Rattle.std.proofs.Common.{◌∙◌, ◌++◌, ap}
 use Rattle.std.specs.Prelude.{option_map}
-use Rattle.vc_syntax_terms.specs.Trees.{condition_of, constraint_of}
+use Rattle.vc_syntax_tree.specs.Trees.{condition_of, constraint_of}
 use Rattle.vc_compile_plan.specs.Layouts.{layout_over}
 use Rattle.vc_compile_tuples.specs.Growing.{choices_of}
 use Rattle.vc_compile_tuples.specs.Parts.{parts_of}

@@ -1,7 +1,7 @@
 use Rattle.std.proofs.Common.{ap, sym, ◌∙◌}
-use Rattle.vc_syntax_terms.specs.Trees.{Dependency}
+use Rattle.vc_syntax_tree.specs.Trees.{Dependency}
 use Rattle.vc_types.specs.declared.place.Place.{Place}
-use Rattle.vc_compile_sites.specs.Standing.{layout_seen}
+use Rattle.vc_compile_layout.specs.Standing.{layout_seen}
 use Rattle.vc_compile_plan.specs.Places.{place_at}
 use Rattle.vc_compile_typing.specs.Finding.{first_with, seen_if}
 use Rattle.vc_compile_typing.proofs.FindingLemmas.{uses_in_parts}

@@ -1,5 +1,5 @@
 use Rattle.std.proofs.Common.{ℕ, List, slice_get}
-use Rattle.vc_compile_sites.specs.Standing.{layout_seen}
+use Rattle.vc_compile_layout.specs.Standing.{layout_seen}
 use Rattle.vc_compile_plan.specs.Places.{place_at}
 use Rattle.vc_compile_typing.specs.Finding.{seen_if}
 use Rattle.vc_compile_typing.proofs.FindingLemmas.{uses_step}

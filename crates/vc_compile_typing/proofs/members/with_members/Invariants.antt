@@ -2,7 +2,7 @@ use Rattle.std.proofs.Common.{◌≡◌, drop, flat_map, slice_get}
 use Rattle.vc_compile_plan.specs.Places.{place_at}
 use Rattle.vc_compile_plan.specs.Refusals.{at_of, typed_at}
 use Rattle.vc_compile_plan.specs.Uses.{uses_of_characteristic}
-use Rattle.vc_compile_sites.specs.Standing.{layout_seen}
+use Rattle.vc_compile_layout.specs.Standing.{layout_seen}
 use Rattle.vc_compile_typing.specs.Finding.{first_with, seen_if}
 use Rattle.vc_compile_typing.proofs.members.with_members.Given as goal
 

@@ -1,9 +1,9 @@
 use Rattle.std.proofs.Common.{ℕ, List, ap, sym, flat_map, ◌∙◌}
 use Rattle.vc_model_parts.specs.declared.parts.NumberValue.{NumberValue}
 use Rattle.vc_model_parts.specs.declared.parts.TextValue.{TextValue}
-use Rattle.vc_syntax_terms.specs.Trees.{Dependency}
+use Rattle.vc_syntax_tree.specs.Trees.{Dependency}
 use Rattle.vc_types.specs.declared.place.Place.{Place}
-use Rattle.vc_compile_sites.specs.Standing.{layout_seen}
+use Rattle.vc_compile_layout.specs.Standing.{layout_seen}
 use Rattle.vc_compile_plan.specs.Places.{place_at}
 use Rattle.vc_compile_typing.specs.Finding.{first_with, seen_if}
 use Rattle.vc_compile_plan.specs.Uses.{uses_of_values}

@@ -1,5 +1,5 @@
 use Rattle.std.proofs.Common.{None, ap, sym, flat_map, ◌∙◌}
-use Rattle.vc_compile_sites.specs.Standing.{layout_seen}
+use Rattle.vc_compile_layout.specs.Standing.{layout_seen}
 use Rattle.vc_compile_typing.specs.Finding.{first_with, seen_if}
 use Rattle.vc_compile_typing.proofs.FindingLemmas.{none_before, typed_in_parts}
 use Rattle.vc_compile_plan.specs.Refusals.{first_of, type_faults, typed_constraints, typed_slot}

@@ -1,6 +1,6 @@
 use Rattle.std.proofs.Common.{[], ◌∷◌, ap, sym, ◌∙◌}
-use Rattle.vc_syntax_terms.specs.Trees.{Counts, term_of}
-use Rattle.vc_compile_sites.specs.Standing.{layout_seen}
+use Rattle.vc_syntax_tree.specs.Trees.{Counts, term_of}
+use Rattle.vc_compile_layout.specs.Standing.{layout_seen}
 use Rattle.vc_compile_typing.specs.Finding.{first_with, seen_if}
 use Rattle.vc_compile_typing.proofs.FindingLemmas.{typed_in_parts}
 use Rattle.vc_compile_plan.specs.Refusals.{Typed, typed_at}

@@ -1,6 +1,6 @@
 use Rattle.std.proofs.Common.{◌≡◌, drop, flat_map}
 use Rattle.vc_compile_plan.specs.Refusals.{typed_line}
-use Rattle.vc_compile_sites.specs.Standing.{layout_seen}
+use Rattle.vc_compile_layout.specs.Standing.{layout_seen}
 use Rattle.vc_compile_typing.specs.Finding.{first_with, seen_if}
 use Rattle.vc_compile_typing.proofs.slots.with_lines.Given as goal
 

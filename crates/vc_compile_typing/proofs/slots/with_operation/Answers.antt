@@ -1,9 +1,9 @@
 use Rattle.std.proofs.Common.{rules, ◌≡◌, ℕ, List, ◌∷◌, Option, ap, ◌∙◌}
-use Rattle.vc_syntax_terms.specs.Trees.{Counts, term_of}
-use Rattle.vc_syntax_terms.specs.declared.tree.Term.{Term}
+use Rattle.vc_syntax_tree.specs.Trees.{Counts, term_of}
+use Rattle.vc_syntax_tree.specs.declared.Term.{Term}
 use Rattle.vc_types.specs.declared.place.At.TheVariants as at
 use Rattle.vc_types.specs.declared.place.Place.{Place}
-use Rattle.vc_compile_sites.specs.Standing.{layout_seen}
+use Rattle.vc_compile_layout.specs.Standing.{layout_seen}
 use Rattle.vc_compile_plan.specs.Places.{place_at}
 use Rattle.vc_compile_typing.specs.Finding.{first_with, seen_if}
 use Rattle.vc_compile_plan.specs.Refusals.{TypeFault, Typed, typed_at}

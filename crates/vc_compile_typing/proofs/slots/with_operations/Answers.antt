@@ -1,5 +1,5 @@
 use Rattle.std.proofs.Common.{ap, ◌∙◌}
-use Rattle.vc_compile_sites.specs.Standing.{layout_seen}
+use Rattle.vc_compile_layout.specs.Standing.{layout_seen}
 use Rattle.vc_compile_typing.specs.Finding.{first_with, seen_if}
 use Rattle.vc_compile_typing.proofs.FindingLemmas.{typed_step}
 use Rattle.vc_compile_plan.specs.Refusals.{typed_operation}

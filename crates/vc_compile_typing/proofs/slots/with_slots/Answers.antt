@@ -1,6 +1,6 @@
 use Rattle.std.proofs.Common.{None, ap, flat_map, ◌∙◌}
 use Rattle.std.proofs.lemmas.List.{take_all}
-use Rattle.vc_compile_sites.specs.Standing.{layout_seen}
+use Rattle.vc_compile_layout.specs.Standing.{layout_seen}
 use Rattle.vc_compile_typing.specs.Alike.{is_alike}
 use Rattle.vc_compile_typing.specs.Finding.{first_with, seen_if}
 use Rattle.vc_compile_typing.proofs.SkippingLemmas.{skipping_step, typed_alike}

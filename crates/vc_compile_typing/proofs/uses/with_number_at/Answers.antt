@@ -1,8 +1,8 @@
 use Rattle.std.proofs.Common.{◌≡◌, Some, [], ◌∷◌, ap, sym, slice_get, ◌∙◌}
 use Rattle.std.specs.Option.{option_copied}
-use Rattle.vc_syntax_terms.specs.Trees.{dependency_of}
+use Rattle.vc_syntax_tree.specs.Trees.{dependency_of}
 use Rattle.vc_types.specs.declared.place.Place.{Place}
-use Rattle.vc_compile_sites.specs.Standing.{layout_seen}
+use Rattle.vc_compile_layout.specs.Standing.{layout_seen}
 use Rattle.vc_compile_plan.specs.Places.{place_at}
 use Rattle.vc_compile_typing.specs.Finding.{first_with, seen_if}
 use Rattle.vc_compile_typing.proofs.FindingLemmas.{typed_if_there}

@@ -1,4 +1,4 @@
-use Rattle.vc_compile_sites.specs.Standing.{layout_seen}
+use Rattle.vc_compile_layout.specs.Standing.{layout_seen}
 use Rattle.vc_compile_plan.specs.Places.{place_at}
 use Rattle.vc_compile_typing.specs.Finding.{seen_if}
 use Rattle.vc_compile_typing.proofs.FindingLemmas.{typed_step}

@@ -1,5 +1,5 @@
 use Rattle.std.proofs.Common.{◌≡◌, ◌++◌, drop, map, flat_map}
-use Rattle.vc_syntax_terms.specs.Trees.{restriction_of}
+use Rattle.vc_syntax_tree.specs.Trees.{restriction_of}
 use Rattle.vc_compile_plan.specs.Texts.{texts_in_restriction}
 use Rattle.vc_compile_uses.specs.Growing.{texts_seen}
 use Rattle.vc_compile_uses.proofs.mentions.put_restrictions.Given as goal

@@ -1,7 +1,7 @@
 -- What is read is the tree found in the text, and a text with a fault spells none.
 use Rattle.std.proofs.Common.{sym, ap, Err}
 use Rattle.std.specs.Result.{result_ok}
-use Rattle.vc_syntax_terms.specs.Trees.{dependency_of}
+use Rattle.vc_syntax_tree.specs.Trees.{dependency_of}
 use Rattle.vc_syntax.proofs.SpelledLaws.{spelled_is_found, fault_is_found}
 use Rattle.vc_model_faults.specs.Readings.{dependency_reading, seen_reading, tree_in}
 use Rattle.vc_model_faults.proofs.readings.read_short.Goals as goal

@@ -2,8 +2,8 @@
 use Rattle.std.proofs.Common.{sym, ap, Err}
 use Rattle.std.specs.Result.{result_ok}
 use Rattle.vc_syntax_tokens.specs.declared.fault.Kind.TheVariants as kinds
-use Rattle.vc_syntax_terms.specs.Trees as trees
-use Rattle.vc_syntax_terms.specs.Trees.{term_of}
+use Rattle.vc_syntax_tree.specs.Trees as trees
+use Rattle.vc_syntax_tree.specs.Trees.{term_of}
 use Rattle.vc_syntax.proofs.SpelledLaws.{spelled_is_found, fault_is_found}
 use Rattle.vc_model_faults.specs.Readings.{count_reading, seen_reading, term_in_tree, tree_in}
 use Rattle.vc_model_faults.proofs.readings.read_short_term.Goals as goal

@@ -2,7 +2,7 @@
 use Rattle.std.proofs.Common.{Result, subst}
 use Rattle.vc_syntax_tokens.specs.declared.fault.SyntaxFault.{SyntaxFault}
 use Rattle.vc_syntax.specs.DependencyTexts.{Answers}
-use Rattle.vc_syntax_terms.specs.Trees.{Dependency, dependency_of}
+use Rattle.vc_syntax_tree.specs.Trees.{Dependency, dependency_of}
 use Rattle.vc_syntax.proofs.SpelledLaws.{answers_spell, answers_tell, spelled_is_found, fault_is_found}
 use Rattle.vc_syntax.proofs.dependencies.read_dependency.Goals as goal
 

@@ -3,7 +3,7 @@ use Rattle.std.proofs.Common.{Result, Ok, ap, subst, sym, ◌∙◌}
 use Rattle.vc_syntax_tokens.specs.declared.fault.SyntaxFault.{SyntaxFault}
 use Rattle.vc_syntax_tokens.specs.Tokens.{tokens_of}
 use Rattle.vc_syntax.specs.DependencyTexts.{Answers}
-use Rattle.vc_syntax_terms.specs.Trees.{Dependency, dependency_of}
+use Rattle.vc_syntax_tree.specs.Trees.{Dependency, dependency_of}
 use Rattle.vc_syntax.proofs.SpelledLaws.{judged_told}
 use Rattle.vc_syntax.proofs.dependencies.read_judged.Goals as goal
 

@@ -4,8 +4,8 @@ use Rattle.vc_syntax_tokens.specs.declared.fault.Kind.TheVariants as kinds
 use Rattle.vc_syntax_tokens.specs.declared.fault.SyntaxFault.{SyntaxFault}
 use Rattle.vc_syntax_tokens.specs.Tokens.{tokens_of}
 use Rattle.vc_syntax.specs.DependencyTexts.{Answers}
-use Rattle.vc_syntax_terms.specs.Trees as trees
-use Rattle.vc_syntax_terms.specs.Trees.{Dependency, term_of}
+use Rattle.vc_syntax_tree.specs.Trees as trees
+use Rattle.vc_syntax_tree.specs.Trees.{Dependency, term_of}
 use Rattle.vc_syntax.proofs.SpelledLaws.{judged_told}
 use Rattle.vc_syntax.proofs.dependencies.read_judged_term.Goals as goal
 

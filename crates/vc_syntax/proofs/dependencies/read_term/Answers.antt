@@ -3,8 +3,8 @@ use Rattle.std.proofs.Common.{Result, subst}
 use Rattle.vc_syntax_tokens.specs.declared.fault.Kind.TheVariants as kinds
 use Rattle.vc_syntax_tokens.specs.declared.fault.SyntaxFault.{SyntaxFault}
 use Rattle.vc_syntax.specs.DependencyTexts.{Answers}
-use Rattle.vc_syntax_terms.specs.Trees as trees
-use Rattle.vc_syntax_terms.specs.Trees.{Dependency, term_of}
+use Rattle.vc_syntax_tree.specs.Trees as trees
+use Rattle.vc_syntax_tree.specs.Trees.{Dependency, term_of}
 use Rattle.vc_syntax.proofs.SpelledLaws.{answers_spell, answers_tell, spelled_is_found, fault_is_found}
 use Rattle.vc_syntax.proofs.dependencies.read_term.Goals as goal
 

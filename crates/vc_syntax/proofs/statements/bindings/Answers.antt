@@ -1,6 +1,6 @@
 use Rattle.std.proofs.Common.{sym}
 use Rattle.vc_syntax.specs.StatementReading as reads
-use Rattle.vc_syntax_terms.specs.Trees.{binding_of}
+use Rattle.vc_syntax_tree.specs.Trees.{binding_of}
 use Rattle.vc_syntax_tokens.specs.declared.token.Sign.TheVariants as signs
 use Rattle.vc_syntax_terms.proofs.Lists.{listed_turn_seen, listed_shorter}
 use Rattle.vc_syntax.proofs.StatementSoundness.{binding_shortens}

@@ -1,7 +1,7 @@
 use Rattle.std.proofs.Common.{◌≡◌, length, map}
 use Rattle.vc_syntax_terms.specs.Reading.{append, single, sign, chained, listed}
 use Rattle.vc_syntax.specs.StatementReading as reads
-use Rattle.vc_syntax_terms.specs.Trees.{statement_of}
+use Rattle.vc_syntax_tree.specs.Trees.{statement_of}
 use Rattle.vc_syntax_tokens.specs.declared.token.Sign.TheVariants as signs
 use Rattle.vc_syntax.proofs.statements.statements.Given as goal
 

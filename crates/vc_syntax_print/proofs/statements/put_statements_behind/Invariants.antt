@@ -2,7 +2,7 @@ use Rattle.std.proofs.Common.{◌≡◌, ◌++◌, length, map}
 use Rattle.vc_syntax_tokens.specs.declared.token.Sign.TheVariants as signs
 use Rattle.vc_syntax_print.specs.ConditionLexemes.{each_behind}
 use Rattle.vc_syntax_print.specs.StatementLexemes.{statement_lexemes}
-use Rattle.vc_syntax_terms.specs.Trees.{statement_of}
+use Rattle.vc_syntax_tree.specs.Trees.{statement_of}
 use Rattle.vc_syntax_print.proofs.statements.put_statements_behind.Given as goal
 
 abbrev pub invariant-loop-rest : goal.invariant-loop-rest

@@ -1,7 +1,7 @@
 use Rattle.std.proofs.Common.{sym, ap}
 use Rattle.vc_syntax_terms.specs.ConditionReading as reads
 use Rattle.vc_syntax_terms.specs.Reading.{word, leaving_as}
-use Rattle.vc_syntax_terms.specs.Trees.{condition_of}
+use Rattle.vc_syntax_tree.specs.Trees.{condition_of}
 use Rattle.vc_syntax_tokens.specs.declared.token.Reserved.TheVariants as words
 use Rattle.vc_syntax_terms.proofs.Chains.{chain_turn, chain_shorter}
 use Rattle.vc_syntax_terms.proofs.ConditionSoundness.{negation_shortens, conjunction_shortens}

@@ -1,7 +1,7 @@
 use Rattle.std.proofs.Common.{◌≡◌, ◌+◌, ◌*◌, length}
 use Rattle.vc_syntax_terms.specs.ConditionReading as reads
 use Rattle.vc_syntax_terms.specs.Reading.{word, chained}
-use Rattle.vc_syntax_terms.specs.Trees.{condition_of}
+use Rattle.vc_syntax_tree.specs.Trees.{condition_of}
 use Rattle.vc_syntax_tokens.specs.declared.token.Reserved.TheVariants as words
 use Rattle.vc_syntax_terms.proofs.conditions.+conditions.Given as goal
 

@@ -1,7 +1,7 @@
 use Rattle.std.proofs.Common.{sym}
 use Rattle.vc_syntax_terms.specs.TermReading as reads
 use Rattle.vc_syntax_terms.specs.TermReading.{join}
-use Rattle.vc_syntax_terms.specs.Trees.{term_of}
+use Rattle.vc_syntax_tree.specs.Trees.{term_of}
 use Rattle.vc_syntax_terms.proofs.Chains.{chain_turn, chain_shorter}
 use Rattle.vc_syntax_terms.proofs.TermSoundness.{factor_shortens, product_shortens, product_operator_takes}
 use Rattle.vc_syntax_terms.proofs.TermSoundness.{sum_operator_takes}

@@ -2,7 +2,7 @@ use Rattle.std.proofs.Common.{◌≡◌, ◌+◌, ◌*◌, length}
 use Rattle.vc_syntax_terms.specs.Reading.{chained}
 use Rattle.vc_syntax_terms.specs.TermReading as reads
 use Rattle.vc_syntax_terms.specs.TermReading.{join}
-use Rattle.vc_syntax_terms.specs.Trees.{term_of}
+use Rattle.vc_syntax_tree.specs.Trees.{term_of}
 use Rattle.vc_syntax_terms.proofs.terms.+terms.Given as goal
 
 abbrev pub decreases-factor : goal.decreases-factor

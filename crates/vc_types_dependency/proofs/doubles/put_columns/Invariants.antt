@@ -1,5 +1,5 @@
 use Rattle.std.proofs.Common.{◌≡◌, ◌++◌, drop, map}
-use Rattle.vc_syntax_terms.specs.Trees.{binding_of}
+use Rattle.vc_syntax_tree.specs.Trees.{binding_of}
 use Rattle.vc_types_dependency.specs.DeclaredNames.{names_seen}
 use Rattle.vc_types_dependency.proofs.doubles.put_columns.Given as goal
 

@@ -1,5 +1,5 @@
 use Rattle.std.proofs.Common.{◌≡◌, None, IfOk, IfErr, subst}
-use Rattle.vc_syntax_terms.specs.Trees.{Dependency}
+use Rattle.vc_syntax_tree.specs.Trees.{Dependency}
 use Rattle.vc_types.specs.Faults.{fault_of}
 use Rattle.vc_types_dependency.specs.Typing.{IsTyped, IsTypeFault}
 use Rattle.vc_types_dependency.proofs.typing.type_dependency.Goals as goal

@@ -1,6 +1,6 @@
 use Rattle.std.proofs.Common.{◌≡◌, drop, map, flat_map, Some, is_some}
 use Rattle.std.specs.List.{filter_map, list_any}
-use Rattle.vc_syntax_terms.specs.Trees.{binding_of, table_call_of}
+use Rattle.vc_syntax_tree.specs.Trees.{binding_of, table_call_of}
 use Rattle.vc_types.specs.PlaceFaults.{bound_column, is_other}
 use Rattle.vc_types_meanings.specs.Seen.{seen}
 use Rattle.vc_types_faults.proofs.columns.binds_some_other.Given as goal

@@ -1,6 +1,6 @@
 use Rattle.std.proofs.Common.{◌≡◌, drop, map, flat_map, Some, is_some}
 use Rattle.std.specs.List.{filter_map, list_any}
-use Rattle.vc_syntax_terms.specs.Trees.{binding_of}
+use Rattle.vc_syntax_tree.specs.Trees.{binding_of}
 use Rattle.vc_types.specs.Looking.{characteristic_named}
 use Rattle.vc_types.specs.PlaceFaults.{is_number}
 use Rattle.vc_types_meanings.specs.Seen.{seen}

@@ -1,6 +1,6 @@
 use Rattle.std.proofs.Common.{◌≡◌, drop, map, flat_map, Some, is_some}
 use Rattle.std.specs.List.{filter_map, list_any}
-use Rattle.vc_syntax_terms.specs.Trees.{restriction_of}
+use Rattle.vc_syntax_tree.specs.Trees.{restriction_of}
 use Rattle.vc_types.specs.Occurrences.{condition_of_restriction}
 use Rattle.vc_types.specs.PlaceFaults.{asks_part}
 use Rattle.vc_types_faults.proofs.places.some_restriction_asks_part.Given as goal

@@ -1,5 +1,5 @@
 use Rattle.std.proofs.Common.{◌≡◌, ◌++◌, drop, map, flat_map}
-use Rattle.vc_syntax_terms.specs.Trees.{restriction_of}
+use Rattle.vc_syntax_tree.specs.Trees.{restriction_of}
 use Rattle.vc_types.specs.Occurrences.{call_of_demand}
 use Rattle.vc_types_occurrences.specs.Seen.{calls_seen}
 use Rattle.vc_types_occurrences.proofs.statements.put_demanded_calls.Given as goal

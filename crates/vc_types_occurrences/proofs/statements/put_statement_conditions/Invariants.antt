@@ -1,5 +1,5 @@
 use Rattle.std.proofs.Common.{◌≡◌, ◌++◌, drop, map, flat_map}
-use Rattle.vc_syntax_terms.specs.Trees.{statement_of}
+use Rattle.vc_syntax_tree.specs.Trees.{statement_of}
 use Rattle.vc_types.specs.Occurrences.{condition_of_statement}
 use Rattle.vc_types_occurrences.specs.Seen.{conditions_seen}
 use Rattle.vc_types_occurrences.proofs.statements.put_statement_conditions.Given as goal

@@ -1,5 +1,5 @@
 use Rattle.std.proofs.Common.{◌≡◌, ◌++◌, drop, map, flat_map}
-use Rattle.vc_syntax_terms.specs.Trees.{statement_of}
+use Rattle.vc_syntax_tree.specs.Trees.{statement_of}
 use Rattle.vc_types.specs.Occurrences.{term_of_action}
 use Rattle.vc_types_occurrences.specs.Seen.{terms_seen}
 use Rattle.vc_types_occurrences.proofs.statements.put_statement_terms.Given as goal

@@ -1,5 +1,5 @@
 use Rattle.std.proofs.Common.{◌≡◌, ◌++◌, drop, map, flat_map}
-use Rattle.vc_syntax_terms.specs.Trees.{binding_of}
+use Rattle.vc_syntax_tree.specs.Trees.{binding_of}
 use Rattle.vc_types_occurrences.specs.Seen.{terms_seen}
 use Rattle.vc_types_occurrences.proofs.terms.put_values.Given as goal
 

@@ -1,5 +1,5 @@
 use Rattle.std.proofs.Common.{◌≡◌, ◌++◌, drop, map, flat_map}
-use Rattle.vc_syntax_terms.specs.Trees.{statement_of}
+use Rattle.vc_syntax_tree.specs.Trees.{statement_of}
 use Rattle.vc_types.specs.Occurrences.{as_value, target_of}
 use Rattle.vc_types_meanings.specs.Seen.{seen}
 use Rattle.vc_types_occurrences.specs.Met.{all_met}

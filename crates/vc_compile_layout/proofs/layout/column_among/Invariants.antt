@@ -1,0 +1,8 @@
+use Rattle.std.proofs.Common.{◌≡◌, ◌==◌, ◌+◌, drop}
+use Rattle.std.specs.List.{position_or_len}
+use Rattle.vc_compile_layout.proofs.layout.column_among.Given as goal
+
+abbrev pub invariant-loop-place : goal.invariant-loop-place
+invariant-loop-place l =
+    l.place + position_or_len (λ c. c.characteristic == l.characteristic) (drop l.place l.columns)
+    ≡ position_or_len (λ c. c.characteristic == l.characteristic) l.columns

@@ -1,0 +1,11 @@
+use Rattle.std.proofs.Common.{◌≡◌, drop, map, flat_map, Some, is_some}
+use Rattle.std.specs.List.{filter_map, list_any}
+use Rattle.vc_syntax_tree.specs.Trees.{binding_of, table_call_of}
+use Rattle.vc_types.specs.SortFaults.{binds_wrongly}
+use Rattle.vc_types_meanings.specs.Seen.{seen}
+use Rattle.vc_types_sorts.proofs.sorts.calls_wrongly.Given as goal
+
+abbrev pub invariant-loop-binding : goal.invariant-loop-binding
+invariant-loop-binding l =
+    list_any (binds_wrongly (seen l.setting) (table_call_of l.call)) (map binding_of (drop l.binding-index l.bindings))
+    ≡ list_any (binds_wrongly (seen l.setting) (table_call_of l.call)) (map binding_of l.bindings)

@@ -1,5 +1,0 @@
-use Rattle.vc_wire_chains_lines.proofs.NumberLemmas.{have_numbers}
-use Rattle.vc_wire_chains_lines.proofs.laws.valid_plans_have_numbers.Goals as goal
-
-pub returns : goal.returns
-returns c = have_numbers
