@@ -13,6 +13,7 @@ use vc_http_bodies::read_text;
 use vc_http_routes::{Method, Route};
 use vc_value::{Word, is_session_name};
 use vc_wire_requests::Request;
+use vc_wire_requests::making::{of_characteristic, of_saved, of_session, of_value};
 use vc_wire_requests::verbs::{OfCharacteristic, OfSaved, OfSession, OfValue, Verb};
 
 /// What is wanted of a route by a method, if the route has it.
@@ -37,88 +38,6 @@ pub fn verb_for(route: Route, method: Method) -> Option<Verb>
         (Route::Load, Method::Post) => Some(Verb::Saved(OfSaved::Load)),
         (Route::Saved, Method::Delete) => Some(Verb::Forget),
         _ => None,
-    }
-}
-
-fn of_session(which: OfSession, session: Word) -> Request
-    ensures { result ≡ requests.of_session which session }
-{
-    match which {
-        OfSession::Start => Request::Start { session },
-        OfSession::Close => Request::Close { session },
-        OfSession::Show => Request::Show { session },
-        OfSession::Conflict => Request::Conflict { session },
-        OfSession::Log => Request::Log { session },
-        OfSession::Bill => Request::Bill { session },
-        OfSession::Routing => Request::Routing { session },
-    }
-}
-
-fn of_saved(which: OfSaved, session: Word, name: Word) -> Request
-    ensures { result ≡ requests.of_saved which session name }
-{
-    match which {
-        OfSaved::Save => Request::Save { session, name },
-        OfSaved::Load => Request::Load { session, name },
-    }
-}
-
-fn of_characteristic(
-    which: OfCharacteristic,
-    session: Word,
-    instance: u32,
-    characteristic: Word,
-) -> Request
-    ensures { result ≡ requests.of_characteristic which session instance characteristic }
-{
-    match which {
-        OfCharacteristic::Retract => Request::Retract {
-            session,
-            instance,
-            characteristic,
-        },
-        OfCharacteristic::Why => Request::Why {
-            session,
-            instance,
-            characteristic,
-        },
-    }
-}
-
-fn of_value(
-    which: OfValue,
-    session: Word,
-    instance: u32,
-    characteristic: Word,
-    value: Word,
-) -> Request
-    ensures { result ≡ requests.of_value which session instance characteristic value }
-{
-    match which {
-        OfValue::Set => Request::Set {
-            session,
-            instance,
-            characteristic,
-            value,
-        },
-        OfValue::Add => Request::Add {
-            session,
-            instance,
-            characteristic,
-            value,
-        },
-        OfValue::Drop => Request::Drop {
-            session,
-            instance,
-            characteristic,
-            value,
-        },
-        OfValue::WhyNot => Request::WhyNot {
-            session,
-            instance,
-            characteristic,
-            value,
-        },
     }
 }
 

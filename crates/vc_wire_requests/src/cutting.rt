@@ -34,7 +34,8 @@ pub fn cut_at_space(line: &[u8]) -> Option<(&[u8], &[u8])>
     }
 }
 
-fn all_digits(word: &[u8]) -> bool
+/// Whether all bytes of the word are digits.
+pub fn all_digits(word: &[u8]) -> bool
     ensures { result ≡ list_all is_ascii_digit word.now }
 {
     word.iter().all(|byte| byte.is_ascii_digit())
@@ -51,9 +52,10 @@ fn is_index(word: &[u8]) -> bool
     }
 }
 
-fn number_of(digits: &[u8]) -> u64
+/// The number that at most ten digits spell.
+pub fn number_of(digits: &[u8]) -> u64
     requires digits { IsTrue (list_all is_ascii_digit digits.now) }
-    requires fits { length digits.now ≤ 9 }
+    requires fits { length digits.now ≤ 10 }
     ensures value { result ≡ number_of digits.now }
     ensures small { result < 10 ^ length digits.now }
 {

@@ -3,6 +3,7 @@
 
 pub mod cutting;
 pub mod laws;
+pub mod making;
 pub mod printing;
 pub mod reading;
 pub mod request;

@@ -4,92 +4,11 @@ ghost use Rattle.std.specs.Prelude.{◌≡◌, IfOk};
 ghost use Rattle.vc_wire_requests.specs.Requests as asked;
 
 use crate::cutting::{cut_at_space, instance_in};
+use crate::making::{of_characteristic, of_saved, of_session, of_value};
 use crate::request::Request;
 use crate::verbs::{OfCharacteristic, OfSaved, OfSession, OfValue, Verb, verb_of};
 use std::alloc::{AllocError, Global};
 use vc_value::{Word, is_name, is_session_name};
-
-fn of_session(which: OfSession, session: Word) -> Request
-    ensures { result ≡ asked.of_session which session }
-{
-    match which {
-        OfSession::Start => Request::Start { session },
-        OfSession::Close => Request::Close { session },
-        OfSession::Show => Request::Show { session },
-        OfSession::Conflict => Request::Conflict { session },
-        OfSession::Log => Request::Log { session },
-        OfSession::Bill => Request::Bill { session },
-        OfSession::Routing => Request::Routing { session },
-    }
-}
-
-fn of_characteristic(
-    which: OfCharacteristic,
-    session: Word,
-    instance: u32,
-    characteristic: Word,
-) -> Request
-    ensures { result ≡ asked.of_characteristic which session instance characteristic }
-{
-    match which {
-        OfCharacteristic::Retract => Request::Retract {
-            session,
-            instance,
-            characteristic,
-        },
-        OfCharacteristic::Why => Request::Why {
-            session,
-            instance,
-            characteristic,
-        },
-    }
-}
-
-fn of_value(
-    which: OfValue,
-    session: Word,
-    instance: u32,
-    characteristic: Word,
-    value: Word,
-) -> Request
-    ensures { result ≡ asked.of_value which session instance characteristic value }
-{
-    match which {
-        OfValue::Set => Request::Set {
-            session,
-            instance,
-            characteristic,
-            value,
-        },
-        OfValue::Add => Request::Add {
-            session,
-            instance,
-            characteristic,
-            value,
-        },
-        OfValue::Drop => Request::Drop {
-            session,
-            instance,
-            characteristic,
-            value,
-        },
-        OfValue::WhyNot => Request::WhyNot {
-            session,
-            instance,
-            characteristic,
-            value,
-        },
-    }
-}
-
-fn of_saved(which: OfSaved, session: Word, name: Word) -> Request
-    ensures { result ≡ asked.of_saved which session name }
-{
-    match which {
-        OfSaved::Save => Request::Save { session, name },
-        OfSaved::Load => Request::Load { session, name },
-    }
-}
 
 // `s`
 fn session_request(
