@@ -2,15 +2,16 @@
 use Rattle.std.proofs.Common.{◌≡◌, ℕ, zero, suc, ◌+◌, ◌-◌, ◌<◌, Bool, true, false, cond, ◌⊎◌, List, [], ◌∷◌, ◌++◌}
 use Rattle.std.proofs.Common.{length, map, refl, sym, ◌∙◌, ap, subst, inl, inr, arith, append-nil, length-append}
 use Rattle.std.specs.Prelude.{Option, None, Some, nat_eq, ◌==◌, ◌||◌, if◌then◌else◌, replicate, slice_get, slice_set}
-use Rattle.std.specs.List.{filter, list_any, range_with_len}
+use Rattle.std.specs.List.{filter, flat_map, list_any, range_with_len}
 use Rattle.std.proofs.lemmas.Bool.{eqb-true, eqb-false}
 use Rattle.std.proofs.lemmas.List.{length-replicate}
 use Rattle.vc_base.specs.Numbers.{numbers_below}
 use Rattle.vc_base.specs.Sets.{has}
 use Rattle.vc_base.proofs.ListLaws.{filter_next, has_range, number_exact, number_itself}
 use Rattle.vc_base.proofs.SetLaws.{has_first, has_more, told}
-use Rattle.vc_net_places.proofs.PlaceLaws.Things.{get_second}
-use Rattle.vc_net_readers.specs.Filing.{ends_with, filed_at, filed_at_all, filed_below, filed_in, is_told, put_once}
+use Rattle.vc_net_places.proofs.PlaceLaws.Things.{get_second, range_at}
+use Rattle.vc_net_readers.specs.Filing.{ends_with, filed_at, filed_at_all, filed_at_each, filed_below, filed_in}
+use Rattle.vc_net_readers.specs.Filing.{is_told, list_at, list_or_none, put_once}
 
 -- an element of a list with one set anew, and how many there are
 get_set : {X : Type 0} (xs : List X) (i : ℕ) (x y : X) → slice_get xs i ≡ Some y
@@ -201,3 +202,24 @@ filed_all places m n =
   where
     from_zero : (i : ℕ) → i ≡ 0 + i
     from_zero i = omega arith
+
+-- a list of a mapped range
+pub listed : (f : ℕ → List ℕ) (n i : ℕ) → i < n → list_at (map f (numbers_below n)) i ≡ f i
+listed f n i below = ap list_or_none (range_at f 0 n i below) ∙ ap f from_zero
+  where
+    from_zero : 0 + i ≡ i
+    from_zero = omega arith
+
+-- putting at the places of two lists is putting at the first's, then at the second's
+filed_both : (lists : List (List ℕ)) (xs ys : List ℕ) (rule : ℕ)
+    → filed_at_all lists (xs ++ ys) rule ≡ filed_at_all (filed_at_all lists xs rule) ys rule
+filed_both lists [] ys rule = refl
+filed_both lists (x ∷ xs) ys rule = filed_both (filed_at lists x rule) xs ys rule
+
+-- so is putting at the places of each of several
+pub filed_flat : (places : ℕ → List ℕ) (lists : List (List ℕ)) (rules : List ℕ) (number : ℕ)
+    → filed_at_each places lists rules number ≡ filed_at_all lists (flat_map places rules) number
+filed_flat places lists [] number = refl
+filed_flat places lists (rule ∷ rules) number =
+    filed_flat places (filed_at_all lists (places rule) number) rules number
+    ∙ sym (filed_both lists (places rule) (flat_map places rules) number)

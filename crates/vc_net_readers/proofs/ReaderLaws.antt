@@ -1,48 +1,38 @@
--- Who is woken is asked, and who is asked touches the thing.
-use Rattle.std.proofs.Common.{◌≡◌, ℕ, zero, suc, ◌+◌, ◌<◌, ◌⊎◌, Bool, true, false, List, [], ◌∷◌, ◌++◌, length, map}
-use Rattle.std.proofs.Common.{refl, sym, ◌∙◌, ap, inl, inr, arith}
-use Rattle.std.specs.Prelude.{Option, None, Some, nat_eq, nat_lt, ◌||◌, ◌&&◌, cond, not, slice_get}
-use Rattle.std.specs.List.{filter, find, list_any, range_with_len}
+-- Who is woken is asked.
+use Rattle.std.proofs.Common.{◌≡◌, ℕ, zero, suc, ◌+◌, ◌<◌, Bool, true, false, List, [], ◌∷◌, ◌++◌, length, refl, sym}
+use Rattle.std.proofs.Common.{◌∙◌, ap, inl, inr, arith}
+use Rattle.std.specs.Prelude.{Option, None, Some, nat_eq, nat_lt, ◌||◌, ◌&&◌, cond, slice_get}
+use Rattle.std.specs.List.{filter, find, flat_map, list_any, range_with_len}
 use Rattle.std.specs.Option.{option_to_list}
-use Rattle.std.proofs.lemmas.Bool.{and_parts, eqb-true, lt-ltb, ltb-true}
-use Rattle.std.proofs.lemmas.List.Folds.{list_any-append}
+use Rattle.std.proofs.lemmas.Bool.{and_parts, lt-ltb, ltb-true}
 use Rattle.std.proofs.lemmas.Option.{slice_get_within}
 use Rattle.vc_base.specs.Sets.{has}
-use Rattle.vc_base.proofs.ListLaws.{number_itself, range_has}
-use Rattle.vc_base.proofs.SetLaws.{told}
+use Rattle.vc_base.proofs.ListLaws.{number_exact, number_itself, range_has}
+use Rattle.vc_base.proofs.SetLaws.{both, filter_has, has_back, has_cases, has_front, none_at, told}
 use Rattle.vc_value.specs.declared.value.Value.{Value}
 use Rattle.vc_plan.specs.declared.atoms.Atom.{Atom}
-use Rattle.vc_plan.specs.declared.atoms.Atom.TheVariants.{Out, Is}
+use Rattle.vc_plan.specs.declared.atoms.Atom.TheVariants.{Out}
 use Rattle.vc_plan.specs.declared.plans.Plan.{Plan}
 use Rattle.vc_plan.specs.Bounds.{out_at}
 use Rattle.vc_plan.specs.Domains.{count_of, is_grain_with, numbers_below}
 use Rattle.vc_plan.specs.Gives.{by_rule}
 use Rattle.vc_plan.specs.Pieces.{lies_in}
-use Rattle.vc_plan.specs.Seen.{same_atom}
+use Rattle.vc_plan.specs.Seen.{Seen}
 use Rattle.vc_plan_reasons.specs.Things.{Thing, slot_at, thing_of, var_at}
 use Rattle.vc_net_laws.specs.declared.triggers.Trigger.{Trigger}
 use Rattle.vc_net_laws.specs.Triggers.{stands_in, trigger_by}
 use Rattle.vc_net_laws.specs.Waking.{giver_touches}
 use Rattle.vc_net_places.specs.Places.{index_of, is_place, place_in, thing_at}
 use Rattle.vc_net_places.proofs.PlaceLaws.Numbering.{has_grain}
-use Rattle.vc_net_places.proofs.PlaceLaws.Things.{index_tells_places, index_tells_things, range_at}
-use Rattle.vc_net_readers.specs.Filing.{list_at, list_or_none}
-use Rattle.vc_net_readers.specs.Laws.{IsValuesGrain, WokenAreAsked, asked, has_such, waiting_in}
-use Rattle.vc_net_readers.specs.Readers.{is_reader, readers_at, readers_of, rests_at, waits_at}
-use Rattle.vc_net_readers.specs.Waiting.{grain_with, is_own, place_in_grain, place_of_trigger, rests}
+use Rattle.vc_net_places.proofs.PlaceLaws.Things.{index_tells_places, index_tells_things}
+use Rattle.vc_net_readers.specs.Filing.{list_at}
+use Rattle.vc_net_readers.specs.Laws.{SeesGrains, WokenAreAsked, asked, has_such, waiting_in, waiting_on}
+use Rattle.vc_net_readers.specs.Readers.{awaits, is_free_at, is_reader, readers_at, readers_of, waits_at, waits_for}
+use Rattle.vc_net_readers.specs.Waiting.{grain_with, is_free, is_own, place_in_grain, place_of_trigger}
+use Rattle.vc_net_readers.proofs.FilingLemmas.{listed}
 use Rattle.vc_net_readers.proofs.TouchedLemmas.{any_kept}
 
-pub or_true : (a : Bool) → (a || true) ≡ true
-or_true true = refl
-or_true false = refl
-
--- a list of a mapped range, and a number in a filtered one
-pub listed : (f : ℕ → List ℕ) (n i : ℕ) → i < n → list_at (map f (numbers_below n)) i ≡ f i
-listed f n i below = ap list_or_none (range_at f 0 n i below) ∙ ap f from_zero
-  where
-    from_zero : 0 + i ≡ i
-    from_zero = omega arith
-
+-- a number in a filtered range
 among : (p : ℕ → Bool) (n r : ℕ) → r < n → p r ≡ true → has nat_eq (filter p (numbers_below n)) r ≡ true
 among p n r below e =
     any_kept p r (numbers_below n)
@@ -96,70 +86,100 @@ waiting_found plan r v g a below own e =
     (waits_told plan r v g a (Some (record { var = v; value = a })) own refl e)
 
 -- each that is woken is asked
-slot_asked : (plan : Plan) (i r : ℕ) (grain : Option ℕ) → r < length plan.rules → nat_lt i (length plan.slots) ≡ true
-    → giver_touches plan (by_rule r) (slot_at i) ≡ true → has nat_eq (asked plan (slot_at i) grain) r ≡ true
-slot_asked plan i r grain below there touches =
+slot_asked : (plan : Plan) (i r : ℕ) (seen : Seen) → r < length plan.rules → nat_lt i (length plan.slots) ≡ true
+    → giver_touches plan (by_rule r) (slot_at i) ≡ true → has nat_eq (asked plan seen (slot_at i)) r ≡ true
+slot_asked plan i r seen below there touches =
     ap (λ xs. has nat_eq xs r)
     (listed (λ n. readers_at plan (slot_at n)) (length plan.slots) i (ltb-true i (length plan.slots) there))
     ∙ among (is_reader plan (slot_at i)) (length plan.rules) r below touches
 
-resting_found : (plan : Plan) (v r : ℕ) → r < length plan.rules → nat_lt v (length plan.vars) ≡ true
-    → rests_at plan v r ≡ true → has nat_eq (list_at (readers_of plan).by_var v) r ≡ true
-resting_found plan v r below there e =
+free_found : (plan : Plan) (v r : ℕ) → r < length plan.rules → nat_lt v (length plan.vars) ≡ true
+    → is_free_at plan v r ≡ true → has nat_eq (list_at (readers_of plan).free v) r ≡ true
+free_found plan v r below there e =
     ap (λ xs. has nat_eq xs r)
-    (listed (λ n. filter (rests_at plan n) (numbers_below (length plan.rules))) (length plan.vars) v
+    (listed (λ n. filter (is_free_at plan n) (numbers_below (length plan.rules))) (length plan.vars) v
     (ltb-true v (length plan.vars) there))
-    ∙ among (rests_at plan v) (length plan.rules) r below e
+    ∙ among (is_free_at plan v) (length plan.rules) r below e
 
-var_asked : (plan : Plan) (set : List Atom) (v r : ℕ) (grain : Option ℕ) → r < length plan.rules
-    → nat_lt v (length plan.vars) ≡ true → IsValuesGrain plan set (var_at v) grain
-    → giver_touches plan (by_rule r) (var_at v) ≡ true → (o : Option Trigger) → trigger_by plan (by_rule r) ≡ o
-    → stands_in set o ≡ true → has nat_eq (asked plan (var_at v) grain) r ≡ true
-var_asked plan set v r grain below there valued touches o is stands = by o is stands (told (is_own v o))
+-- a variable for whose value such a rule waits is awaited
+some_of : (p : ℕ → Bool) (n r : ℕ) → r < n → p r ≡ true → list_any p (numbers_below n) ≡ true
+some_of p n r below e =
+    elim (told (list_any p (numbers_below n))) [
+      | inl some ↦ some
+      | inr none ↦
+          absurd (both e (none_at nat_eq number_exact number_itself p (numbers_below n) r none
+          (range_has 0 n r (omega arith) (omega (arith, below)))))
+    ]
+
+awaited_found : (plan : Plan) (v u r : ℕ) → r < length plan.rules → nat_lt v (length plan.vars) ≡ true
+    → nat_lt u (length plan.vars) ≡ true → is_reader plan (var_at v) r ≡ true → waits_for plan u r ≡ true
+    → has nat_eq (list_at (readers_of plan).awaited v) u ≡ true
+awaited_found plan v u r below there other touches waits =
+    ap (λ xs. has nat_eq xs u)
+    (listed (λ n. filter (awaits plan n) (numbers_below (length plan.vars))) (length plan.vars) v
+    (ltb-true v (length plan.vars) there))
+    ∙ among (awaits plan v) (length plan.vars) u (ltb-true u (length plan.vars) other)
+    (some_of (λ n. is_reader plan (var_at v) n && waits_for plan u n) (length plan.rules) r below
+    (ap (λ b. b && waits_for plan u r) touches ∙ waits))
+
+-- what one of several has, all have together
+flat_has : (f : ℕ → List ℕ) (us : List ℕ) (u r : ℕ) → has nat_eq us u ≡ true → has nat_eq (f u) r ≡ true
+    → has nat_eq (flat_map f us) r ≡ true
+flat_has f [] u r h e = absurd (cc)
+flat_has f (w ∷ us) u r h e =
+    elim (has_cases nat_eq number_exact number_itself w us u h) [
+      | inl is ↦
+          has_front nat_eq number_exact number_itself (f w) (flat_map f us) r
+          (ap (λ n. has nat_eq (f n) r) (sym is) ∙ e)
+      | inr more ↦
+          has_back nat_eq number_exact number_itself (f w) (flat_map f us) r (flat_has f us u r more e)
+    ]
+
+var_asked : (plan : Plan) (set : List Atom) (v r : ℕ) (seen : Seen) → r < length plan.rules
+    → nat_lt v (length plan.vars) ≡ true → SeesGrains plan set seen → is_reader plan (var_at v) r ≡ true
+    → (o : Option Trigger) → trigger_by plan (by_rule r) ≡ o → stands_in set o ≡ true
+    → has nat_eq (asked plan seen (var_at v)) r ≡ true
+var_asked plan set v r seen below there sees touches o is stands = by o is stands
   where
-    waiting : List ℕ
-    waiting = waiting_in (readers_of plan) (place_in_grain (index_of plan) v grain)
+    free : List ℕ
+    free = list_at (readers_of plan).free v
 
-    first : rests_at plan v r ≡ true → has nat_eq (asked plan (var_at v) grain) r ≡ true
-    first e =
-        list_any-append (nat_eq r) (list_at (readers_of plan).by_var v) waiting
-        ∙ ap (λ b. b || has nat_eq waiting r) (resting_found plan v r below there e)
-
-    second : has nat_eq waiting r ≡ true → has nat_eq (asked plan (var_at v) grain) r ≡ true
-    second e =
-        list_any-append (nat_eq r) (list_at (readers_of plan).by_var v) waiting
-        ∙ (ap (λ b. has nat_eq (list_at (readers_of plan).by_var v) r || b) e
-        ∙ or_true (has nat_eq (list_at (readers_of plan).by_var v) r))
-
-    rested : (o : Option Trigger) → trigger_by plan (by_rule r) ≡ o → is_own v o ≡ false → rests_at plan v r ≡ true
-    rested o is other =
-        ap (λ b. b && rests (trigger_by plan (by_rule r)) v) touches
-        ∙ (ap (λ t. rests t v) is ∙ ap (λ b. not b) other)
+    all : List ℕ
+    all = flat_map (waiting_on plan seen) (list_at (readers_of plan).awaited v)
 
     by : (o : Option Trigger) → trigger_by plan (by_rule r) ≡ o → stands_in set o ≡ true
-        → ((is_own v o ≡ true) ⊎ (is_own v o ≡ false)) → has nat_eq (asked plan (var_at v) grain) r ≡ true
-    by o is stands (inr other) = first (rested o is other)
-    by None is stands (inl own) = absurd (cc)
-    by (Some t) is stands (inl own) =
-        let same : v ≡ t.var = eqb-true v t.var own in
-        let lies = valued t.value (ap (λ w. has same_atom set (Is w t.value)) same ∙ stands) in
-        second (ap (λ h. has nat_eq (waiting_in (readers_of plan) (place_in_grain (index_of plan) v h)) r) lies.1
-        ∙ waiting_found plan r v lies.0 t.value below
-        (is ∙ ap (λ w. Some (record { var = w; value = t.value })) (sym same)) lies.2)
+        → has nat_eq (free ++ filter (is_reader plan (var_at v)) all) r ≡ true
+    by None is stands =
+        has_front nat_eq number_exact number_itself free (filter (is_reader plan (var_at v)) all) r
+        (free_found plan v r below there
+        (ap (λ b. b && is_free (trigger_by plan (by_rule r))) touches ∙ ap is_free is))
+    by (Some t) is stands =
+        let lies = sees t.var t.value stands in
+        let other : nat_lt t.var (length plan.vars) ≡ true
+        = (and_parts (nat_lt t.var (length plan.vars)) (nat_lt lies.0 (count_of plan t.var))
+        (grain_there plan t.var lies.0 t.value lies.2)).0 in
+        let waits : has nat_eq (waiting_on plan seen t.var) r ≡ true
+        = ap (λ h. has nat_eq (waiting_in (readers_of plan) (place_in_grain (index_of plan) t.var h)) r) lies.1
+        ∙ waiting_found plan r t.var lies.0 t.value below is lies.2 in
+        has_back nat_eq number_exact number_itself free (filter (is_reader plan (var_at v)) all) r
+        (filter_has nat_eq number_exact number_itself (is_reader plan (var_at v)) all r
+        (flat_has (waiting_on plan seen) (list_at (readers_of plan).awaited v) t.var r
+        (awaited_found plan v t.var r below there other touches (ap (is_own t.var) is ∙ number_itself t.var)) waits)
+        touches)
 
 -- each rule that touches a thing, and whose trigger stands, is asked
-pub touching_are_asked : (plan : Plan) (set : List Atom) (thing : Thing) (grain : Option ℕ) (r : ℕ)
-    → r < length plan.rules → has_such plan thing ≡ true → IsValuesGrain plan set thing grain
+pub touching_are_asked : (plan : Plan) (set : List Atom) (thing : Thing) (seen : Seen) (r : ℕ)
+    → r < length plan.rules → has_such plan thing ≡ true → SeesGrains plan set seen
     → giver_touches plan (by_rule r) thing ≡ true → stands_in set (trigger_by plan (by_rule r)) ≡ true
-    → has nat_eq (asked plan thing grain) r ≡ true
-touching_are_asked plan set (slot_at i) grain r below there valued touches stands =
-    slot_asked plan i r grain below there touches
-touching_are_asked plan set (var_at v) grain r below there valued touches stands =
-    var_asked plan set v r grain below there valued touches (trigger_by plan (by_rule r)) refl stands
+    → has nat_eq (asked plan seen thing) r ≡ true
+touching_are_asked plan set (slot_at i) seen r below there sees touches stands =
+    slot_asked plan i r seen below there touches
+touching_are_asked plan set (var_at v) seen r below there sees touches stands =
+    var_asked plan set v r seen below there sees touches (trigger_by plan (by_rule r)) refl stands
 
 pub woken_are_asked : WokenAreAsked
-woken_are_asked plan set atom grain r below there valued woken =
+woken_are_asked plan set atom seen r below there sees woken =
     let p
     = and_parts (giver_touches plan (by_rule r) (thing_of atom))
     (stands_in (set ++ atom ∷ []) (trigger_by plan (by_rule r))) woken in
-    touching_are_asked plan (set ++ atom ∷ []) (thing_of atom) grain r below there valued p.0 p.1
+    touching_are_asked plan (set ++ atom ∷ []) (thing_of atom) seen r below there sees p.0 p.1

@@ -1,13 +1,15 @@
 -- Worked rows of readers, by computing: PUMP's, and those of a rule that waits for a value. Beside what is so stands
 -- what would be so by a likely slip, and isn't.
-use Rattle.std.proofs.Common.{◌≡◌, [], ◌∷◌, refl}
-use Rattle.std.specs.Prelude.{◌≢◌, Some}
+use Rattle.std.proofs.Common.{◌≡◌, ℕ, [], ◌∷◌, refl}
+use Rattle.std.specs.Prelude.{◌≢◌}
+use Rattle.vc_plan.specs.declared.atoms.Atom.TheVariants.{Is}
 use Rattle.vc_plan.specs.declared.conditions.Condition.TheVariants.{Always, Compared}
 use Rattle.vc_plan.specs.declared.conditions.Relation.TheVariants.{Equal}
 use Rattle.vc_plan.specs.declared.plans.Plan.{Plan}
 use Rattle.vc_plan.specs.declared.rules.Kind.TheVariants.{Last}
 use Rattle.vc_plan.specs.declared.terms.Term.TheVariants.{Literal, Read}
 use Rattle.vc_plan.proofs.PlanRows.Models.{last, open_pair, own_rule, pump, whole}
+use Rattle.vc_plan.specs.Seen.{Seen, seen_of}
 use Rattle.vc_plan_reasons.specs.Things.{slot_at, var_at}
 use Rattle.vc_net_readers.specs.Filing.{filed_at_all}
 use Rattle.vc_net_readers.specs.Laws.{asked}
@@ -17,6 +19,8 @@ use Rattle.vc_net_readers.specs.Readers.{readers_of}
 by_things : readers_of pump ≡ record {
   by_slot = (0 ∷ 1 ∷ 2 ∷ 3 ∷ []) ∷ [];
   by_var = (0 ∷ 1 ∷ []) ∷ (0 ∷ 2 ∷ []) ∷ (3 ∷ []) ∷ [];
+  free = (0 ∷ 1 ∷ []) ∷ (0 ∷ 2 ∷ []) ∷ (3 ∷ []) ∷ [];
+  awaited = [] ∷ [] ∷ [] ∷ [];
   by_place = [] ∷ [] ∷ [] ∷ [] ∷ [] ∷ [] ∷ [] ∷ [] ∷ [] ∷ [] ∷ [] ∷ [];
 }
 by_things = refl
@@ -30,20 +34,38 @@ awaiting = record (open_pair [] (last 0)) {
 
 by_value : readers_of awaiting ≡ record {
   by_slot = (0 ∷ 1 ∷ []) ∷ [];
-  by_var = (1 ∷ []) ∷ (0 ∷ []) ∷ [];
+  by_var = (0 ∷ 1 ∷ []) ∷ (0 ∷ []) ∷ [];
+  free = (1 ∷ []) ∷ [] ∷ [];
+  awaited = (0 ∷ []) ∷ (0 ∷ []) ∷ [];
   by_place = [] ∷ [] ∷ [] ∷ (0 ∷ []) ∷ [] ∷ [] ∷ [] ∷ [] ∷ [] ∷ [];
 }
 by_value = refl
 
--- it is asked by a value in its grain, and by no other
-its_grain : asked awaiting (var_at 0) (Some 1) ≡ 1 ∷ 0 ∷ []
+-- so it isn't free at what it touches besides, and the first awaits a value of itself
+free_anyway : (readers_of awaiting).free ≢ (1 ∷ []) ∷ (0 ∷ []) ∷ []
+free_anyway e = cc
+
+itself_left_out : (readers_of awaiting).awaited ≢ [] ∷ (0 ∷ []) ∷ []
+itself_left_out e = cc
+
+-- it is asked when an atom of either comes, where the first has a value in its grain, and nowhere else
+abbrev with_first : ℕ → Seen
+with_first a = seen_of (Is 0 (whole a) ∷ [])
+
+its_grain : asked awaiting (with_first 2) (var_at 0) ≡ 1 ∷ 0 ∷ []
 its_grain = refl
 
-other_grain : asked awaiting (var_at 0) (Some 0) ≢ 1 ∷ 0 ∷ []
+at_the_other : asked awaiting (with_first 2) (var_at 1) ≡ 0 ∷ []
+at_the_other = refl
+
+other_grain : asked awaiting (with_first 1) (var_at 0) ≢ 1 ∷ 0 ∷ []
 other_grain e = cc
 
--- and by each atom of what it touches besides
-its_slot : asked awaiting (slot_at 0) (Some 0) ≡ 0 ∷ 1 ∷ []
+no_value : asked awaiting (seen_of []) (var_at 1) ≡ []
+no_value = refl
+
+-- and by each atom of its slot
+its_slot : asked awaiting (seen_of []) (slot_at 0) ≡ 0 ∷ 1 ∷ []
 its_slot = refl
 
 -- a rule that has a place twice is put there once, and nowhere else

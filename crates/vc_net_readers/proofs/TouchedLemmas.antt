@@ -1,7 +1,7 @@
 -- What stands in a rule is what it reads and writes.
 use Rattle.std.proofs.Common.{◌≡◌, ℕ, Bool, true, false, List, [], ◌∷◌, ◌++◌, length, map, refl, sym, ◌∙◌, ap}
 use Rattle.std.proofs.Common.{append_assoc}
-use Rattle.std.specs.Prelude.{Option, None, Some, nat_eq, ◌||◌, ◌&&◌, cond, replicate, slice_get}
+use Rattle.std.specs.Prelude.{Option, None, Some, nat_eq, ◌==◌, ◌||◌, ◌&&◌, cond, replicate, slice_get}
 use Rattle.std.specs.List.{filter, list_any}
 use Rattle.std.proofs.lemmas.List.Folds.{list_any-append}
 use Rattle.vc_plan.specs.declared.plans.Plan.{Plan}
@@ -14,18 +14,25 @@ use Rattle.vc_plan.specs.Restrictions.{is_inferred}
 use Rattle.vc_plan_reasons.specs.Things.{has_thing, inferred_of, kind_writes, parents_of, reads_in, same_thing, slot_at}
 use Rattle.vc_plan_reasons.specs.Things.{slots_of_kind, slots_of_var, var_at, vars_of_kind, writes_in}
 use Rattle.vc_net_readers.specs.Filing.{filed_below}
-use Rattle.vc_net_readers.specs.Readers.{is_reader, readers_at, rests_at, slot_lists, var_lists}
-use Rattle.vc_net_readers.specs.Waiting.{resting_by, rests}
-use Rattle.vc_net_laws.specs.Triggers.{trigger_by}
-use Rattle.vc_plan.specs.Gives.{by_rule}
+use Rattle.vc_net_readers.specs.Readers.{is_reader, readers_at, slot_lists}
 use Rattle.std.proofs.lemmas.Map.Views.{any-filter_same}
 use Rattle.vc_base.proofs.ListLaws.{number_exact}
-use Rattle.vc_net_readers.specs.Touched.{slots_by, slots_in_rule, slots_told, vars_by, vars_in_rule}
+use Rattle.vc_net_readers.specs.Touched.{slots_by, slots_in_rule, slots_told, vars_in_rule}
 use Rattle.vc_net_readers.proofs.FilingLemmas.{filed_all, has_filter, has_place}
 
 pub or_false : (a : Bool) → (a || false) ≡ a
 or_false true = refl
 or_false false = refl
+
+-- whether a number is one of two lists', and whether it is one alone
+pub any_both : (v : ℕ) (xs ys : List ℕ)
+    → list_any (nat_eq v) (xs ++ ys) ≡ (list_any (nat_eq v) xs || list_any (nat_eq v) ys)
+any_both v xs ys = list_any-append (nat_eq v) xs ys
+
+pub any_one : (v w : ℕ) → list_any (nat_eq v) (w ∷ []) ≡ (v == w)
+any_one v w = or_false (v == w)
+
+pub ruleset any_of_parts = (any_both, any_one)
 
 -- what is there already adds nothing
 absorbed : (a b : Bool) → (b ≡ true → a ≡ true) → a ≡ (a || b)
@@ -142,11 +149,11 @@ var_in_rule plan (Some rule) v =
     or_true false = refl
 
 -- the lists
-map_same : {X Y : Type 0} (f g : X → Y) → ((x : X) → f x ≡ g x) → (xs : List X) → map f xs ≡ map g xs
+pub map_same : {X Y : Type 0} (f g : X → Y) → ((x : X) → f x ≡ g x) → (xs : List X) → map f xs ≡ map g xs
 map_same f g same [] = refl
 map_same f g same (x ∷ xs) = ap (λ y. y ∷ map f xs) (same x) ∙ ap (λ ys. g x ∷ ys) (map_same f g same xs)
 
-filter_same : {X : Type 0} (p q : X → Bool) → ((x : X) → p x ≡ q x) → (xs : List X) → filter p xs ≡ filter q xs
+pub filter_same : {X : Type 0} (p q : X → Bool) → ((x : X) → p x ≡ q x) → (xs : List X) → filter p xs ≡ filter q xs
 filter_same p q same [] = refl
 filter_same p q same (x ∷ xs) =
     ap (λ b. cond b (x ∷ filter p xs) (filter p xs)) (same x)
@@ -175,19 +182,3 @@ any_kept p v xs =
     and_comm true false = refl
     and_comm false true = refl
     and_comm false false = refl
-
-pub vars_filed : (plan : Plan)
-    → filed_below (resting_by plan) (length plan.rules) (replicate (length plan.vars) []) ≡ var_lists plan
-vars_filed plan =
-    filed_all (resting_by plan) (length plan.vars) (length plan.rules)
-    ∙ map_same (λ t. filter (has_place (resting_by plan) t) (numbers_below (length plan.rules)))
-    (λ v. filter (rests_at plan v) (numbers_below (length plan.rules)))
-    (λ v. filter_same (has_place (resting_by plan) v) (rests_at plan v) (λ r. resting v r)
-    (numbers_below (length plan.rules)))
-    (numbers_below (length plan.vars))
-  where
-    resting : (v r : ℕ) → list_any (nat_eq v) (resting_by plan r) ≡ rests_at plan v r
-    resting v r =
-        let trigger = trigger_by plan (by_rule r) in
-        any_kept (rests trigger) v (vars_by plan r)
-        ∙ ap (λ b. b && rests trigger v) (var_in_rule plan (slice_get plan.rules r) v)

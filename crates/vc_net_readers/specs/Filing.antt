@@ -34,6 +34,12 @@ abbrev pub filed_at_all : List (List ℕ) → List ℕ → ℕ → List (List �
 filed_at_all lists [] rule = lists
 filed_at_all lists (place ∷ places) rule = filed_at_all (filed_at lists place rule) places rule
 
+-- the lists with a number put at the places of each of several rules
+abbrev pub filed_at_each : (ℕ → List ℕ) → List (List ℕ) → List ℕ → ℕ → List (List ℕ)
+filed_at_each places lists [] number = lists
+filed_at_each places lists (rule ∷ rules) number =
+    filed_at_each places (filed_at_all lists (places rule) number) rules number
+
 -- the first rules, each put at its places
 abbrev pub filed_below : (ℕ → List ℕ) → ℕ → List (List ℕ) → List (List ℕ)
 filed_below places zero lists = lists

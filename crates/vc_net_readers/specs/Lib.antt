@@ -1,5 +1,6 @@
 pub mod Filing
 pub mod Laws
 pub mod Readers
+pub mod Rising
 pub mod Touched
 pub mod Waiting

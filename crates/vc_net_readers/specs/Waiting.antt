@@ -1,11 +1,13 @@
--- Under which grain a rule with a trigger waits, and which of a variable's readers don't wait for its value.
-use Rattle.std.specs.Prelude.{ℕ, Bool, false, not, ◌==◌, List, Option, None, Some}
-use Rattle.std.specs.List.{filter, find}
+-- Which rules wait for a value, of which variable and under which grain.
+use Rattle.std.specs.Prelude.{ℕ, Bool, true, false, ◌==◌, if◌then◌else◌, List, [], ◌∷◌, length, slice_get, Option, None}
+use Rattle.std.specs.Prelude.{Some}
+use Rattle.std.specs.List.{find}
 use Rattle.std.specs.Option.{option_to_list}
 use Rattle.vc_value.specs.declared.value.Value.{Value}
 use Rattle.vc_plan.specs.declared.atoms.Atom.TheVariants.{Out}
+use Rattle.vc_plan.specs.declared.conditions.Piece.{Piece}
 use Rattle.vc_plan.specs.declared.plans.Plan.{Plan}
-use Rattle.vc_plan.specs.Domains.{count_of, is_grain_with, numbers_below}
+use Rattle.vc_plan.specs.Domains.{grains_of, numbers_below, passes}
 use Rattle.vc_plan.specs.Gives.{by_rule}
 use Rattle.vc_plan.specs.Pieces.{lies_in}
 use Rattle.vc_net_laws.specs.declared.triggers.Trigger.{Trigger}
@@ -13,22 +15,40 @@ use Rattle.vc_net_laws.specs.Triggers.{trigger_by}
 use Rattle.vc_net_places.specs.Places.{Index, index_of, place_in}
 use Rattle.vc_net_readers.specs.Touched.{vars_by}
 
--- whether a trigger is a value of the variable
+-- whether nothing is waited for; whether a trigger is a value of the variable; and of which variables it is one
+abbrev pub is_free : Option Trigger → Bool
+is_free None = true
+is_free (Some trigger) = false
+
 abbrev pub is_own : ℕ → Option Trigger → Bool
 is_own v None = false
 is_own v (Some trigger) = v == trigger.var
 
-abbrev pub rests : Option Trigger → ℕ → Bool
-rests trigger v = not (is_own v trigger)
+abbrev pub vars_of_trigger : Option Trigger → List ℕ
+vars_of_trigger None = []
+vars_of_trigger (Some trigger) = trigger.var ∷ []
 
--- the variables that a rule touches without waiting for a value of them
-abbrev pub resting_by : Plan → ℕ → List ℕ
-resting_by plan r = filter (rests (trigger_by plan (by_rule r))) (vars_by plan r)
+-- the variables that a rule touches, if it waits for nothing
+abbrev pub free_by : Plan → ℕ → List ℕ
+free_by plan r = if is_free (trigger_by plan (by_rule r)) then vars_by plan r else []
 
--- the first grain in which a value lies, and its place
+-- the variables for whose value a rule waits
+abbrev pub awaited_by : Plan → ℕ → List ℕ
+awaited_by plan r = vars_of_trigger (trigger_by plan (by_rule r))
+
+-- the first of some grains in which a value lies, and the first of a variable's
+abbrev pub grain_in : List Piece → Value → Option ℕ
+grain_in pieces a = find (λ g. passes (lies_in a) (slice_get pieces g)) (numbers_below (length pieces))
+
 abbrev pub grain_with : Plan → ℕ → Value → Option ℕ
-grain_with plan v a = find (is_grain_with plan v (lies_in a)) (numbers_below (count_of plan v))
+grain_with plan v a = grain_in (grains_of plan v) a
 
+-- that of the value that a variable has, if it has one
+abbrev pub grain_held : Plan → ℕ → Option Value → Option ℕ
+grain_held plan v None = None
+grain_held plan v (Some a) = grain_with plan v a
+
+-- the place of a grain
 abbrev pub place_in_grain : Index → ℕ → Option ℕ → Option ℕ
 place_in_grain index v None = None
 place_in_grain index v (Some g) = Some (place_in index (Out v g))

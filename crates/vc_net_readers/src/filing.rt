@@ -1,13 +1,9 @@
 //! Lists of rules, to which a rule is put at several places, each time once.
 
 ghost use Rattle.std.specs.Prelude.{◌≡◌, [], replicate, IfOk, OnOk};
-ghost use Rattle.std.specs.List.{filter};
-ghost use Rattle.vc_net_readers.specs.Waiting.{rests};
 ghost use Rattle.vc_net_readers.specs.Filing.{ends_with, filed_at, filed_at_all, put_once};
 
-use crate::triggers::is_own;
 use std::alloc::{AllocError, Global};
-use vc_net_laws::Trigger;
 use vc_value::Listed;
 
 fn ends_with(list: &[u32], number: u32) -> bool
@@ -50,25 +46,6 @@ pub fn file_at_all(
     let mut rest = places;
     while let [place, more @ ..] = rest {
         file_at(lists, *place as usize, rule)?;
-        rest = more;
-    }
-    Ok(())
-}
-
-/// The same at each of the variables but the trigger's.
-pub fn file_at_resting(
-    lists: &mut Vec<Listed<u32>>,
-    vars: &[u32],
-    trigger: Option<Trigger>,
-    rule: u32,
-) -> Result<(), AllocError>
-    ensures { OnOk result (lists.new.items ≡ filed_at_all lists.old.items (filter (rests trigger) vars.now) rule) }
-{
-    let mut rest = vars;
-    while let [var, more @ ..] = rest {
-        if !is_own(*var, trigger) {
-            file_at(lists, *var as usize, rule)?;
-        }
         rest = more;
     }
     Ok(())

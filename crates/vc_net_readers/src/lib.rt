@@ -2,9 +2,11 @@
 #![tactic(auto)]
 
 pub mod filing;
+pub mod halves;
 pub mod laws;
 pub mod readers;
 pub mod touched;
+pub mod touching;
 pub mod triggers;
 
 pub use readers::Readers;

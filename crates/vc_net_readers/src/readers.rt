@@ -1,14 +1,15 @@
 //! Which rules touch a slot or a variable.
 
 ghost use Rattle.std.specs.Prelude.{◌≡◌, ◌^◌, ◌<◌, length, map, slice_get, IfOk, OnOk};
-ghost use Rattle.vc_net_readers.specs.Filing.{filed_at_all, list_at};
-ghost use Rattle.vc_net_readers.specs.Readers.{place_lists, slot_lists, var_lists};
-ghost use Rattle.vc_net_readers.specs.Touched.{slots_by};
-ghost use Rattle.vc_net_readers.specs.Waiting.{resting_by, waits_by};
+ghost use Rattle.vc_net_readers.specs.Filing.{filed_at_all, filed_at_each, list_at};
+ghost use Rattle.vc_net_readers.specs.Readers.{awaited_lists, free_lists, place_lists, slot_lists, var_lists};
+ghost use Rattle.vc_net_readers.specs.Readers.{waiter_lists};
+ghost use Rattle.vc_net_readers.specs.Touched.{slots_by, vars_by};
+ghost use Rattle.vc_net_readers.specs.Waiting.{awaited_by, free_by, waits_by};
 ghost use Rattle.vc_plan.specs.Domains.{atom_count};
 ghost use Rattle.vc_net_places.specs.Places.{index_of};
 
-use crate::filing::{empty_lists, file_at, file_at_all, file_at_resting};
+use crate::filing::{empty_lists, file_at, file_at_all};
 use crate::touched::{touched_slots, touched_vars};
 use crate::triggers::{place_of_trigger, trigger_by};
 use std::alloc::{AllocError, Global};
@@ -18,11 +19,13 @@ use vc_plan::Plan;
 use vc_rule_terms::elements::element;
 use vc_value::Listed;
 
-/// The rules of a plan by what they touch. All memory is taken at `new`.
+/// The rules of a plan by what they touch and what they wait for. All memory is taken at `new`.
 #[derive(Drop)]
 pub struct Readers {
     by_slot: Vec<Listed<u32>>,
     by_var: Vec<Listed<u32>>,
+    free: Vec<Listed<u32>>,
+    awaited: Vec<Listed<u32>>,
     by_place: Vec<Listed<u32>>,
 }
 
@@ -31,7 +34,13 @@ impl Model for Readers {
 
     ghost Value = { Index };
 
-    ghost view = { λ r. record { by_slot = r.by_slot.items; by_var = r.by_var.items; by_place = r.by_place.items } };
+    ghost view = { λ r. record {
+      by_slot = r.by_slot.items;
+      by_var = r.by_var.items;
+      free = r.free.items;
+      awaited = r.awaited.items;
+      by_place = r.by_place.items;
+    } };
 }
 
 impl Readers {
@@ -44,16 +53,21 @@ impl Readers {
     /// The rules of the plan.
     pub fn new(alloc: Global, plan: &Plan, index: &Places) -> Result<Readers, AllocError>
         requires rules { length plan.now.rules < 2 ^ 32 }
+        requires vars { length plan.now.vars < 2 ^ 32 }
         requires few { atom_count plan.now < 2 ^ 32 }
         requires index { index.now ≡ index_of plan.now }
         ensures { IfOk result (λ readers. readers ≡ readers_of plan.now) }
     {
         let by_slot = slot_lists(alloc, plan)?;
         let by_var = var_lists(alloc, plan)?;
+        let free = free_lists(alloc, plan)?;
+        let awaited = awaited_lists(alloc, plan)?;
         let by_place = place_lists(alloc, plan, index)?;
         Ok(Readers {
             by_slot,
             by_var,
+            free,
+            awaited,
             by_place,
         })
     }
@@ -62,21 +76,29 @@ impl Readers {
     pub fn of_slot(&self, slot: u32) -> &[u32]
         ensures { result.now ≡ list_at self.now.by_slot slot }
     {
-        match element(self.by_slot.as_slice(), slot) {
-            Some(rules) => rules.as_slice(),
-            None => &[],
-        }
+        list_at(self.by_slot.as_slice(), slot)
     }
 
-    /// The rules that touch the variable and don't wait for a value of it, in their order; none where there is no such
-    /// variable.
+    /// The rules that touch the variable, in their order; none where there is no such variable.
     pub fn of_var(&self, var: u32) -> &[u32]
         ensures { result.now ≡ list_at self.now.by_var var }
     {
-        match element(self.by_var.as_slice(), var) {
-            Some(rules) => rules.as_slice(),
-            None => &[],
-        }
+        list_at(self.by_var.as_slice(), var)
+    }
+
+    /// The rules that touch the variable and wait for no value, in their order; none where there is no such variable.
+    pub fn free(&self, var: u32) -> &[u32]
+        ensures { result.now ≡ list_at self.now.free var }
+    {
+        list_at(self.free.as_slice(), var)
+    }
+
+    /// The variables of which a rule that touches this one waits for a value, in their order; this one may be among
+    /// them. None where there is no such variable.
+    pub fn awaited(&self, var: u32) -> &[u32]
+        ensures { result.now ≡ list_at self.now.awaited var }
+    {
+        list_at(self.awaited.as_slice(), var)
     }
 
     /// The rules that wait for a value in the grain of this place, in their order; none at another place.
@@ -87,6 +109,16 @@ impl Readers {
             Some(rules) => rules.as_slice(),
             None => &[],
         }
+    }
+}
+
+// The list of the number; none where there is no such list.
+fn list_at(lists: &[Listed<u32>], number: u32) -> &[u32]
+    ensures { result.now ≡ list_at lists.now number }
+{
+    match element(lists, number) {
+        Some(list) => list.as_slice(),
+        None => &[],
     }
 }
 
@@ -108,22 +140,66 @@ fn file_at_slots(
     }
 }
 
-// Puts the rule at each variable that it touches, but that of its trigger.
+// Puts the number at each variable that the rule touches.
 fn file_at_vars(
+    alloc: Global,
+    plan: &Plan,
+    rule: u32,
+    number: u32,
+    lists: &mut Vec<Listed<u32>>,
+) -> Result<(), AllocError>
+    ensures { OnOk result (lists.new.items ≡ filed_at_all lists.old.items (vars_by plan.now rule) number) }
+{
+    match element(plan.rules.as_slice(), rule) {
+        Some(told) => {
+            let vars = touched_vars(alloc, plan, told)?;
+            file_at_all(lists, vars.as_slice(), number)
+        }
+        None => Ok(()),
+    }
+}
+
+// Puts the rule at each variable that it touches, if it waits for no value.
+fn file_if_free(
     alloc: Global,
     plan: &Plan,
     rule: u32,
     lists: &mut Vec<Listed<u32>>,
 ) -> Result<(), AllocError>
-    ensures { OnOk result (lists.new.items ≡ filed_at_all lists.old.items (resting_by plan.now rule) rule) }
+    ensures { OnOk result (lists.new.items ≡ filed_at_all lists.old.items (free_by plan.now rule) rule) }
 {
-    match element(plan.rules.as_slice(), rule) {
-        Some(told) => {
-            let vars = touched_vars(alloc, plan, told)?;
-            file_at_resting(lists, vars.as_slice(), trigger_by(plan, rule), rule)
-        }
+    match trigger_by(plan, rule) {
+        Some(_) => Ok(()),
+        None => file_at_vars(alloc, plan, rule, rule, lists),
+    }
+}
+
+// Puts the rule at the variable for whose value it waits.
+fn file_at_awaited(plan: &Plan, rule: u32, lists: &mut Vec<Listed<u32>>) -> Result<(), AllocError>
+    ensures { OnOk result (lists.new.items ≡ filed_at_all lists.old.items (awaited_by plan.now rule) rule) }
+{
+    match trigger_by(plan, rule) {
+        Some(trigger) => file_at(lists, trigger.var as usize, rule),
         None => Ok(()),
     }
+}
+
+// Puts the variable at each that one of the rules touches.
+fn file_at_touched(
+    alloc: Global,
+    plan: &Plan,
+    rules: &[u32],
+    var: u32,
+    lists: &mut Vec<Listed<u32>>,
+) -> Result<(), AllocError>
+    ensures { OnOk result (lists.new.items ≡ filed_at_each (vars_by plan.now) lists.old.items rules.now var) }
+{
+    let mut rest = rules;
+    while let [rule, more @ ..] = rest {
+        file_at_vars(alloc, plan, *rule, var, lists)?;
+        rest = more;
+    }
+    Ok(())
 }
 
 // Puts the rule at the grain in which its trigger's value lies.
@@ -156,7 +232,7 @@ fn slot_lists(alloc: Global, plan: &Plan) -> Result<Vec<Listed<u32>>, AllocError
     Ok(lists)
 }
 
-// The rules that touch each variable and don't wait for its value.
+// The rules that touch each variable.
 #[tactic(auto, using(crate::proofs::FilingLemmas::filed_next))]
 fn var_lists(alloc: Global, plan: &Plan) -> Result<Vec<Listed<u32>>, AllocError>
     requires { length plan.now.rules < 2 ^ 32 }
@@ -164,7 +240,64 @@ fn var_lists(alloc: Global, plan: &Plan) -> Result<Vec<Listed<u32>>, AllocError>
 {
     let mut lists = empty_lists(alloc, plan.vars.len())?;
     for rule in 0..plan.rules.len() {
-        file_at_vars(alloc, plan, rule as u32, &mut lists)?;
+        file_at_vars(alloc, plan, rule as u32, rule as u32, &mut lists)?;
+    }
+    Ok(lists)
+}
+
+// The rules that touch each variable and wait for no value.
+#[tactic(auto, using(crate::proofs::FilingLemmas::filed_next))]
+fn free_lists(alloc: Global, plan: &Plan) -> Result<Vec<Listed<u32>>, AllocError>
+    requires { length plan.now.rules < 2 ^ 32 }
+    ensures { IfOk result (λ lists. lists.items ≡ free_lists plan.now) }
+{
+    let mut lists = empty_lists(alloc, plan.vars.len())?;
+    for rule in 0..plan.rules.len() {
+        file_if_free(alloc, plan, rule as u32, &mut lists)?;
+    }
+    Ok(lists)
+}
+
+// The rules that wait for a value of each variable.
+#[tactic(auto, using(crate::proofs::FilingLemmas::filed_next))]
+fn waiter_lists(alloc: Global, plan: &Plan) -> Result<Vec<Listed<u32>>, AllocError>
+    requires { length plan.now.rules < 2 ^ 32 }
+    ensures { IfOk result (λ lists. lists.items ≡ waiter_lists plan.now) }
+{
+    let mut lists = empty_lists(alloc, plan.vars.len())?;
+    for rule in 0..plan.rules.len() {
+        file_at_awaited(plan, rule as u32, &mut lists)?;
+    }
+    Ok(lists)
+}
+
+// The variables of which a value is waited for by rules that touch each variable.
+fn awaited_lists(alloc: Global, plan: &Plan) -> Result<Vec<Listed<u32>>, AllocError>
+    requires rules { length plan.now.rules < 2 ^ 32 }
+    requires vars { length plan.now.vars < 2 ^ 32 }
+    ensures { IfOk result (λ lists. lists.items ≡ awaited_lists plan.now) }
+{
+    let waiters = waiter_lists(alloc, plan)?;
+    let lists = awaited_from(alloc, plan, waiters.as_slice());
+    drop(waiters);
+    lists
+}
+
+// The same, where the rules that wait for a value of each are known.
+#[tactic(auto, using(crate::proofs::WaiterLemmas::awaited_next))]
+fn awaited_from(
+    alloc: Global,
+    plan: &Plan,
+    waiters: &[Listed<u32>],
+) -> Result<Vec<Listed<u32>>, AllocError>
+    requires vars { length plan.now.vars < 2 ^ 32 }
+    requires waiters { waiters.now ≡ waiter_lists plan.now }
+    ensures { IfOk result (λ lists. lists.items ≡ awaited_lists plan.now) }
+{
+    let mut lists = empty_lists(alloc, plan.vars.len())?;
+    for var in 0..plan.vars.len() {
+        let rules = list_at(waiters, var as u32);
+        file_at_touched(alloc, plan, rules, var as u32, &mut lists)?;
     }
     Ok(lists)
 }

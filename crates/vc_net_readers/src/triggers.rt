@@ -1,22 +1,22 @@
 //! The trigger of a rule, and the place of the grain in which its value lies.
 
-ghost use Rattle.std.specs.Prelude.{◌≡◌, ◌^◌, ◌<◌, slice_get};
-ghost use Rattle.vc_plan.specs.Domains.{atom_count, is_grain_with};
+ghost use Rattle.std.specs.Prelude.{◌≡◌, ◌^◌, ◌<◌, length, map, slice_get, Some};
+ghost use Rattle.vc_value.specs.declared.value.Value.TheVariants.{Text};
+ghost use Rattle.vc_plan.specs.declared.conditions.Piece.TheVariants.{OneText, Stretch};
+ghost use Rattle.vc_plan.specs.Domains.{atom_count, grains_in, passes};
 ghost use Rattle.vc_plan.specs.Gives.{by_rule};
 ghost use Rattle.vc_plan.specs.Pieces.{lies_in};
 ghost use Rattle.vc_net_laws.specs.Triggers.{literal_equals, trigger_by, trigger_in, trigger_of, trigger_of_relation};
 ghost use Rattle.vc_net_laws.specs.Triggers.{trigger_of_sides, variable_equals};
 ghost use Rattle.vc_net_places.specs.Places.{index_of};
-ghost use Rattle.vc_net_readers.specs.Waiting.{grain_with, is_own, place_in_grain, place_of_trigger};
+ghost use Rattle.vc_net_readers.specs.Waiting.{grain_held, grain_in, grain_with, place_in_grain, place_of_trigger};
 
 use vc_net_laws::Trigger;
 use vc_net_places::Places;
 use vc_plan::{Atom, Condition, Plan, Relation, Rule, Term};
-use vc_rule_grains::grains::piece;
 use vc_rule_grains::remaining::grain_count;
 use vc_rule_terms::elements::element;
-use vc_rule_terms::lies_in;
-use vc_value::Value;
+use vc_value::{Domain, GrainList, Value};
 
 fn literal_equals(value: Value, other: &Term) -> Option<Trigger>
     ensures { result ≡ literal_equals value other.now }
@@ -87,40 +87,91 @@ pub fn trigger_by(plan: &Plan, rule: u32) -> Option<Trigger>
     }
 }
 
-/// Whether the trigger is a value of the variable.
-pub fn is_own(var: u32, trigger: Option<Trigger>) -> bool
-    ensures { result ≡ is_own var trigger }
+#[tactic(auto, using(vc_rule_grains::proofs::GrainLemmas::text_at))]
+fn is_text_at(texts: &[u32], text: u32, grain: u32) -> bool
+    ensures { result ≡ passes (lies_in (Text text)) (slice_get (map OneText texts.now) grain) }
 {
-    match trigger {
-        Some(trigger) => var == trigger.var,
+    match element(texts, grain) {
+        Some(other) => *other == text,
         None => false,
     }
 }
 
-fn holds(plan: &Plan, var: u32, value: Value, grain: u32) -> bool
-    ensures { result ≡ is_grain_with plan.now var (lies_in value) grain }
-{
-    match piece(plan, var, grain) {
-        Some(piece) => lies_in(value, piece),
-        None => false,
-    }
-}
-
-/// The first grain of the variable in which the value lies.
 #[tactic(auto, using(crate::proofs::WaitingLemmas::finding))]
-pub fn grain_with(plan: &Plan, var: u32, value: Value) -> Option<u32>
-    requires { atom_count plan.now < 2 ^ 32 }
-    ensures { result ≡ grain_with plan.now var value }
+fn grain_of_text(texts: &[u32], count: u32, text: u32) -> Option<u32>
+    requires { count ≡ length (map OneText texts.now) }
+    ensures { result ≡ grain_in (map OneText texts.now) (Text text) }
 {
-    let count = grain_count(plan, var);
     let mut grain = 0;
     while grain < count {
-        if holds(plan, var, value, grain) {
+        if is_text_at(texts, text, grain) {
             return Some(grain);
         }
         grain += 1;
     }
     None
+}
+
+// A number has no grain among texts.
+#[tactic(auto, using(crate::proofs::WaitingLemmas::elsewhere))]
+fn grain_among_texts(texts: &[u32], count: u32, value: Value) -> Option<u32>
+    requires { count ≡ length (map OneText texts.now) }
+    ensures { result ≡ grain_in (map OneText texts.now) value }
+{
+    match value {
+        Value::Text(text) => grain_of_text(texts, count, text),
+        Value::Num(_) => None,
+    }
+}
+
+// A number's grain is found by halves; a text has none among numbers.
+#[tactic(auto, using(crate::proofs::WaitingLemmas::elsewhere))]
+fn grain_among_numbers(grains: &GrainList, value: Value) -> Option<u32>
+    ensures { result ≡ grain_in (map Stretch grains.now) value }
+{
+    match value {
+        Value::Text(_) => None,
+        Value::Num(number) => grains.find(number),
+    }
+}
+
+fn grain_in(domain: &Domain, count: u32, value: Value) -> Option<u32>
+    requires { count ≡ length (grains_in (Some domain.now)) }
+    ensures { result ≡ grain_in (grains_in (Some domain.now)) value }
+{
+    match domain {
+        Domain::Texts(texts) => grain_among_texts(texts.as_slice(), count, value),
+        Domain::Nums {
+            decimals: _,
+            grains,
+        } => grain_among_numbers(grains, value),
+    }
+}
+
+/// The first grain of the variable in which the value lies.
+pub fn grain_with(plan: &Plan, var: u32, value: Value) -> Option<u32>
+    requires { atom_count plan.now < 2 ^ 32 }
+    ensures { result ≡ grain_with plan.now var value }
+{
+    let count = grain_count(plan, var);
+    match element(plan.vars.as_slice(), var) {
+        Some(x) => match element(plan.domains.as_slice(), x.domain) {
+            Some(domain) => grain_in(domain, count, value),
+            None => None,
+        },
+        None => None,
+    }
+}
+
+/// The grain in which the value that the variable has lies, if it has one.
+pub fn grain_held(plan: &Plan, var: u32, value: Option<Value>) -> Option<u32>
+    requires { atom_count plan.now < 2 ^ 32 }
+    ensures { result ≡ grain_held plan.now var value }
+{
+    match value {
+        Some(value) => grain_with(plan, var, value),
+        None => None,
+    }
 }
 
 fn place_in_grain(index: &Places, var: u32, grain: Option<u32>) -> Option<usize>

@@ -198,3 +198,13 @@ fn a_value_wakes_who_waits_for_it(rt: HostRuntime) -> Result<(), Fail> {
     assert_eq!(rt; agenda.pop(), None);
     Ok(())
 }
+
+#[test]
+fn a_rule_is_woken_by_what_it_touches_besides(rt: HostRuntime) -> Result<(), Fail> {
+    let mut agenda = wake_in_two(rt.alloc(), Atom::Is(1, Value::Text(0)))?;
+    assert_eq!(rt; agenda.pop(), Some(Giver::Entry(1)));
+    assert_eq!(rt; agenda.pop(), Some(Giver::User(1)));
+    assert_eq!(rt; agenda.pop(), Some(Giver::Rule(0)));
+    assert_eq!(rt; agenda.pop(), None);
+    Ok(())
+}

@@ -20,7 +20,8 @@ use Rattle.vc_plan.specs.Clear.{is_clear}
 use Rattle.vc_net_laws.proofs.NetLaws.Triggers.{triggers_are_needed}
 use Rattle.vc_net_laws.proofs.NetLaws.Working.{giver_exact, giver_itself, work_begins}
 use Rattle.vc_net_agenda.specs.Agendas.{nobody_on}
-use Rattle.vc_net_waking.specs.Beginning.{all_sources, beginners, begun, is_free, untriggered, untriggered_below}
+use Rattle.vc_net_readers.specs.Waiting.{is_free}
+use Rattle.vc_net_waking.specs.Beginning.{all_sources, beginners, begun, untriggered, untriggered_below}
 use Rattle.vc_net_waking.specs.Laws.{BeginnersSuffice}
 use Rattle.vc_net_waking.specs.Waking.{rules_in, sources_of}
 use Rattle.vc_net_waking.proofs.GiverLaws.{each_waits}

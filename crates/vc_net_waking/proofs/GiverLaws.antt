@@ -1,9 +1,10 @@
 -- Agendas on which several givers come, one after another.
-use Rattle.std.proofs.Common.{◌≡◌, ℕ, ◌+◌, ◌≤◌, add-one, Bool, true, false, cond, not, ◌&&◌, List, [], ◌∷◌, ◌++◌}
-use Rattle.std.proofs.Common.{length, map, refl, sym, ◌∙◌, ap, subst, inl, inr, arith}
-use Rattle.std.specs.Prelude.{if◌then◌else◌, nat_lt}
-use Rattle.std.specs.List.{filter}
-use Rattle.std.proofs.lemmas.List.{map-append}
+use Rattle.std.proofs.Common.{◌≡◌, ℕ, ◌+◌, add-one, Bool, true, false, cond, not, ◌&&◌, List, [], ◌∷◌, ◌++◌}
+use Rattle.std.proofs.Common.{map, refl, sym, ◌∙◌, ap, subst, inl, inr, arith, length, ◌≤◌, ◌<◌, ◌-◌, drop, get_or}
+use Rattle.std.proofs.Common.{take}
+use Rattle.std.specs.Prelude.{if◌then◌else◌, nat_eq, nat_lt}
+use Rattle.std.specs.List.{filter, flat_map}
+use Rattle.std.proofs.lemmas.List.{map-append, take_all}
 use Rattle.std.proofs.lemmas.List.Elements.{filter-append}
 use Rattle.vc_base.specs.Sets.{has}
 use Rattle.vc_base.proofs.SetLaws.{has_cases}
@@ -15,16 +16,15 @@ use Rattle.vc_net_laws.specs.Triggers.{trigger_by}
 use Rattle.vc_net_laws.specs.Working.{same_giver}
 use Rattle.vc_net_laws.proofs.NetLaws.Working.{giver_exact, giver_itself}
 use Rattle.vc_net_agenda.specs.Agendas.{Awaited, added, is_of, with_next}
-use Rattle.vc_net_agenda.proofs.AgendaLaws.{givers_are_there, one_more_waits, others_still_wait, who_comes_waits}
-use Rattle.vc_net_places.specs.Places.{index_of}
+use Rattle.vc_net_agenda.proofs.AgendaLaws.{givers_are_there, others_still_wait, who_comes_waits}
+use Rattle.vc_net_readers.specs.Laws.{waiting_on}
 use Rattle.vc_net_readers.specs.Filing.{list_at}
-use Rattle.vc_net_readers.specs.Laws.{waiting_in}
-use Rattle.vc_net_readers.specs.Readers.{readers_of}
-use Rattle.vc_net_readers.specs.Waiting.{place_in_grain}
-use Rattle.vc_net_waking.specs.Beginning.{all_sources, is_free, untriggered_below}
+use Rattle.vc_net_readers.specs.Readers.{is_reader, readers_of}
+use Rattle.vc_net_readers.specs.Waiting.{is_free}
+use Rattle.vc_net_readers.proofs.AskedLaws.{common_there}
+use Rattle.vc_net_waking.specs.Beginning.{all_sources, untriggered_below}
 use Rattle.vc_net_waking.specs.Laws.{IsAgendaOf, OthersWaitOn, SizesStay}
-use Rattle.vc_net_waking.specs.Waking.{grain_held, is_met, is_var_of, met_rules, waking, sources_in_slot}
-use Rattle.vc_net_waking.specs.Waking.{sources_of, with_givers}
+use Rattle.vc_net_waking.specs.Waking.{is_met, is_var_of, met_rules, sources_in_slot, sources_of, with_givers}
 
 -- two lists of givers one after another
 pub both_parts : (agenda : Awaited) (xs ys : List Giver)
@@ -50,27 +50,50 @@ pub untriggered_next : (plan : Plan) (n : ℕ)
     ≡ untriggered_below plan n ++ (if is_free (trigger_by plan (by_rule n)) then n ∷ [] else [])
 untriggered_next plan n = ap (untriggered_below plan) (add-one n)
 
--- whom a variable's atom wakes, in three parts
-met_both : (plan : Plan) (seen : Seen) (xs ys : List ℕ)
+-- whom rules of two lists wake
+pub met_both : (plan : Plan) (seen : Seen) (xs ys : List ℕ)
     → met_rules plan seen (xs ++ ys) ≡ met_rules plan seen xs ++ met_rules plan seen ys
 met_both plan seen xs ys =
     let p : ℕ → Bool = λ r. is_met seen (trigger_by plan (by_rule r)) in
     ap (map by_rule) (filter-append p xs ys) ∙ map-append by_rule (filter p xs) (filter p ys)
 
-pub var_woken : (plan : Plan) (seen : Seen) (v : ℕ) (old one two last : Awaited) (xs ys : List ℕ)
-    → one ≡ with_givers old (met_rules plan seen xs) → two ≡ with_givers one (met_rules plan seen ys)
-    → last ≡ with_givers two (sources_of v) → xs ≡ list_at (readers_of plan).by_var v
-    → ys ≡ waiting_in (readers_of plan) (place_in_grain (index_of plan) v (grain_held plan v (seen.value v)))
-    → last ≡ with_givers old (waking plan seen (var_at v))
-var_woken plan seen v old one two last xs ys first second third rest wait =
-    third
-    ∙ (ap (λ a. with_givers a (sources_of v)) (second ∙ ap (λ a. with_givers a (met_rules plan seen ys)) first)
-    ∙ (ap (λ a. with_givers a (sources_of v)) (sym (both_parts old (met_rules plan seen xs) (met_rules plan seen ys)))
-    ∙ (ap (λ r. with_givers (with_givers old r) (sources_of v)) (sym (met_both plan seen xs ys))
-    ∙ (sym (both_parts old (met_rules plan seen (xs ++ ys)) (sources_of v))
-    ∙ (ap (λ r. with_givers old (met_rules plan seen (r ++ ys) ++ sources_of v)) rest
-    ∙ ap (λ r. with_givers old (met_rules plan seen (list_at (readers_of plan).by_var v ++ r) ++ sources_of v))
-    wait)))))
+-- those that pass a test, of two lists
+pub met_passing : (plan : Plan) (seen : Seen) (test : ℕ → Bool) (xs ys : List ℕ)
+    → met_rules plan seen (filter test (xs ++ ys))
+    ≡ met_rules plan seen (filter test xs) ++ met_rules plan seen (filter test ys)
+met_passing plan seen test xs ys =
+    ap (met_rules plan seen) (filter-append test xs ys) ∙ met_both plan seen (filter test xs) (filter test ys)
+
+pub ruleset parts = (both_parts, met_both, met_passing)
+
+-- a variable's readers that wait for a value of another are those of the waiting that touch it
+pub common_at : (plan : Plan) (seen : Seen) (v u : ℕ) (rules readers : List ℕ) → v < length plan.vars
+    → rules ≡ waiting_on plan seen u → readers ≡ list_at (readers_of plan).by_var v
+    → filter (has nat_eq rules) readers ≡ filter (is_reader plan (var_at v)) rules
+common_at plan seen v u rules readers below waits reads =
+    ap (λ xs. filter (has nat_eq rules) xs) reads
+    ∙ (ap (λ xs. filter (has nat_eq xs) (list_at (readers_of plan).by_var v)) waits
+    ∙ (common_there plan seen v u below ∙ ap (filter (is_reader plan (var_at v))) (sym waits)))
+
+-- those that wait for a value of the first of some variables come, then those for the rest
+pub awaiting_rest : (plan : Plan) (seen : Seen) (v : ℕ) (rest : List ℕ) (d : ℕ) (old new : Awaited) → 1 ≤ length rest
+    → new ≡ with_givers old
+    (met_rules plan seen (filter (is_reader plan (var_at v)) (waiting_on plan seen (get_or rest 0 d))))
+    → with_givers new (met_rules plan seen (filter (is_reader plan (var_at v))
+    (flat_map (waiting_on plan seen) (take (length rest - 1) (drop 1 rest)))))
+    ≡ with_givers old
+    (met_rules plan seen (filter (is_reader plan (var_at v)) (flat_map (waiting_on plan seen) rest)))
+awaiting_rest plan seen v [] d old new some e = absurd (omega arith)
+awaiting_rest plan seen v (u ∷ rest) d old new some e =
+    let touches = is_reader plan (var_at v) in
+    let here = met_rules plan seen (filter touches (waiting_on plan seen u)) in
+    let later = met_rules plan seen (filter touches (flat_map (waiting_on plan seen) rest)) in
+    ap (λ us. with_givers new (met_rules plan seen (filter touches (flat_map (waiting_on plan seen) us))))
+    (take_all (length (u ∷ rest) - 1) rest (omega arith))
+    ∙ (ap (λ a. with_givers a later) e
+    ∙ (sym (both_parts old here later)
+    ∙ ap (with_givers old)
+    (sym (met_passing plan seen touches (waiting_on plan seen u) (flat_map (waiting_on plan seen) rest)))))
 
 -- who waited waits on
 pub others_wait_on : OthersWaitOn
@@ -94,15 +117,6 @@ sizes_stay agenda (giver ∷ givers) =
     let rest = sizes_stay (added agenda giver) givers in
     let one = size_stays agenda giver in
     (rest.0 ∙ one.0, rest.1 ∙ one.1)
-
--- no more wait than waited and come
-pub few_come : (agenda : Awaited) (givers : List Giver)
-    → length (with_givers agenda givers).givers ≤ length agenda.givers + length givers
-few_come agenda [] = omega arith
-few_come agenda (giver ∷ givers) =
-    let rest = few_come (added agenda giver) givers in
-    let one = one_more_waits agenda giver in
-    omega (arith, rest, one)
 
 -- each of them that the plan has waits then
 module _ (plan : Plan) where

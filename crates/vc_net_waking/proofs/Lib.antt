@@ -1,3 +1,4 @@
+pub mod ComingLaws
 pub mod GiverLaws
 pub mod WakingLaws
 pub mod BeginningLaws

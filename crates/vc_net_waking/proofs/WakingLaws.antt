@@ -1,15 +1,14 @@
 -- All who are woken come on the agenda, and no more than touch the atom's thing.
-use Rattle.std.proofs.Common.{◌≡◌, ℕ, zero, suc, ◌+◌, ◌<◌, ◌≤◌, add-one, add-zero, Bool, true, false, cond, List}
-use Rattle.std.proofs.Common.{[], ◌∷◌, ◌++◌, length, map, refl, sym, ◌∙◌, ap, subst, inl, inr, arith, length-append}
+use Rattle.std.proofs.Common.{◌≡◌, ℕ, zero, suc, ◌+◌, ◌<◌, ◌≤◌, ◌⊎◌, add-zero, Bool, true, false, cond, List}
+use Rattle.std.proofs.Common.{[], ◌∷◌, ◌++◌, length, map, refl, sym, ◌∙◌, ap, subst, inl, inr, arith}
 use Rattle.std.specs.Prelude.{Option, None, Some, nat_eq, nat_lt, ◌==◌, ◌||◌, ◌&&◌, if◌then◌else◌, slice_get}
 use Rattle.std.specs.List.{filter, find, list_any, range_with_len}
 use Rattle.std.specs.Option.{option_to_list}
-use Rattle.std.proofs.lemmas.Bool.{and_parts, eqb-true, ltb-true, cases_lt}
-use Rattle.std.proofs.lemmas.List.{length-map}
-use Rattle.std.proofs.lemmas.List.Elements.{filter-append}
+use Rattle.std.proofs.lemmas.Bool.{and_parts, cases_lt, eqb-true, lt-ltb, ltb-true}
 use Rattle.vc_base.specs.Sets.{has}
-use Rattle.vc_base.proofs.ListLaws.{filter_at, filter_next, has_range, number_itself}
-use Rattle.vc_base.proofs.SetLaws.{both, has_back, has_either, has_filter, has_first, has_front, has_more}
+use Rattle.vc_base.proofs.ListLaws.{has_range, number_exact, number_itself, range_has}
+use Rattle.vc_base.proofs.SetLaws.{both, filter_has, has_back, has_cases, has_either, has_filter, has_first}
+use Rattle.vc_base.proofs.SetLaws.{has_front, has_more}
 use Rattle.vc_value.specs.declared.value.Value.{Value}
 use Rattle.vc_plan.specs.declared.atoms.Atom.{Atom}
 use Rattle.vc_plan.specs.declared.atoms.Atom.TheVariants.{Here, Out, Is}
@@ -27,20 +26,20 @@ use Rattle.vc_plan_blame.proofs.BlameLaws.Growing.{has_says}
 use Rattle.vc_net_laws.specs.declared.triggers.Trigger.{Trigger}
 use Rattle.vc_net_laws.specs.Triggers.{stands_in, trigger_by}
 use Rattle.vc_net_laws.specs.Waking.{giver_touches, is_woken}
-use Rattle.vc_net_laws.specs.Wakings.{givers_at}
 use Rattle.vc_net_laws.specs.Working.{same_giver}
 use Rattle.vc_net_laws.proofs.NetLaws.Working.{giver_exact, giver_itself}
 use Rattle.vc_net_places.proofs.PlaceLaws.Numbering.{named_have_places}
-use Rattle.vc_net_readers.specs.Laws.{IsGrain, IsValuesGrain, asked, has_such}
-use Rattle.vc_net_readers.specs.Readers.{readers_at}
-use Rattle.vc_net_readers.specs.Waiting.{grain_with}
-use Rattle.vc_net_readers.proofs.AskedLaws.{asked_are_few}
-use Rattle.vc_net_readers.proofs.ReaderLaws.{grain_there, touching_are_asked}
+use Rattle.vc_net_readers.specs.Laws.{SeesGrains, asked, has_such}
+use Rattle.vc_net_readers.specs.Readers.{is_reader, readers_at}
+use Rattle.vc_net_readers.specs.Waiting.{grain_held, grain_with}
+use Rattle.vc_net_readers.proofs.AskedLaws.{asked_are_readers}
+use Rattle.vc_net_readers.proofs.ReaderLaws.{touching_are_asked}
 use Rattle.vc_net_readers.proofs.TouchedLemmas.{any_kept}
 use Rattle.vc_net_waking.specs.Laws.{WakingIsFew, WokenWait}
-use Rattle.vc_net_waking.specs.Waking.{grain_at, grain_held, is_met, is_slot, is_var_of, met_rules, sources_at}
-use Rattle.vc_net_waking.specs.Waking.{sources_in_slot, sources_of, waking}
-use Rattle.vc_net_waking.proofs.GiverLaws.{each_waits, few_come}
+use Rattle.vc_net_waking.specs.Waking.{is_met, is_slot, is_var_of, met_rules, sources_at, sources_in_slot}
+use Rattle.vc_net_waking.specs.Waking.{sources_of, waking, with_givers}
+use Rattle.vc_net_waking.proofs.ComingLaws.{few_come}
+use Rattle.vc_net_waking.proofs.GiverLaws.{each_waits}
 
 -- a giver among those of mapped numbers
 pub one_of : (f : ℕ → Giver) (k : ℕ) → ((n : ℕ) → same_giver (f k) (f n) ≡ nat_eq k n) → (ns : List ℕ)
@@ -147,25 +146,11 @@ grain_of_named plan v a named =
     find_piece (lies_in a) (is_grain_with plan v (lies_in a)) (grains_of plan v) 0
     (λ i. ap (λ n. passes (lies_in a) (slice_get (grains_of plan v) n)) (omega arith)) named
 
--- the grain of a thing's value, as it is asked for
-values_grain : (plan : Plan) (set : List Atom) (thing : Thing) → is_clear plan set ≡ true
-    → IsValuesGrain plan set thing (grain_at plan (seen_of set) thing)
-values_grain plan set (slot_at i) clear = tt
-values_grain plan set (var_at v) clear = λ a h.
-    let r = grain_of_named plan v a ((facts plan set clear).named (Is v a) h) in
-    (r.0, ap (grain_held plan v) (value_seen plan set v a clear h) ∙ r.1, r.1)
-
-pub is_grain : (plan : Plan) (seen : Seen) (thing : Thing) → IsGrain plan thing (grain_at plan seen thing)
-is_grain plan seen (slot_at i) = tt
-is_grain plan seen (var_at v) = by (seen.value v)
-  where
-    inner : (a : Value) (o : Option ℕ) → grain_with plan v a ≡ o → IsGrain plan (var_at v) o
-    inner a None e = tt
-    inner a (Some g) e = grain_there plan v g a e
-
-    by : (o : Option Value) → IsGrain plan (var_at v) (grain_held plan v o)
-    by None = tt
-    by (Some a) = inner a (grain_with plan v a) refl
+-- the grain of each value that the set has is seen
+sees_grains : (plan : Plan) (set : List Atom) → is_clear plan set ≡ true → SeesGrains plan set (seen_of set)
+sees_grains plan set clear u a h =
+    let r = grain_of_named plan u a ((facts plan set clear).named (Is u a) h) in
+    (r.0, ap (grain_held plan u) (value_seen plan set u a clear h) ∙ r.1, r.1)
 
 -- a rule that is asked and whose trigger is met comes on the agenda
 rule_met : (plan : Plan) (seen : Seen) (rules : List ℕ) (r : ℕ) → has nat_eq rules r ≡ true
@@ -239,15 +224,14 @@ pub touching_come : (plan : Plan) (set : List Atom) (thing : Thing) (giver : Giv
 touching_come plan set thing giver clear such there touches stands = by giver there touches stands
   where
     rules : List Giver
-    rules = met_rules plan (seen_of set) (asked plan thing (grain_at plan (seen_of set) thing))
+    rules = met_rules plan (seen_of set) (asked plan (seen_of set) thing)
 
     by : (g : Giver) → has same_giver (givers_of plan) g ≡ true → giver_touches plan g thing ≡ true
         → stands_in set (trigger_by plan g) ≡ true → has same_giver (rules ++ sources_at plan thing) g ≡ true
     by (by_rule r) t w k =
         has_front same_giver giver_exact giver_itself rules (sources_at plan thing) (by_rule r)
-        (rule_met plan (seen_of set) (asked plan thing (grain_at plan (seen_of set) thing)) r
-        (touching_are_asked plan set thing (grain_at plan (seen_of set) thing) r (rule_below plan r t)
-        such (values_grain plan set thing clear) w k)
+        (rule_met plan (seen_of set) (asked plan (seen_of set) thing) r
+        (touching_are_asked plan set thing (seen_of set) r (rule_below plan r t) such (sees_grains plan set clear) w k)
         (stands_met plan set (trigger_by plan (by_rule r)) clear k))
     by (by_user v) t w k =
         has_back same_giver giver_exact giver_itself rules (sources_at plan thing) (by_user v)
@@ -267,110 +251,183 @@ woken_wait plan set atom agenda sizes clear giver h =
     each_waits plan agenda (waking plan (seen_of whole) (thing_of atom)) giver sizes
     (touching_come plan whole (thing_of atom) giver clear (thing_there plan atom named) p.0 woken.0 woken.1) p.0
 
--- no more come than touch the thing
-count_map : (p : Giver → Bool) (f : ℕ → Giver) (ns : List ℕ)
-    → length (filter p (map f ns)) ≡ length (filter (λ n. p (f n)) ns)
-count_map p f [] = refl
-count_map p f (n ∷ ns) = step (p (f n)) (count_map p f ns)
+-- whoever comes on the agenda touches the thing, and is the plan's
+rule_of : (ns : List ℕ) (giver : Giver) → has same_giver (map by_rule ns) giver ≡ true
+    → (r : ℕ) × (giver ≡ by_rule r) × (has nat_eq ns r ≡ true)
+rule_of [] giver h = absurd (cc)
+rule_of (n ∷ ns) giver h =
+    by (has_cases same_giver giver_exact giver_itself (by_rule n) (map by_rule ns) giver h) (rule_of ns giver)
   where
-    step : (b : Bool) → length (filter p (map f ns)) ≡ length (filter (λ m. p (f m)) ns)
-        → length (cond b (f n ∷ filter p (map f ns)) (filter p (map f ns)))
-        ≡ length (cond b (n ∷ filter (λ m. p (f m)) ns) (filter (λ m. p (f m)) ns))
-    step true e = ap (λ k. suc k) e
-    step false e = e
+    by : (giver ≡ by_rule n) ⊎ (has same_giver (map by_rule ns) giver ≡ true)
+        → (has same_giver (map by_rule ns) giver ≡ true → (r : ℕ) × (giver ≡ by_rule r) × (has nat_eq ns r ≡ true))
+        → (r : ℕ) × (giver ≡ by_rule r) × (has nat_eq (n ∷ ns) r ≡ true)
+    by (inl e) later = (n, e, has_first nat_eq number_exact number_itself n ns)
+    by (inr e) later =
+        let r = later e in (r.0, r.1, has_more nat_eq number_exact number_itself n ns r.0 r.2)
 
-pub fewer : (p : ℕ → Bool) (ns : List ℕ) → length (filter p ns) ≤ length ns
-fewer p [] = omega arith
-fewer p (n ∷ ns) = step (p n) (fewer p ns)
+-- a rule that is met is a reader of the thing
+pub met_read : (plan : Plan) (seen : Seen) (thing : Thing) (giver : Giver)
+    → has same_giver (met_rules plan seen (asked plan seen thing)) giver ≡ true
+    → (r : ℕ) × (giver ≡ by_rule r) × (has nat_eq (readers_at plan thing) r ≡ true)
+met_read plan seen thing giver h =
+    let all = asked plan seen thing in
+    let test = λ (r : ℕ). is_met seen (trigger_by plan (by_rule r)) in
+    let r = rule_of (filter test all) giver h in
+    let p = has_filter nat_eq number_exact number_itself test all r.0 r.2 in
+    (r.0, r.1, asked_are_readers plan seen thing r.0 p.0)
+
+sources_touch_slot : (plan : Plan) (i n : ℕ) (giver : Giver) → has same_giver (sources_in_slot plan i n) giver ≡ true
+    → giver_touches plan giver (slot_at i) ≡ true
+sources_touch_slot plan i zero giver h = absurd (cc)
+sources_touch_slot plan i (suc n) giver h =
+    elim (has_either same_giver giver_exact giver_itself (sources_in_slot plan i n)
+    (if is_var_of plan i n then sources_of n else []) giver h) [
+      | inl k ↦ sources_touch_slot plan i n giver k
+      | inr k ↦ by (is_var_of plan i n) refl k
+    ]
   where
-    step : (b : Bool) → length (filter p ns) ≤ length ns → length (cond b (n ∷ filter p ns) (filter p ns)) ≤
-        length (n ∷ ns)
-    step true h = omega (arith, h)
-    step false h = omega (arith, h)
+    own : (o : Option ℕ) → is_slot i o ≡ true
+        → (list_any (same_thing (slot_at i)) (map slot_at (option_to_list o)) || false) ≡ true
+    own None e = absurd (cc)
+    own (Some j) e =
+        ap (λ b. (b || false) || false) e
 
-rules_few : (plan : Plan) (seen : Seen) (thing : Thing)
-    → length (met_rules plan seen (asked plan thing (grain_at plan seen thing))) ≤ length (readers_at plan thing)
-rules_few plan seen thing =
-    let all = asked plan thing (grain_at plan seen thing) in
-    let kept = filter (λ r. is_met seen (trigger_by plan (by_rule r))) all in
-    let mapped : length (map by_rule kept) ≡ length kept = length-map kept by_rule in
-    let few = fewer (λ r. is_met seen (trigger_by plan (by_rule r))) all in
-    let most = asked_are_few plan thing (grain_at plan seen thing) (is_grain plan seen thing) in
-    omega (arith, mapped, few, most)
+    by : (b : Bool) → is_var_of plan i n ≡ b → has same_giver (if b then sources_of n else []) giver ≡ true
+        → giver_touches plan giver (slot_at i) ≡ true
+    by false e k = absurd (cc)
+    by true e k =
+        elim (has_cases same_giver giver_exact giver_itself (by_user n) (by_entry n ∷ []) giver k) [
+          | inl is ↦ ap (λ g. giver_touches plan g (slot_at i)) is ∙ own (slot_in (slice_get plan.vars n)) e
+          | inr m ↦ elim (has_cases same_giver giver_exact giver_itself (by_entry n) [] giver m) [
+            | inl is ↦ ap (λ g. giver_touches plan g (slot_at i)) is ∙ own (slot_in (slice_get plan.vars n)) e
+            | inr none ↦ absurd (cc)
+          ]
+        ]
 
--- how many variables' sources touch a thing, of the first so many
-abbrev touching_vars : Plan → Thing → ℕ → List ℕ
-touching_vars plan thing n = filter (λ v. giver_touches plan (by_user v) thing) (numbers_below n)
+pub source_touches : (plan : Plan) (v : ℕ) (giver : Giver) → has same_giver (sources_of v) giver ≡ true
+    → giver_touches plan giver (var_at v) ≡ true
+source_touches plan v giver h =
+    let own : giver_touches plan (by_user v) (var_at v) ≡ true = touching_var plan v v ∙ number_itself v in
+    elim (has_cases same_giver giver_exact giver_itself (by_user v) (by_entry v ∷ []) giver h) [
+      | inl is ↦ ap (λ g. giver_touches plan g (var_at v)) is ∙ own
+      | inr m ↦ elim (has_cases same_giver giver_exact giver_itself (by_entry v) [] giver m) [
+        | inl is ↦ ap (λ g. giver_touches plan g (var_at v)) is ∙ own
+        | inr none ↦ absurd (cc)
+      ]
+    ]
 
-slot_few : (plan : Plan) (i n : ℕ)
-    → length (sources_in_slot plan i n) ≤ length (touching_vars plan (slot_at i) n) + length
-    (touching_vars plan (slot_at i) n)
-slot_few plan i zero = omega arith
-slot_few plan i (suc n) =
-    step (is_var_of plan i n) (touching_slot plan i n) (slot_few plan i n)
-    (length (touching_vars plan (slot_at i) (suc n)))
-    (ap (λ m. length (touching_vars plan (slot_at i) m)) (sym (add-one n))
-    ∙ ap (λ xs. length xs) (filter_next (λ v. giver_touches plan (by_user v) (slot_at i)) n))
+pub woken_touch : (plan : Plan) (seen : Seen) (thing : Thing) (giver : Giver)
+    → has same_giver (waking plan seen thing) giver ≡ true → giver_touches plan giver thing ≡ true
+woken_touch plan seen thing giver h =
+    elim (has_either same_giver giver_exact giver_itself (met_rules plan seen (asked plan seen thing))
+    (sources_at plan thing) giver h) [
+      | inl k ↦
+          let r = met_read plan seen thing giver k in
+          ap (λ g. giver_touches plan g thing) r.1
+          ∙ (has_filter nat_eq number_exact number_itself (is_reader plan thing) (rules_of plan) r.0 r.2).1
+      | inr k ↦ by thing k
+    ]
   where
-    own : List Giver
-    own = sources_in_slot plan i n
+    by : (t : Thing) → has same_giver (sources_at plan t) giver ≡ true → giver_touches plan giver t ≡ true
+    by (slot_at i) k = sources_touch_slot plan i (length plan.vars) giver k
+    by (var_at v) k = source_touches plan v giver k
 
-    vars : List ℕ
-    vars = touching_vars plan (slot_at i) n
+-- numbers of rules and variables that are there are those of givers
+pub in_mapped : (f : ℕ → Giver) (ns : List ℕ) (n : ℕ) → has nat_eq ns n ≡ true
+    → has same_giver (map f ns) (f n) ≡ true
+in_mapped f [] n h = absurd (cc)
+in_mapped f (m ∷ ns) n h =
+    elim (has_cases nat_eq number_exact number_itself m ns n h) [
+      | inl e ↦
+          subst (λ k. has same_giver (f m ∷ map f ns) (f k) ≡ true) (sym e)
+          (has_first same_giver giver_exact giver_itself (f m) (map f ns))
+      | inr k ↦ has_more same_giver giver_exact giver_itself (f m) (map f ns) (f n) (in_mapped f ns n k)
+    ]
 
-    step : (b : Bool) → giver_touches plan (by_user n) (slot_at i) ≡ b → length own ≤ length vars + length vars
-        → (k : ℕ)
-        → k ≡ length (vars ++ cond (giver_touches plan (by_user n) (slot_at i)) (n ∷ []) [])
-        → length (own ++ cond b (sources_of n) []) ≤ k + k
-    step true e few k next =
-        let one = ap (λ b. length (vars ++ cond b (n ∷ []) [])) e in
-        let left = length-append own (sources_of n) in
-        let right = length-append vars (n ∷ []) in
-        omega (arith, few, next, one, left, right)
-    step false e few k next =
-        let one = ap (λ b. length (vars ++ cond b (n ∷ []) [])) e in
-        let left = length-append own [] in
-        let right = length-append vars [] in
-        omega (arith, few, next, one, left, right)
+pub below : (n k : ℕ) → nat_lt k n ≡ true → has nat_eq (numbers_below n) k ≡ true
+below n k h = let low = ltb-true k n h in range_has 0 n k (omega arith) (omega (arith, low))
 
-sources_few : (plan : Plan) (thing : Thing) → has_such plan thing ≡ true
-    → length (sources_at plan thing)
-    ≤ length (touching_vars plan thing (length plan.vars)) + length (touching_vars plan thing (length plan.vars))
-sources_few plan (slot_at i) there = slot_few plan i (length plan.vars)
-sources_few plan (var_at v) there =
-    let at = filter_at (λ w. giver_touches plan (by_user w) (var_at v)) v (length plan.vars)
-    (ltb-true v (length plan.vars) there)
-    (touching_var plan v v ∙ number_itself v) in
-    let count = ap (λ xs. length xs) at.1 in
-    let parts = length-append (touching_vars plan (var_at v) v) (v ∷ at.0) in
-    omega (arith, count, parts)
+pub rule_there : (plan : Plan) (r : ℕ) → has nat_eq (rules_of plan) r ≡ true
+    → has same_giver (givers_of plan) (by_rule r) ≡ true
+rule_there plan r h =
+    has_front same_giver giver_exact giver_itself (map by_rule (rules_of plan))
+    (map by_user (vars_of plan) ++ map by_entry (vars_of plan)) (by_rule r) (in_mapped by_rule (rules_of plan) r h)
 
-givers_counted : (plan : Plan) (atom : Atom)
-    → givers_at plan atom
-    ≡ length (readers_at plan (thing_of atom))
-    + (length (touching_vars plan (thing_of atom) (length plan.vars)) + length
-    (touching_vars plan (thing_of atom) (length plan.vars)))
-givers_counted plan atom =
-    let p : Giver → Bool = λ giver. giver_touches plan giver (thing_of atom) in
-    let r = map by_rule (rules_of plan) in
-    let u = map by_user (vars_of plan) in
-    let e = map by_entry (vars_of plan) in
-    let first = ap (λ xs. length xs) (filter-append p r (u ++ e)) in
-    let second = ap (λ xs. length xs) (filter-append p u e) in
-    let one = length-append (filter p r) (filter p (u ++ e)) in
-    let two = length-append (filter p u) (filter p e) in
-    let rules = count_map p by_rule (rules_of plan) in
-    let users = count_map p by_user (vars_of plan) in
-    let entries = count_map p by_entry (vars_of plan) in
-    omega (arith, first, second, one, two, rules, users, entries)
+pub user_there : (plan : Plan) (v : ℕ) → nat_lt v (length plan.vars) ≡ true
+    → has same_giver (givers_of plan) (by_user v) ≡ true
+user_there plan v h =
+    has_back same_giver giver_exact giver_itself (map by_rule (rules_of plan))
+    (map by_user (vars_of plan) ++ map by_entry (vars_of plan)) (by_user v)
+    (has_front same_giver giver_exact giver_itself (map by_user (vars_of plan)) (map by_entry (vars_of plan))
+    (by_user v)
+    (in_mapped by_user (vars_of plan) v (below (length plan.vars) v h)))
+
+pub entry_there : (plan : Plan) (v : ℕ) → nat_lt v (length plan.vars) ≡ true
+    → has same_giver (givers_of plan) (by_entry v) ≡ true
+entry_there plan v h =
+    has_back same_giver giver_exact giver_itself (map by_rule (rules_of plan))
+    (map by_user (vars_of plan) ++ map by_entry (vars_of plan)) (by_entry v)
+    (has_back same_giver giver_exact giver_itself (map by_user (vars_of plan)) (map by_entry (vars_of plan))
+    (by_entry v)
+    (in_mapped by_entry (vars_of plan) v (below (length plan.vars) v h)))
+
+source_there : (plan : Plan) (v : ℕ) (giver : Giver) → nat_lt v (length plan.vars) ≡ true
+    → has same_giver (sources_of v) giver ≡ true → has same_giver (givers_of plan) giver ≡ true
+source_there plan v giver there h =
+    elim (has_cases same_giver giver_exact giver_itself (by_user v) (by_entry v ∷ []) giver h) [
+      | inl is ↦ ap (has same_giver (givers_of plan)) is ∙ user_there plan v there
+      | inr m ↦ elim (has_cases same_giver giver_exact giver_itself (by_entry v) [] giver m) [
+        | inl is ↦ ap (has same_giver (givers_of plan)) is ∙ entry_there plan v there
+        | inr none ↦ absurd (cc)
+      ]
+    ]
+
+slot_source_there : (plan : Plan) (i n : ℕ) (giver : Giver) → n ≤ length plan.vars
+    → has same_giver (sources_in_slot plan i n) giver ≡ true → has same_giver (givers_of plan) giver ≡ true
+slot_source_there plan i zero giver fits h = absurd (cc)
+slot_source_there plan i (suc n) giver fits h =
+    elim (has_either same_giver giver_exact giver_itself (sources_in_slot plan i n)
+    (if is_var_of plan i n then sources_of n else []) giver h) [
+      | inl k ↦ slot_source_there plan i n giver (omega (arith, fits)) k
+      | inr k ↦ by (is_var_of plan i n) k
+    ]
+  where
+    by : (b : Bool) → has same_giver (if b then sources_of n else []) giver ≡ true
+        → has same_giver (givers_of plan) giver ≡ true
+    by false k = absurd (cc)
+    by true k = source_there plan n giver (lt-ltb n (length plan.vars) (omega (arith, fits))) k
+
+woken_there : (plan : Plan) (seen : Seen) (thing : Thing) (giver : Giver) → has_such plan thing ≡ true
+    → has same_giver (waking plan seen thing) giver ≡ true → has same_giver (givers_of plan) giver ≡ true
+woken_there plan seen thing giver such h =
+    elim (has_either same_giver giver_exact giver_itself (met_rules plan seen (asked plan seen thing))
+    (sources_at plan thing) giver h) [
+      | inl k ↦
+          let r = met_read plan seen thing giver k in
+          ap (has same_giver (givers_of plan)) r.1
+          ∙ rule_there plan r.0
+          (has_filter nat_eq number_exact number_itself (is_reader plan thing) (rules_of plan) r.0 r.2).0
+      | inr k ↦ by thing such k
+    ]
+  where
+    by : (t : Thing) → has_such plan t ≡ true → has same_giver (sources_at plan t) giver ≡ true
+        → has same_giver (givers_of plan) giver ≡ true
+    by (slot_at i) such k = slot_source_there plan i (length plan.vars) giver (omega arith) k
+    by (var_at v) such k = source_there plan v giver such k
+
+-- so no more come than touch it
+all_count : (givers : List Giver) → length (filter (λ giver. true) givers) ≡ length givers
+all_count [] = refl
+all_count (giver ∷ givers) = ap suc (all_count givers)
 
 pub waking_is_few : WakingIsFew
 waking_is_few plan seen atom agenda named =
     let thing = thing_of atom in
-    let rules = met_rules plan seen (asked plan thing (grain_at plan seen thing)) in
-    let come = few_come agenda (waking plan seen thing) in
-    let parts = length-append rules (sources_at plan thing) in
-    let few = rules_few plan seen thing in
-    let more = sources_few plan thing (thing_there plan atom named) in
-    let all = givers_counted plan atom in
-    omega (arith, come, parts, few, more, all)
+    let list = filter (λ giver. giver_touches plan giver thing) (givers_of plan) in
+    let come = few_come (λ giver. true) agenda (waking plan seen thing) list
+    (λ giver h t. inr (filter_has same_giver giver_exact giver_itself (λ g. giver_touches plan g thing) (givers_of plan)
+    giver (woken_there plan seen thing giver (thing_there plan atom named) h)
+    (woken_touch plan seen thing giver h))) in
+    let after = all_count (with_givers agenda (waking plan seen thing)).givers in
+    let before = all_count agenda.givers in
+    omega (arith, come, after, before)

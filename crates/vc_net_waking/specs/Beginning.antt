@@ -1,17 +1,11 @@
 -- Who may have anything to say where nothing stands but that the root is here.
-use Rattle.std.specs.Prelude.{ℕ, zero, suc, Bool, true, false, if◌then◌else◌, List, [], ◌∷◌, ◌++◌, length, Option}
-use Rattle.std.specs.Prelude.{None, Some}
+use Rattle.std.specs.Prelude.{ℕ, zero, suc, if◌then◌else◌, List, [], ◌∷◌, ◌++◌, length}
 use Rattle.vc_plan.specs.declared.plans.Plan.{Plan}
 use Rattle.vc_plan.specs.Gives.{Giver, by_rule}
-use Rattle.vc_net_laws.specs.declared.triggers.Trigger.{Trigger}
 use Rattle.vc_net_laws.specs.Triggers.{trigger_by}
 use Rattle.vc_net_agenda.specs.Agendas.{Awaited, nobody_on}
+use Rattle.vc_net_readers.specs.Waiting.{is_free}
 use Rattle.vc_net_waking.specs.Waking.{rules_in, sources_of, with_givers}
-
--- whether nothing is waited for
-abbrev pub is_free : Option Trigger → Bool
-is_free None = true
-is_free (Some trigger) = false
 
 -- the rules that wait for no value, of the first so many, and of all
 abbrev pub untriggered_below : Plan → ℕ → List ℕ

@@ -2,7 +2,6 @@
 use Rattle.std.specs.Prelude.{ℕ, zero, suc, Bool, true, false, ◌==◌, if◌then◌else◌, List, [], ◌∷◌, ◌++◌, length}
 use Rattle.std.specs.Prelude.{map, slice_get, Option, None, Some}
 use Rattle.std.specs.List.{filter}
-use Rattle.vc_value.specs.declared.value.Value.{Value}
 use Rattle.vc_plan.specs.declared.plans.Plan.{Plan}
 use Rattle.vc_plan.specs.Gives.{Giver, by_entry, by_rule, by_user}
 use Rattle.vc_plan.specs.Seen.{Seen, is_value, slot_in}
@@ -11,7 +10,6 @@ use Rattle.vc_net_laws.specs.declared.triggers.Trigger.{Trigger}
 use Rattle.vc_net_laws.specs.Triggers.{trigger_by}
 use Rattle.vc_net_agenda.specs.Agendas.{Awaited, added}
 use Rattle.vc_net_readers.specs.Laws.{asked}
-use Rattle.vc_net_readers.specs.Waiting.{grain_with}
 
 -- the agenda with each of the givers, as far as the plan has them and they don't wait yet
 abbrev pub with_givers : Awaited → List Giver → Awaited
@@ -50,15 +48,6 @@ abbrev pub sources_at : Plan → Thing → List Giver
 sources_at plan (slot_at i) = sources_in_slot plan i (length plan.vars)
 sources_at plan (var_at v) = sources_of v
 
--- the grain in which a value lies, if there is one; and that of the value of a thing's variable
-abbrev pub grain_held : Plan → ℕ → Option Value → Option ℕ
-grain_held plan v None = None
-grain_held plan v (Some a) = grain_with plan v a
-
-abbrev pub grain_at : Plan → Seen → Thing → Option ℕ
-grain_at plan seen (slot_at i) = None
-grain_at plan seen (var_at v) = grain_held plan v (seen.value v)
-
 -- the rules and sources that touch a thing; of the rules only those that wait for no value, or for one that stands
 abbrev pub waking : Plan → Seen → Thing → List Giver
-waking plan seen thing = met_rules plan seen (asked plan thing (grain_at plan seen thing)) ++ sources_at plan thing
+waking plan seen thing = met_rules plan seen (asked plan seen thing) ++ sources_at plan thing

@@ -1,21 +1,25 @@
 //! Whom an atom wakes when it has come.
 
-ghost use Rattle.std.specs.Prelude.{◌≡◌, ◌^◌, ◌<◌, length};
+ghost use Rattle.std.specs.Prelude.{◌≡◌, ◌^◌, ◌<◌, length, nat_eq};
+ghost use Rattle.std.specs.List.{filter, flat_map};
+ghost use Rattle.vc_base.specs.Sets.{has};
 ghost use Rattle.vc_plan.specs.Domains.{atom_count};
 ghost use Rattle.vc_plan.specs.Seen.{is_value};
 ghost use Rattle.vc_plan_reasons.specs.Things.{slot_at, thing_of, var_at};
 ghost use Rattle.vc_net_places.specs.Places.{index_of};
-ghost use Rattle.vc_net_readers.specs.Laws.{waiting_in};
-ghost use Rattle.vc_net_readers.specs.Readers.{readers_of};
-ghost use Rattle.vc_net_readers.specs.Waiting.{place_in_grain};
-ghost use Rattle.vc_net_waking.specs.Waking.{grain_held, is_met, is_var_of, met_rules, sources_of, sources_in_slot};
+ghost use Rattle.vc_net_readers.specs.Laws.{waiting_on};
+ghost use Rattle.vc_net_readers.specs.Readers.{is_reader, readers_of};
+ghost use Rattle.vc_net_readers.specs.Rising.{IsRising};
+ghost use Rattle.vc_net_waking.specs.Waking.{is_met, is_var_of, met_rules, sources_of, sources_in_slot};
 ghost use Rattle.vc_net_waking.specs.Waking.{waking, with_givers};
 
 use vc_net_agenda::{Agenda, Giver};
 use vc_net_laws::Trigger;
 use vc_net_places::Places;
 use vc_net_readers::Readers;
-use vc_net_readers::triggers::{grain_with, trigger_by};
+use vc_net_readers::halves::is_among;
+use vc_net_readers::touching::touches;
+use vc_net_readers::triggers::{grain_held, trigger_by};
 use vc_plan::{Atom, Plan, View};
 use vc_rule_terms::elements::element;
 use vc_rule_yield::atoms::same_value;
@@ -54,7 +58,7 @@ fn wake_at_slot<V: View>(plan: &Plan, readers: &Readers, view: &V, slot: u32, ag
     push_sources_in(plan, slot, agenda);
 }
 
-#[tactic(auto, using(crate::proofs::GiverLaws::both_parts))]
+#[tactic(auto, using(crate::proofs::GiverLaws::parts, vc_net_readers::proofs::AskedLaws::none_awaited))]
 fn wake_at_var<V: View>(
     plan: &Plan,
     readers: &Readers,
@@ -68,42 +72,107 @@ fn wake_at_var<V: View>(
     requires readers { readers.now ≡ readers_of plan.now }
     ensures { agenda.new ≡ with_givers agenda.old (waking plan.now (V.seen view.now) (var_at var)) }
 {
-    push_met(plan, view, readers.of_var(var), agenda);
-    push_met(
-        plan,
-        view,
-        waiting(plan, readers, index, var, view.value(var)),
-        agenda,
-    );
+    push_met(plan, view, readers.free(var), agenda);
+    if (var as usize) < plan.vars.len() {
+        let awaited = readers.awaited(var);
+        push_awaiting(plan, readers, index, view, awaited, var, agenda);
+    }
     push_sources(var, agenda);
 }
 
-// The rules that wait for a value of the variable in the grain of this one, if there is one.
-fn waiting<'a>(
+// Lets those of the rules wait that touch the variable, and wait for a value of one of these that stands.
+#[tactic(auto, using(crate::proofs::GiverLaws::parts))]
+fn push_awaiting<V: View>(
+    plan: &Plan,
+    readers: &Readers,
+    index: &Places,
+    view: &V,
+    awaited: &[u32],
+    var: u32,
+    agenda: &mut Agenda,
+)
+    requires few { atom_count plan.now < 2 ^ 32 }
+    requires there { var < length plan.now.vars }
+    requires index { index.now ≡ index_of plan.now }
+    requires readers { readers.now ≡ readers_of plan.now }
+    ensures { agenda.new ≡ with_givers agenda.old (met_rules plan.now (V.seen view.now)
+        (filter (is_reader plan.now (var_at var)) (flat_map (waiting_on plan.now (V.seen view.now)) awaited.now))) }
+{
+    let readers_of_var = readers.of_var(var);
+    let mut rest = awaited;
+    while let [other, more @ ..] = rest {
+        let rules = waiting(plan, readers, index, view, *other);
+        push_common(plan, view, readers_of_var, rules, var, agenda);
+        rest = more;
+    }
+}
+
+// Lets those of the rules wait that touch the variable, where its readers are known: the shorter list is gone through.
+fn push_common<V: View>(
+    plan: &Plan,
+    view: &V,
+    readers: &[u32],
+    rules: &[u32],
+    var: u32,
+    agenda: &mut Agenda,
+)
+    requires rising { IsRising rules.now }
+    requires common { filter (has nat_eq rules.now) readers.now ≡ filter (is_reader plan.now (var_at var)) rules.now }
+    ensures { agenda.new ≡ with_givers agenda.old
+        (met_rules plan.now (V.seen view.now) (filter (is_reader plan.now (var_at var)) rules.now)) }
+{
+    if rules.len() <= readers.len() {
+        push_touching(plan, view, rules, var, agenda);
+    } else {
+        push_among(plan, view, readers, rules, agenda);
+    }
+}
+
+// Lets those of the readers wait that are among the rules.
+fn push_among<V: View>(plan: &Plan, view: &V, readers: &[u32], rules: &[u32], agenda: &mut Agenda)
+    requires { IsRising rules.now }
+    ensures { agenda.new ≡ with_givers agenda.old
+        (met_rules plan.now (V.seen view.now) (filter (has nat_eq rules.now) readers.now)) }
+{
+    let mut rest = readers;
+    while let [rule, more @ ..] = rest {
+        if is_among(rules, *rule) && is_met(view, trigger_by(plan, *rule)) {
+            agenda.push(Giver::Rule(*rule));
+        }
+        rest = more;
+    }
+}
+
+// The rules that wait in the grain of the value that the variable has, if it has one.
+fn waiting<'a, V: View>(
     plan: &Plan,
     readers: &'a Readers,
     index: &Places,
+    view: &V,
     var: u32,
-    value: Option<Value>,
 ) -> &'a [u32]
     requires few { atom_count plan.now < 2 ^ 32 }
     requires index { index.now ≡ index_of plan.now }
-    ensures { result.now ≡ waiting_in readers.now (place_in_grain index.now var (grain_held plan.now var value)) }
+    requires readers { readers.now ≡ readers_of plan.now }
+    ensures { result.now ≡ waiting_on plan.now (V.seen view.now) var }
 {
-    match grain_held(plan, var, value) {
+    match grain_held(plan, var, view.value(var)) {
         Some(grain) => readers.waiting(index.place_of(Atom::Out(var, grain))),
         None => &[],
     }
 }
 
-// The grain in which the value lies, if there is one.
-fn grain_held(plan: &Plan, var: u32, value: Option<Value>) -> Option<u32>
-    requires { atom_count plan.now < 2 ^ 32 }
-    ensures { result ≡ grain_held plan.now var value }
+// Lets those of the rules wait that touch the variable and wait for no value, or for one that stands.
+fn push_touching<V: View>(plan: &Plan, view: &V, rules: &[u32], var: u32, agenda: &mut Agenda)
+    ensures { agenda.new ≡ with_givers agenda.old
+        (met_rules plan.now (V.seen view.now) (filter (is_reader plan.now (var_at var)) rules.now)) }
 {
-    match value {
-        Some(value) => grain_with(plan, var, value),
-        None => None,
+    let mut rest = rules;
+    while let [rule, more @ ..] = rest {
+        if touches(plan, *rule, var) && is_met(view, trigger_by(plan, *rule)) {
+            agenda.push(Giver::Rule(*rule));
+        }
+        rest = more;
     }
 }
 

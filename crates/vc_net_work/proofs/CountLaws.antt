@@ -1,6 +1,6 @@
 -- Rules on an agenda are counted.
-use Rattle.std.proofs.Common.{◌≡◌, ℕ, suc, ◌+◌, ◌≤◌, ◌⊎◌, Bool, true, false, cond, not, ◌&&◌, ◌||◌}
-use Rattle.std.proofs.Common.{List, [], ◌∷◌, ◌++◌, length, map, refl, ◌∙◌, ap, subst, inl, inr, arith}
+use Rattle.std.proofs.Common.{◌≡◌, ◌+◌, ◌≤◌, ◌⊎◌, Bool, true, false, cond, not, ◌&&◌}
+use Rattle.std.proofs.Common.{List, [], ◌∷◌, ◌++◌, length, refl, ◌∙◌, ap, subst, inl, inr, arith}
 use Rattle.std.proofs.Common.{length-append}
 use Rattle.std.specs.Prelude.{if◌then◌else◌}
 use Rattle.std.specs.List.{AllByRecursion, IsDistinct, filter}
@@ -9,98 +9,20 @@ use Rattle.std.proofs.lemmas.List.Elements.{filter-append}
 use Rattle.vc_base.specs.Sets.{has, Within}
 use Rattle.vc_base.proofs.SetLaws.{both, has_cases, has_either, has_first, has_more}
 use Rattle.vc_base.proofs.SetLaws.{told}
-use Rattle.vc_plan.specs.Gives.{Giver, by_rule, by_user}
+use Rattle.vc_plan.specs.Gives.{Giver}
 use Rattle.vc_net_agenda.specs.Agendas.{Awaited, added, is_of, with_next}
 use Rattle.vc_net_laws.specs.Working.{same_giver}
 use Rattle.vc_net_laws.proofs.NetLaws.Working.{giver_exact, giver_itself}
 use Rattle.vc_net_waking.specs.Waking.{with_givers}
+use Rattle.vc_net_waking.proofs.ComingLaws.{without, without_has, without_shorter}
 use Rattle.vc_net_work.specs.Spending.{is_rule, rules_among}
 
--- with one giver as the last
-last_counts : (givers : List Giver) (giver : Giver)
-    → rules_among (givers ++ giver ∷ []) ≤ rules_among givers + rules_among (giver ∷ [])
-last_counts givers giver =
-    let split = ap (λ xs. length xs) (filter-append is_rule givers (giver ∷ [])) in
-    let sum = length-append (filter is_rule givers) (filter is_rule (giver ∷ [])) in
-    omega (arith, split, sum)
-
-added_counts : (agenda : Awaited) (giver : Giver)
-    → rules_among (added agenda giver).givers ≤ rules_among agenda.givers + rules_among (giver ∷ [])
-added_counts agenda giver = by (is_of agenda giver && not (has same_giver agenda.givers giver))
-  where
-    by : (b : Bool) → rules_among (let next : Awaited = if b then with_next agenda giver else agenda in next.givers)
-        ≤ rules_among agenda.givers + rules_among (giver ∷ [])
-    by true = last_counts agenda.givers giver
-    by false = omega arith
-
-first_counts : (giver : Giver) (givers : List Giver)
-    → rules_among (giver ∷ givers) ≡ rules_among (giver ∷ []) + rules_among givers
-first_counts giver givers = by (is_rule giver)
-  where
-    by : (b : Bool) → length (cond b (giver ∷ filter is_rule givers) (filter is_rule givers))
-        ≡ length (cond b (giver ∷ []) []) + rules_among givers
-    by true = omega arith
-    by false = omega arith
-
-pub given_counts : (agenda : Awaited) (givers : List Giver)
-    → rules_among (with_givers agenda givers).givers ≤ rules_among agenda.givers + rules_among givers
-given_counts agenda [] = omega arith
-given_counts agenda (giver ∷ givers) =
-    let rest = given_counts (added agenda giver) givers in
-    let one = added_counts agenda giver in
-    let first = first_counts giver givers in
-    omega (arith, rest, one, first)
-
--- sources aren't counted, rules all are
-pub rules_counted : (ns : List ℕ) → rules_among (map by_rule ns) ≡ length ns
-rules_counted [] = refl
-rules_counted (n ∷ ns) = ap suc (rules_counted ns)
-
-pub users_counted : (ns : List ℕ) → rules_among (map by_user ns) ≡ 0
-users_counted [] = refl
-users_counted (n ∷ ns) = users_counted ns
-
+-- rules of two lists
 pub both_counted : (xs ys : List Giver) → rules_among (xs ++ ys) ≡ rules_among xs + rules_among ys
 both_counted xs ys =
     let split = ap (λ zs. length zs) (filter-append is_rule xs ys) in
     let sum = length-append (filter is_rule xs) (filter is_rule ys) in
     omega (arith, split, sum)
-
--- a list without one giver
-abbrev without : Giver → List Giver → List Giver
-without giver [] = []
-without giver (x ∷ xs) = if same_giver giver x then xs else x ∷ without giver xs
-
-without_shorter : (giver : Giver) (xs : List Giver) → has same_giver xs giver ≡ true
-    → length xs ≡ suc (length (without giver xs))
-without_shorter giver [] h = absurd (cc)
-without_shorter giver (x ∷ xs) h = by (same_giver giver x) h (without_shorter giver xs)
-  where
-    by : (b : Bool) → (b || has same_giver xs giver) ≡ true
-        → (has same_giver xs giver ≡ true → length xs ≡ suc (length (without giver xs)))
-        → suc (length xs) ≡ suc (length (cond b xs (x ∷ without giver xs)))
-    by true h later = refl
-    by false h later = ap suc (later h)
-
-without_has : (giver other : Giver) (xs : List Giver) → same_giver giver other ≡ false → has same_giver xs other ≡ true
-    → has same_giver (without giver xs) other ≡ true
-without_has giver other [] e h = absurd (cc)
-without_has giver other (x ∷ xs) e h =
-    by (told (same_giver giver x)) (has_cases same_giver giver_exact giver_itself x xs other h)
-    (without_has giver other xs e)
-  where
-    by : (same_giver giver x ≡ true) ⊎ (same_giver giver x ≡ false) → (other ≡ x) ⊎ (has same_giver xs other ≡ true)
-        → (has same_giver xs other ≡ true → has same_giver (without giver xs) other ≡ true)
-        → has same_giver (cond (same_giver giver x) xs (x ∷ without giver xs)) other ≡ true
-    by (inl same) (inl is) later = absurd (both (ap (same_giver giver) is ∙ same) e)
-    by (inl same) (inr h) later = ap (λ b. has same_giver (cond b xs (x ∷ without giver xs)) other) same ∙ h
-    by (inr apart) (inl is) later =
-        ap (λ b. has same_giver (cond b xs (x ∷ without giver xs)) other) apart
-        ∙ (ap (has same_giver (x ∷ without giver xs)) is
-        ∙ has_first same_giver giver_exact giver_itself x (without giver xs))
-    by (inr apart) (inr h) later =
-        ap (λ b. has same_giver (cond b xs (x ∷ without giver xs)) other) apart
-        ∙ has_more same_giver giver_exact giver_itself x (without giver xs) other (later h)
 
 apart_has : (giver other : Giver) (xs : List Giver) → AllByRecursion (λ x. same_giver giver x ≡ false) xs
     → has same_giver xs other ≡ true → same_giver giver other ≡ false

@@ -1,15 +1,14 @@
 -- Givers that touch some things: what they write, whom they wake, and how many rules there are.
 use Rattle.std.proofs.Common.{◌≡◌, ℕ, zero, suc, ◌+◌, ◌<◌, ◌⊎◌, Bool, true, false, cond, ◌||◌}
-use Rattle.std.proofs.Common.{List, [], ◌∷◌, ◌++◌, length, map, refl, sym, ◌∙◌, ap, subst, inl, inr, arith}
+use Rattle.std.proofs.Common.{List, [], ◌∷◌, ◌++◌, length, map, refl, sym, ◌∙◌, ap, inl, inr, arith}
 use Rattle.std.specs.Prelude.{Option, None, Some, if◌then◌else◌, nat_eq, nat_lt, slice_get}
 use Rattle.std.specs.List.{filter, list_any, range_with_len}
-use Rattle.std.specs.Option.{option_to_list}
-use Rattle.std.proofs.lemmas.Bool.{or_cases, or_right, ltb-true}
+use Rattle.std.proofs.lemmas.Bool.{or_cases}
 use Rattle.std.proofs.lemmas.List.{length-map}
 use Rattle.vc_base.specs.Sets.{has, Within}
 use Rattle.vc_base.specs.Spreading.{IsSpread}
 use Rattle.vc_base.proofs.ListLaws.{range_has, number_exact, number_itself}
-use Rattle.vc_base.proofs.SetLaws.{has_back, has_cases, has_either, has_filter, has_first, has_front, has_more}
+use Rattle.vc_base.proofs.SetLaws.{both, has_back, has_cases, has_either, has_filter, has_first, has_more}
 use Rattle.vc_base.proofs.SetLaws.{filter_has}
 use Rattle.vc_plan.specs.declared.atoms.Atom.{Atom}
 use Rattle.vc_plan.specs.declared.plans.Plan.{Plan}
@@ -21,7 +20,7 @@ use Rattle.vc_plan.specs.Gives.{Giver, by_rule, by_user, by_entry, givers_of}
 use Rattle.vc_plan.specs.Seen.{Seen}
 use Rattle.vc_plan.specs.Valid.{IsValid}
 use Rattle.vc_plan_reasons.specs.Things.{Thing, slot_at, var_at, same_thing, has_thing, thing_of, touches, vars_of_kind}
-use Rattle.vc_plan_reasons.specs.Things.{giver_reads, giver_writes, kind_writes, reads_in, rule_reads, rule_writes}
+use Rattle.vc_plan_reasons.specs.Things.{giver_writes, kind_writes, reads_in, rule_reads, rule_writes}
 use Rattle.vc_plan_reasons.specs.Things.{writes_in, inferred_of, slots_of_kind, slots_of_var}
 use Rattle.vc_plan.specs.Reads.{vars_of_condition}
 use Rattle.vc_plan.specs.Restrictions.{is_inferred}
@@ -35,20 +34,18 @@ use Rattle.vc_net_laws.specs.Working.{same_giver}
 use Rattle.vc_net_laws.proofs.NetLaws.Working.{giver_exact, giver_itself}
 use Rattle.vc_net_laws.proofs.NetLaws.Wakings.{work_is_enough}
 use Rattle.vc_net_waking.specs.Laws.{IsAgendaOf}
-use Rattle.vc_plan.specs.Seen.{slot_in}
-use Rattle.vc_net_laws.specs.Triggers.{trigger_by}
 use Rattle.vc_net_readers.specs.Laws.{asked}
 use Rattle.vc_net_readers.specs.Readers.{readers_at}
-use Rattle.vc_net_readers.proofs.AskedLaws.{asked_are_few, asked_touch}
-use Rattle.vc_net_waking.specs.Waking.{grain_at, is_met, is_slot, is_var_of, met_rules, sources_at}
+use Rattle.vc_net_waking.specs.Waking.{is_var_of, met_rules, sources_at}
 use Rattle.vc_net_waking.specs.Waking.{sources_in_slot, sources_of, waking, with_givers}
 use Rattle.vc_net_waking.proofs.GiverLaws.{sizes_stay}
-use Rattle.vc_net_waking.proofs.WakingLaws.{entry_below, fewer, is_grain, rule_below, user_below}
+use Rattle.vc_net_waking.proofs.ComingLaws.{few_come}
+use Rattle.vc_net_waking.proofs.WakingLaws.{below, entry_below, entry_there, in_mapped, met_read, rule_below}
+use Rattle.vc_net_waking.proofs.WakingLaws.{rule_there, user_below, user_there, woken_touch}
 use Rattle.vc_net_work.specs.Spending.{AreOn, ConclusionsAreOfThings, HoldsWhatIsWritten, ReachHoldsWhatIsWritten}
-use Rattle.vc_net_work.specs.Spending.{RulesAreWithinWork, RulesWokenAreFew, WokenAreOn, is_rule, rules_among}
+use Rattle.vc_net_work.specs.Spending.{RulesAreWithinWork, RulesWokenAreFew, WokenAreOn, is_rule}
 use Rattle.vc_net_work.specs.Spending.{touches_one}
-use Rattle.vc_net_work.proofs.CountLaws.{added_are, both_counted, distinct_few, filter_once, given_counts, givers_once}
-use Rattle.vc_net_work.proofs.CountLaws.{rules_counted}
+use Rattle.vc_net_work.proofs.CountLaws.{added_are, distinct_few, filter_once, givers_once}
 use Rattle.vc_net_work.proofs.Spreading.{any_thing, rule_spreads, some_thing, source_spreads}
 use Rattle.vc_base.proofs.Settling.{IsIn}
 
@@ -98,17 +95,6 @@ numbers_counted plan things =
     counted_from (λ rule. list_any (touches plan rule) things) (λ r. touches_one plan things (by_rule r)) plan.rules 0
     (λ i rule e. ap (λ n. touches_one plan things (by_rule n)) (omega arith) ∙ touches_at plan things i rule e)
 
-mapped_has : (ns : List ℕ) (r : ℕ) → has nat_eq ns r ≡ true → has same_giver (map by_rule ns) (by_rule r) ≡ true
-mapped_has [] r h = absurd (cc)
-mapped_has (n ∷ ns) r h =
-    elim (has_cases nat_eq number_exact number_itself n ns r h) [
-      | inl e ↦
-          subst (λ k. has same_giver (map by_rule (n ∷ ns)) (by_rule k) ≡ true) (sym e)
-          (has_first same_giver giver_exact giver_itself (by_rule n) (map by_rule ns))
-      | inr k ↦ has_more same_giver giver_exact giver_itself (by_rule n) (map by_rule ns) (by_rule r)
-          (mapped_has ns r k)
-    ]
-
 rules_within : (plan : Plan) (things : List Thing) (givers : List Giver) → AreOn plan things givers
     → Within same_giver (filter is_rule givers) (map by_rule (numbers_on plan things))
 rules_within plan things givers on giver h =
@@ -118,7 +104,7 @@ rules_within plan things givers on giver h =
     by : (g : Giver) → has same_giver givers g ≡ true → is_rule g ≡ true → has same_giver (givers_of plan) g ≡ true
         → touches_one plan things g ≡ true → has same_giver (map by_rule (numbers_on plan things)) g ≡ true
     by (by_rule r) h e there touch =
-        mapped_has (numbers_on plan things) r
+        in_mapped by_rule (numbers_on plan things) r
         (filter_has nat_eq number_exact number_itself (λ n. touches_one plan things (by_rule n))
         (numbers_below (length plan.rules)) r
         (range_has 0 (length plan.rules) r (omega arith) (let low = rule_below plan r there in omega (arith, low)))
@@ -135,22 +121,37 @@ rules_are_within_work plan things givers atoms on clear distinct inside =
     let work = work_is_enough plan atoms things clear distinct inside in
     omega (arith, few, mapped, counted, work)
 
--- no rule is among sources
-slot_sources : (plan : Plan) (i n : ℕ) → rules_among (sources_in_slot plan i n) ≡ 0
-slot_sources plan i zero = refl
-slot_sources plan i (suc n) =
-    both_counted (sources_in_slot plan i n) (if is_var_of plan i n then sources_of n else [])
-    ∙ (ap (λ k. k + rules_among (if is_var_of plan i n then sources_of n else [])) (slot_sources plan i n)
-    ∙ none (is_var_of plan i n))
+-- no source is a rule
+source_no_rule : (v : ℕ) (giver : Giver) → has same_giver (sources_of v) giver ≡ true → is_rule giver ≡ false
+source_no_rule v giver h =
+    elim (has_cases same_giver giver_exact giver_itself (by_user v) (by_entry v ∷ []) giver h) [
+      | inl is ↦ ap is_rule is
+      | inr m ↦ elim (has_cases same_giver giver_exact giver_itself (by_entry v) [] giver m) [
+        | inl is ↦ ap is_rule is
+        | inr none ↦ absurd (cc)
+      ]
+    ]
+
+slot_no_rule : (plan : Plan) (i n : ℕ) (giver : Giver) → has same_giver (sources_in_slot plan i n) giver ≡ true
+    → is_rule giver ≡ false
+slot_no_rule plan i zero giver h = absurd (cc)
+slot_no_rule plan i (suc n) giver h =
+    elim (has_either same_giver giver_exact giver_itself (sources_in_slot plan i n)
+    (if is_var_of plan i n then sources_of n else []) giver h) [
+      | inl k ↦ slot_no_rule plan i n giver k
+      | inr k ↦ by (is_var_of plan i n) k
+    ]
   where
-    none : (b : Bool) → 0 + rules_among (if b then sources_of n else []) ≡ 0
-    none true = omega arith
-    none false = omega arith
+    by : (b : Bool) → has same_giver (if b then sources_of n else []) giver ≡ true → is_rule giver ≡ false
+    by false k = absurd (cc)
+    by true k = source_no_rule n giver k
 
-no_sources : (plan : Plan) (thing : Thing) → rules_among (sources_at plan thing) ≡ 0
-no_sources plan (slot_at i) = slot_sources plan i (length plan.vars)
-no_sources plan (var_at v) = refl
+no_rule : (plan : Plan) (thing : Thing) (giver : Giver) → has same_giver (sources_at plan thing) giver ≡ true
+    → is_rule giver ≡ false
+no_rule plan (slot_at i) giver h = slot_no_rule plan i (length plan.vars) giver h
+no_rule plan (var_at v) giver h = source_no_rule v giver h
 
+-- rules that are woken read the thing
 readers_counted : (plan : Plan) (atom : Atom) → length (readers_at plan (thing_of atom)) ≡ rules_at plan atom
 readers_counted plan atom =
     counted_from (λ rule. touches plan rule (thing_of atom)) (λ r. giver_touches plan (by_rule r) (thing_of atom))
@@ -158,136 +159,35 @@ readers_counted plan atom =
     (λ i rule e. ap (λ n. giver_touches plan (by_rule n) (thing_of atom)) (omega arith)
     ∙ rules_touch plan i rule (thing_of atom) e)
 
+woken_read : (plan : Plan) (seen : Seen) (thing : Thing) (giver : Giver)
+    → has same_giver (waking plan seen thing) giver ≡ true → is_rule giver ≡ true
+    → has same_giver (map by_rule (readers_at plan thing)) giver ≡ true
+woken_read plan seen thing giver h e =
+    elim (has_either same_giver giver_exact giver_itself (met_rules plan seen (asked plan seen thing))
+    (sources_at plan thing) giver h) [
+      | inl k ↦
+          let r = met_read plan seen thing giver k in
+          ap (has same_giver (map by_rule (readers_at plan thing))) r.1
+          ∙ in_mapped by_rule (readers_at plan thing) r.0 r.2
+      | inr k ↦ absurd (both e (no_rule plan thing giver k))
+    ]
+
 pub rules_woken_are_few : RulesWokenAreFew
 rules_woken_are_few plan agenda seen atom =
     let thing = thing_of atom in
-    let all = asked plan thing (grain_at plan seen thing) in
-    let rules = met_rules plan seen all in
-    let come = given_counts agenda (waking plan seen thing) in
-    let parts = both_counted rules (sources_at plan thing) in
-    let none = no_sources plan thing in
-    let met = rules_counted (filter (λ r. is_met seen (trigger_by plan (by_rule r))) all) in
-    let few = fewer (λ r. is_met seen (trigger_by plan (by_rule r))) all in
-    let most = asked_are_few plan thing (grain_at plan seen thing) (is_grain plan seen thing) in
+    let come = few_come is_rule agenda (waking plan seen thing) (map by_rule (readers_at plan thing))
+    (λ giver h e. inr (woken_read plan seen thing giver h e)) in
+    let mapped = length-map (readers_at plan thing) by_rule in
     let counted = readers_counted plan atom in
-    omega (arith, come, parts, none, met, few, most, counted)
-
--- whoever is woken touches the thing, and is the plan's where it comes on the agenda
-rule_of : (ns : List ℕ) (giver : Giver) → has same_giver (map by_rule ns) giver ≡ true
-    → (r : ℕ) × (giver ≡ by_rule r) × (has nat_eq ns r ≡ true)
-rule_of [] giver h = absurd (cc)
-rule_of (n ∷ ns) giver h =
-    by (has_cases same_giver giver_exact giver_itself (by_rule n) (map by_rule ns) giver h) (rule_of ns giver)
-  where
-    by : (giver ≡ by_rule n) ⊎ (has same_giver (map by_rule ns) giver ≡ true)
-        → (has same_giver (map by_rule ns) giver ≡ true → (r : ℕ) × (giver ≡ by_rule r) × (has nat_eq ns r ≡ true))
-        → (r : ℕ) × (giver ≡ by_rule r) × (has nat_eq (n ∷ ns) r ≡ true)
-    by (inl e) later = (n, e, has_first nat_eq number_exact number_itself n ns)
-    by (inr e) later =
-        let r = later e in (r.0, r.1, has_more nat_eq number_exact number_itself n ns r.0 r.2)
-
-met_touch : (plan : Plan) (seen : Seen) (thing : Thing) (giver : Giver)
-    → has same_giver (met_rules plan seen (asked plan thing (grain_at plan seen thing))) giver ≡ true
-    → giver_touches plan giver thing ≡ true
-met_touch plan seen thing giver h =
-    let all = asked plan thing (grain_at plan seen thing) in
-    let test = λ (r : ℕ). is_met seen (trigger_by plan (by_rule r)) in
-    let r = rule_of (filter test all) giver h in
-    let p = has_filter nat_eq number_exact number_itself test all r.0 r.2 in
-    ap (λ g. giver_touches plan g thing) r.1
-    ∙ asked_touch plan thing (grain_at plan seen thing) r.0 (is_grain plan seen thing) p.0
-
-sources_touch_slot : (plan : Plan) (i n : ℕ) (giver : Giver) → has same_giver (sources_in_slot plan i n) giver ≡ true
-    → giver_touches plan giver (slot_at i) ≡ true
-sources_touch_slot plan i zero giver h = absurd (cc)
-sources_touch_slot plan i (suc n) giver h =
-    elim (has_either same_giver giver_exact giver_itself (sources_in_slot plan i n)
-    (if is_var_of plan i n then sources_of n else []) giver h) [
-      | inl k ↦ sources_touch_slot plan i n giver k
-      | inr k ↦ by (is_var_of plan i n) refl k
-    ]
-  where
-    own : (o : Option ℕ) → is_slot i o ≡ true
-        → (list_any (same_thing (slot_at i)) (map slot_at (option_to_list o)) || false) ≡ true
-    own None e = absurd (cc)
-    own (Some j) e =
-        ap (λ b. (b || false) || false) e
-
-    by : (b : Bool) → is_var_of plan i n ≡ b → has same_giver (if b then sources_of n else []) giver ≡ true
-        → giver_touches plan giver (slot_at i) ≡ true
-    by false e k = absurd (cc)
-    by true e k =
-        elim (has_cases same_giver giver_exact giver_itself (by_user n) (by_entry n ∷ []) giver k) [
-          | inl is ↦ ap (λ g. giver_touches plan g (slot_at i)) is ∙ own (slot_in (slice_get plan.vars n)) e
-          | inr m ↦ elim (has_cases same_giver giver_exact giver_itself (by_entry n) [] giver m) [
-            | inl is ↦ ap (λ g. giver_touches plan g (slot_at i)) is ∙ own (slot_in (slice_get plan.vars n)) e
-            | inr none ↦ absurd (cc)
-          ]
-        ]
-
-pub source_touches : (plan : Plan) (v : ℕ) (giver : Giver) → has same_giver (sources_of v) giver ≡ true
-    → giver_touches plan giver (var_at v) ≡ true
-source_touches plan v giver h =
-    let own : (has_thing (giver_reads plan (by_user v)) (var_at v)
-    || has_thing (giver_writes plan (by_user v)) (var_at v)) ≡ true
-    = or_right (has_thing (giver_reads plan (by_user v)) (var_at v)) (has_thing (var_at v ∷ []) (var_at v))
-    (has_first same_thing thing_exact thing_itself (var_at v) []) in
-    elim (has_cases same_giver giver_exact giver_itself (by_user v) (by_entry v ∷ []) giver h) [
-      | inl is ↦ ap (λ g. giver_touches plan g (var_at v)) is ∙ own
-      | inr m ↦ elim (has_cases same_giver giver_exact giver_itself (by_entry v) [] giver m) [
-        | inl is ↦ ap (λ g. giver_touches plan g (var_at v)) is ∙ own
-        | inr none ↦ absurd (cc)
-      ]
-    ]
-
-pub woken_touch : (plan : Plan) (seen : Seen) (thing : Thing) (giver : Giver)
-    → has same_giver (waking plan seen thing) giver ≡ true → giver_touches plan giver thing ≡ true
-woken_touch plan seen thing giver h =
-    elim (has_either same_giver giver_exact giver_itself
-    (met_rules plan seen (asked plan thing (grain_at plan seen thing))) (sources_at plan thing) giver h) [
-      | inl k ↦ met_touch plan seen thing giver k
-      | inr k ↦ by thing k
-    ]
-  where
-    by : (t : Thing) → has same_giver (sources_at plan t) giver ≡ true → giver_touches plan giver t ≡ true
-    by (slot_at i) k = sources_touch_slot plan i (length plan.vars) giver k
-    by (var_at v) k = source_touches plan v giver k
+    omega (arith, come, mapped, counted)
 
 -- whoever an agenda takes is the plan's
-in_mapped : (f : ℕ → Giver) (ns : List ℕ) (n : ℕ) → has nat_eq ns n ≡ true → has same_giver (map f ns) (f n) ≡ true
-in_mapped f [] n h = absurd (cc)
-in_mapped f (m ∷ ns) n h =
-    elim (has_cases nat_eq number_exact number_itself m ns n h) [
-      | inl e ↦
-          subst (λ k. has same_giver (f m ∷ map f ns) (f k) ≡ true) (sym e)
-          (has_first same_giver giver_exact giver_itself (f m) (map f ns))
-      | inr k ↦ has_more same_giver giver_exact giver_itself (f m) (map f ns) (f n) (in_mapped f ns n k)
-    ]
-
-pub below : (n k : ℕ) → nat_lt k n ≡ true → has nat_eq (numbers_below n) k ≡ true
-below n k h = let low = ltb-true k n h in range_has 0 n k (omega arith) (omega (arith, low))
-
 of_plan : (plan : Plan) (agenda : Awaited) (giver : Giver) → IsAgendaOf plan agenda → is_of agenda giver ≡ true
     → has same_giver (givers_of plan) giver ≡ true
 of_plan plan agenda (by_rule r) sizes h =
-    has_front same_giver giver_exact giver_itself (map by_rule (numbers_below (length plan.rules)))
-    (map by_user (numbers_below (length plan.vars)) ++ map by_entry (numbers_below (length plan.vars))) (by_rule r)
-    (in_mapped by_rule (numbers_below (length plan.rules)) r
-    (below (length plan.rules) r (ap (nat_lt r) (sym sizes.0) ∙ h)))
-of_plan plan agenda (by_user v) sizes h =
-    has_back same_giver giver_exact giver_itself (map by_rule (numbers_below (length plan.rules)))
-    (map by_user (numbers_below (length plan.vars)) ++ map by_entry (numbers_below (length plan.vars))) (by_user v)
-    (has_front same_giver giver_exact giver_itself (map by_user (numbers_below (length plan.vars)))
-    (map by_entry (numbers_below (length plan.vars))) (by_user v)
-    (in_mapped by_user (numbers_below (length plan.vars)) v
-    (below (length plan.vars) v (ap (nat_lt v) (sym sizes.1) ∙ h))))
-of_plan plan agenda (by_entry v) sizes h =
-    has_back same_giver giver_exact giver_itself (map by_rule (numbers_below (length plan.rules)))
-    (map by_user (numbers_below (length plan.vars)) ++ map by_entry (numbers_below (length plan.vars))) (by_entry v)
-    (has_back same_giver giver_exact giver_itself (map by_user (numbers_below (length plan.vars)))
-    (map by_entry (numbers_below (length plan.vars))) (by_entry v)
-    (in_mapped by_entry (numbers_below (length plan.vars)) v
-    (below (length plan.vars) v (ap (nat_lt v) (sym sizes.1) ∙ h))))
+    rule_there plan r (below (length plan.rules) r (ap (nat_lt r) (sym sizes.0) ∙ h))
+of_plan plan agenda (by_user v) sizes h = user_there plan v (ap (nat_lt v) (sym sizes.1) ∙ h)
+of_plan plan agenda (by_entry v) sizes h = entry_there plan v (ap (nat_lt v) (sym sizes.1) ∙ h)
 
 pub given_are : (plan : Plan) (agenda : Awaited) (givers : List Giver) (other : Giver) → IsAgendaOf plan agenda
     → has same_giver (with_givers agenda givers).givers other ≡ true

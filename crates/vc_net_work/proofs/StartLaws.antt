@@ -29,10 +29,10 @@ use Rattle.vc_net_agenda.specs.Agendas.{Awaited, nobody_on}
 use Rattle.vc_net_laws.specs.Waking.{giver_touches}
 use Rattle.vc_net_laws.specs.Wakings.{things_of}
 use Rattle.vc_net_waking.specs.Beginning.{beginners}
-use Rattle.vc_net_waking.proofs.WakingLaws.{entry_below, entry_in, rule_below, user_below, user_in}
+use Rattle.vc_net_waking.proofs.WakingLaws.{entry_below, entry_in, rule_below, source_touches, user_below, user_in}
 use Rattle.vc_net_work.specs.Spending.{BeginnersAreOn, EachTouchesSomething, touches_one}
 use Rattle.vc_net_work.proofs.CountLaws.{givers_once}
-use Rattle.vc_net_work.proofs.SpendLaws.{given_are, source_touches, touches_at}
+use Rattle.vc_net_work.proofs.SpendLaws.{given_are, touches_at}
 use Rattle.vc_net_work.proofs.Spreading.{any_thing, some_thing}
 
 -- a slot or variable that is there is one of the plan's things

@@ -1,4 +1,4 @@
-use Rattle.vc_net_readers.proofs.AskedLaws.{asked_are_few, asked_touch}
+use Rattle.vc_net_readers.proofs.AskedLaws.{asked_touch}
 use Rattle.vc_net_readers.proofs.ReaderLaws.{woken_are_asked}
 use Rattle.vc_net_readers.proofs.laws.woken_are_asked.Goals as goal
 
@@ -7,6 +7,3 @@ returns-clause-all c = woken_are_asked
 
 pub returns-clause-touch : goal.returns-clause-touch
 returns-clause-touch c = asked_touch
-
-pub returns-clause-few : goal.returns-clause-few
-returns-clause-few c = asked_are_few

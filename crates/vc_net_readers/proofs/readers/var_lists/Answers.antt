@@ -1,8 +1,8 @@
 -- When all rules were put, each list is wanted.
 use Rattle.std.proofs.Common.{◌≡◌, ◌∙◌, [], ap, arith, length, replicate}
 use Rattle.vc_net_readers.specs.Filing.{filed_below}
-use Rattle.vc_net_readers.specs.Waiting.{resting_by}
-use Rattle.vc_net_readers.proofs.TouchedLemmas.{vars_filed}
+use Rattle.vc_net_readers.specs.Touched.{vars_by}
+use Rattle.vc_net_readers.proofs.WaiterLemmas.{vars_filed}
 use Rattle.vc_net_readers.proofs.readers.var_lists.Goals as goal
 
 pub returns : goal.returns
@@ -11,4 +11,4 @@ returns c =
     let all : c.loop-rule.rule ≡ length plan.rules
     = omega (arith, c.loop-rule-test.false, c.loop-rule.auto.rule-end, c.len-rule-end.ensures) in
     c.loop-rule.invariant
-    ∙ (ap (λ n. filed_below (resting_by plan) n (replicate (length plan.vars) [])) all ∙ vars_filed plan)
+    ∙ (ap (λ n. filed_below (vars_by plan) n (replicate (length plan.vars) [])) all ∙ vars_filed plan)
