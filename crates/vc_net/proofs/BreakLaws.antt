@@ -1,5 +1,6 @@
 -- What breaks a net refutes its sources: a fact that can't come, and a clash.
-use Rattle.std.proofs.Common.{◌≡◌, ◌+◌, ◌≤◌, Bool, true, false, cond, List, [], ◌∷◌, ◌++◌, length, refl, sym, ◌∙◌, append-nil}
+use Rattle.std.proofs.Common.{◌≡◌, ◌+◌, ◌≤◌, Bool, true, false, cond, List, [], ◌∷◌, ◌++◌, length, refl, sym, ◌∙◌}
+use Rattle.std.proofs.Common.{append-nil}
 use Rattle.std.proofs.Common.{ap, subst, arith}
 use Rattle.std.specs.Prelude.{Some, nat_le}
 use Rattle.std.proofs.lemmas.Bool.{le-leb}
@@ -183,7 +184,8 @@ module _ (plan : Plan) (sources : Sources) (work : Work) (giver : Giver) (premis
       let all = going.of.clashes in
       omega (arith, few, all))
 
-  pub clash_breaks_off : IsBrokenOff plan sources giver work (broken_by_clash work (culprit_giving sources giver) premises)
+  pub clash_breaks_off : IsBrokenOff plan sources giver work
+      (broken_by_clash work (culprit_giving sources giver) premises)
   clash_breaks_off =
       let same = room_stays work.breaker.premises premises in record {
         going = record {

@@ -1,30 +1,27 @@
 -- Sources that differ: whoever has other things to say than before, by the sources.
-use Rattle.std.proofs.Common.{◌≡◌, ℕ, zero, suc, ◌-◌, ◌<◌, ◌≤◌, ◌⊎◌, Bool, true, false, not, ◌&&◌, ◌||◌}
+use Rattle.std.proofs.Common.{◌≡◌, ℕ, zero, suc, ◌-◌, ◌<◌, ◌≤◌, ◌⊎◌, Bool, true, false, ◌||◌}
 use Rattle.std.proofs.Common.{List, [], ◌∷◌, ◌++◌, length, drop, get_or, replicate, take, refl, sym, ◌∙◌, ap, subst}
 use Rattle.std.proofs.Common.{inl, inr, arith}
-use Rattle.std.specs.Prelude.{Option, None, Some, ◌==◌, if◌then◌else◌, nat_eq, slice_get, slice_index_or}
+use Rattle.std.specs.Prelude.{Option, None, Some, if◌then◌else◌, nat_eq, slice_get, slice_index_or}
 use Rattle.std.specs.List.{list_all}
-use Rattle.std.proofs.lemmas.Bool.{and_from, and_parts, cases_lt, eq-eqb, or_cases, or_left, or_right}
+use Rattle.std.proofs.lemmas.Bool.{and_from, and_parts, cases_lt, or_cases, or_left, or_right}
 use Rattle.std.proofs.lemmas.List.{take_all}
 use Rattle.vc_base.specs.Sets.{has}
 use Rattle.vc_base.proofs.ListLaws.{number_exact, number_itself}
 use Rattle.vc_base.proofs.SetLaws.{all_from, both, has_back, has_cases, has_either, has_front, told}
-use Rattle.vc_value.specs.declared.value.Value.{Value}
-use Rattle.vc_plan.specs.declared.atoms.Mark.{Mark}
-use Rattle.vc_plan.specs.declared.atoms.Mark.TheVariants.{Held, Outside}
 use Rattle.vc_plan.specs.declared.plans.Plan.{Plan}
 use Rattle.vc_plan.specs.Domains.{numbers_below}
 use Rattle.vc_plan.specs.Gives.{Giver, by_entry, by_rule, by_user, givers_of}
 use Rattle.vc_plan.specs.Sources.{Entry, Sources, entry_of, user_of}
-use Rattle.vc_plan.proofs.PlanLaws.Atoms.{value_itself}
 use Rattle.vc_plan_reasons.specs.Fitting.{entry_fits, mark_fits, procedure_writes, sources_fit, value_fits}
-use Rattle.vc_plan_reasons.specs.Keeping.{entry_differs, same_entry, same_mark, same_user, user_differs}
+use Rattle.vc_plan_reasons.specs.Keeping.{entry_differs, user_differs}
 use Rattle.vc_plan_reasons.proofs.ReasonLaws.Blaming.{entry_fit_at}
 use Rattle.vc_plan_sources.specs.Changes.{no_sources}
 use Rattle.vc_net_agenda.specs.Agendas.{Awaited}
 use Rattle.vc_net_laws.specs.Waking.{giver_differs}
 use Rattle.vc_net_laws.specs.Working.{same_giver}
 use Rattle.vc_net_laws.proofs.NetLaws.Working.{giver_exact, giver_itself}
+use Rattle.vc_net_log.proofs.SourceLaws.{entry_stays, user_stays}
 use Rattle.vc_net_waking.specs.Waking.{sources_of, with_givers}
 use Rattle.vc_net_waking.proofs.GiverLaws.{both_parts}
 use Rattle.vc_net_waking.proofs.WakingLaws.{entry_below, entry_in, user_below, user_in}
@@ -155,31 +152,6 @@ among_by old new (u ∷ vars) giver h =
     by b e (inr k) more = more k
     by true e (inl k) more = (u, e, k)
     by false e (inl k) more = absurd (cc)
-
--- what is equal doesn't differ
-user_itself : (o : Option Value) → same_user o o ≡ true
-user_itself None = refl
-user_itself (Some a) = value_itself a
-
-mark_itself : (m : Mark) → same_mark m m ≡ true
-mark_itself (Held a) = value_itself a
-mark_itself Outside = refl
-
-entry_itself : (o : Option Entry) → same_entry o o ≡ true
-entry_itself None = refl
-entry_itself (Some e) =
-    and_from (same_mark e.mark e.mark) ((e.procedure == e.procedure) && (e.statement == e.statement))
-    (mark_itself e.mark)
-    (and_from (e.procedure == e.procedure) (e.statement == e.statement) (eq-eqb e.procedure e.procedure refl)
-    (eq-eqb e.statement e.statement refl))
-
-user_stays : (old new : Sources) (v : ℕ) → user_of old v ≡ user_of new v → user_differs old new v ≡ false
-user_stays old new v e =
-    ap not (ap (same_user (user_of old v)) (sym e) ∙ user_itself (user_of old v))
-
-entry_stays : (old new : Sources) (v : ℕ) → entry_of old v ≡ entry_of new v → entry_differs old new v ≡ false
-entry_stays old new v e =
-    ap not (ap (same_entry (entry_of old v)) (sym e) ∙ entry_itself (entry_of old v))
 
 -- nothing differs past the variables
 differing_below : (plan : Plan) (old new : Sources) → AreFor plan old → AreFor plan new → (v : ℕ)

@@ -1,23 +1,71 @@
--- From what is kept on the work goes on with other sources, where whoever differs is asked.
+-- What is kept of the work when sources change, and that it goes on from there, where whoever differs is asked.
 use Rattle.std.proofs.Common.{◌≡◌, [], List, sym, ◌∙◌, ap, subst}
 use Rattle.vc_plan.specs.declared.plans.Plan.{Plan}
 use Rattle.vc_plan.specs.Gives.{Giver}
 use Rattle.vc_plan.specs.Sources.{Sources}
 use Rattle.vc_plan.specs.Valid.{IsValid}
+use Rattle.vc_plan_reasons.specs.Checking.{concluded}
+use Rattle.vc_plan_reasons.specs.Keeping.{kept_of}
 use Rattle.vc_plan_reasons.specs.Work.{reach_of}
+use Rattle.vc_rule_yield.specs.Filling.{Filled}
 use Rattle.vc_net_agenda.specs.Agendas.{Awaited}
+use Rattle.vc_net_log.specs.Going.{WereTaken, with_steps}
+use Rattle.vc_net_log.specs.Logs.{Logged}
+use Rattle.vc_net_standing.specs.declared.standing.Fact.{Fact}
+use Rattle.vc_net_standing.specs.Standing.{atoms_of}
 use Rattle.vc_net_waking.specs.Laws.{IsAgendaOf}
 use Rattle.vc_net_waking.specs.Waking.{with_givers}
 use Rattle.vc_net_work.specs.Spending.{AreOn}
+use Rattle.vc_net.specs.Breaking.{unbroken}
 use Rattle.vc_net.specs.Costing.{StaysBehind, to_do}
 use Rattle.vc_net.specs.Going.{IsGoing}
 use Rattle.vc_net.specs.Keeping.{HasKept}
+use Rattle.vc_net.specs.Renewing.{dropped_wake}
 use Rattle.vc_net.specs.Working.{IsWorkOf, with_agenda}
+use Rattle.vc_net.specs.declared.breaker.Breaker.{Breaker}
 use Rattle.vc_net.specs.declared.work.Work.{Work}
 use Rattle.vc_net.proofs.ChangeLaws.{AreChanges}
 use Rattle.vc_net.proofs.ReachLaws.{last_on}
-use Rattle.vc_net.proofs.RenewLaws.{last, last_sizes, work_renews}
+use Rattle.vc_net.proofs.RenewLaws.{first, first_sizes, last, last_sizes, renewed_is_of, steps_left, work_renews}
 
+-- the work that is kept when the calls were made, one after the other
+module _ (plan : Plan) (old new : Sources) (work : Work) (going : IsGoing plan old work []) (log : Logged)
+    (taken : Filled Fact) (kept : log ≡ with_steps work.log (kept_of old new work.log.steps))
+    (were : WereTaken work.log.steps log.steps taken.items) (room : taken.room ≡ work.taken.room) (agenda : Awaited)
+    (facts : List Fact) (facts_are : facts ≡ taken.items)
+    (asks : agenda ≡ with_givers work.agenda (dropped_wake plan (concluded log.steps) (atoms_of facts)))
+    (breaker : Breaker) (calm : breaker ≡ unbroken work.breaker) where
+  kept_steps : log.steps ≡ steps_left plan old new work going
+  kept_steps = ap (λ (l : Logged). l.steps) kept
+
+  were_left : WereTaken work.log.steps (steps_left plan old new work going) taken.items
+  were_left = subst (λ steps. WereTaken work.log.steps steps taken.items) kept_steps were
+
+  woken : agenda ≡ first plan old new work going taken.items were_left
+  woken =
+      asks
+      ∙ (ap (λ xs. with_givers work.agenda (dropped_wake plan (concluded log.steps) (atoms_of xs))) facts_are
+      ∙ ap (λ steps. with_givers work.agenda (dropped_wake plan (concluded steps) (atoms_of taken.items))) kept_steps)
+
+  pub has_kept : HasKept plan old new work (record {
+    log = log;
+    agenda = agenda;
+    readers = work.readers;
+    untriggered = work.untriggered;
+    breaker = breaker;
+    taken = taken;
+  })
+  has_kept = record {
+    of = renewed_is_of plan old work log agenda breaker taken (steps_left plan old new work going) going kept
+        (subst (IsAgendaOf plan) (sym woken) (first_sizes plan old new work going taken.items were_left)) calm room;
+    taken = taken.items;
+    were = were_left;
+    kept = kept_steps;
+    asked = woken;
+    calm = ap (λ (b : Breaker). b.culprit) calm;
+  }
+
+-- and the work goes on from there
 module _ (plan : Plan) (old new : Sources) (before mid : Work) (going : IsGoing plan old before [])
     (kept : HasKept plan old new before mid) (changes : List Giver) (are : AreChanges plan old new changes)
     (agenda : Awaited) (is : agenda ≡ with_givers mid.agenda changes) where

@@ -36,7 +36,8 @@ use Rattle.vc_net_standing.specs.Standing.{atoms_of}
 use Rattle.vc_net_waking.specs.Waking.{waking, with_givers}
 use Rattle.vc_net_work.specs.Spending.{AreOn, touches_one}
 use Rattle.vc_net_work.proofs.CountLaws.{givers_once}
-use Rattle.vc_net_work.proofs.SpendLaws.{given_are, source_touches, woken_touch}
+use Rattle.vc_net_waking.proofs.WakingLaws.{source_touches, woken_touch}
+use Rattle.vc_net_work.proofs.SpendLaws.{given_are}
 use Rattle.vc_net_work.proofs.Spreading.{any_thing, some_thing}
 use Rattle.vc_net.specs.Going.{IsGoing}
 use Rattle.vc_net.specs.Renewing.{dropped_wake}

@@ -144,7 +144,8 @@ kept_part P less gone numbers count front (step ∷ steps) h =
         subst P (append_assoc front (step.conclusion ∷ []) (concluded (rest (Some premises)))) (more (Some premises))
 
 apart_less : (q : Atom) (xs : List Atom) (y : Atom) (ys : List Atom)
-    → AllByRecursion (λ x. same_atom q x ≡ false) (xs ++ y ∷ ys) → AllByRecursion (λ x. same_atom q x ≡ false) (xs ++ ys)
+    → AllByRecursion (λ x. same_atom q x ≡ false) (xs ++ y ∷ ys) → AllByRecursion (λ x. same_atom q x ≡ false)
+    (xs ++ ys)
 apart_less q [] y ys h = h.1
 apart_less q (x ∷ xs) y ys h = (h.0, apart_less q xs y ys h.1)
 

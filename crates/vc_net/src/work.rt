@@ -132,7 +132,7 @@ impl Work {
         ensures kept { self.new.log.steps ≡ kept_of old.now new.now self.old.log.steps }
         ensures calm { self.new.breaker.culprit ≡ None }
     {
-        self.keep(plan, old, new);
+        self.keep_at(plan, old, new, touched, written);
         wake_among(old, new, touched, &mut self.agenda);
         wake_among(old, new, written, &mut self.agenda);
     }
@@ -146,6 +146,34 @@ impl Work {
     {
         self.breaker.clear();
         self.log.keep(old, new, &mut self.taken);
+        wake_dropped(
+            plan,
+            &self.readers,
+            &self.log,
+            self.taken.as_slice(),
+            &mut self.agenda,
+        );
+    }
+
+    // The same, where the user's values differ for the first variables at most, and what is written for the second.
+    #[tactic(auto, using(crate::proofs::PlanFacts::vars_fit))]
+    fn keep_at(
+        &mut self,
+        plan: &Plan,
+        old: &Sources,
+        new: &Sources,
+        touched: &[u32],
+        written: &[u32],
+    )
+        requires valid { IsValid plan.now }
+        requires going { IsGoing plan.now old.now self.old [] }
+        requires touched { SameBeside touched.now old.now.user new.now.user }
+        requires written { SameBeside written.now old.now.written new.now.written }
+        ensures { HasKept plan.now old.now new.now self.old self.new }
+    {
+        self.breaker.clear();
+        self.log
+            .keep_at(old, new, touched, written, &mut self.taken);
         wake_dropped(
             plan,
             &self.readers,

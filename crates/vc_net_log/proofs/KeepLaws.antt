@@ -177,7 +177,8 @@ module _ (stood : Stood) (fact : Fact) (more : List Fact) (apart : AreApart stoo
       let whole = places_of index (stood.facts ++ fact ∷ more) in
       let all : length whole ≤ count
       = length-le_from_distinct_below whole count apart.once
-      (λ p h. ltb-true p count (all_at nat_eq number_exact number_itself (λ q. nat_lt q count) whole p apart.below h)) in
+      (λ p h. ltb-true p count
+      (all_at nat_eq number_exact number_itself (λ q. nat_lt q count) whole p apart.below h)) in
       let long = length-append stood.facts (fact ∷ more) in
       let mapped : length whole ≡ length (stood.facts ++ fact ∷ more)
       = length-map (stood.facts ++ fact ∷ more) (λ (f : Fact). place_in index f.atom) in

@@ -27,6 +27,10 @@ stands_by stood begins counts cells log is =
     (sym (same_facts stood begins counts cells stood.facts))
     ∙ ap stood_of is
 
+pub facts_by : (stood : Stood) (begins counts cells : List ℕ) (log : Logged) → log_kept stood begins counts cells ≡ log
+    → stood.facts ≡ facts_of log.steps
+facts_by stood begins counts cells log is = ap (λ (s : Stood). s.facts) (stands_by stood begins counts cells log is)
+
 pub concludes : (stood : Stood) (begins counts cells : List ℕ) (log : Logged) → log_kept stood begins counts cells ≡ log
     → atoms_of stood.facts ≡ concluded log.steps
 concludes stood begins counts cells log is =

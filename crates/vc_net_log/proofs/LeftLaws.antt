@@ -67,7 +67,8 @@ pub buffered : (buffer cleared filled : Filled Fact) (facts : List Fact) → cle
 buffered buffer cleared filled facts e f few =
     f ∙ (ap (λ b. with_items b facts) e
     ∙ ap (λ b. let whole : Filled Fact = record { items = facts; room = buffer.room } in
-    if b then whole else emptied buffer) (le-leb (length {A = Fact} [] + length facts) buffer.room (omega (arith, few))))
+    if b then whole else emptied buffer)
+    (le-leb (length {A = Fact} [] + length facts) buffer.room (omega (arith, few))))
 
 module _ (stood : Stood) (begins counts cells outs : List ℕ) (kept : IsKept stood begins counts cells outs)
     (log : Logged) (is : log_kept stood begins counts cells ≡ log) (old new : Sources)

@@ -1,4 +1,5 @@
 pub mod ComingLaws
+pub mod FirstLaws
 pub mod HoldLaws
 pub mod KeepLaws
 pub mod KeptLaws
@@ -11,6 +12,7 @@ pub mod OutLaws
 pub mod PremiseLaws
 pub mod PushLaws
 pub mod ScanLaws
+pub mod SourceLaws
 pub mod StayLaws
 pub mod StayRows
 pub mod WritingLaws

@@ -1,8 +1,9 @@
 -- The facts that stay, found by their places, are those of the steps that are kept, and cite each other by new numbers.
 use Rattle.std.proofs.Common.{◌≡◌, ℕ, zero, suc, ◌+◌, ◌<◌, ◌⊎◌, Bool, true, false, cond, not, ◌&&◌, ◌||◌, List, []}
-use Rattle.std.proofs.Common.{◌∷◌, ◌++◌, length, map, refl, sym, ◌∙◌, ap, subst, inl, inr, arith, append_assoc, append-nil}
+use Rattle.std.proofs.Common.{◌∷◌, ◌++◌, length, map, refl, sym, ◌∙◌, ap, subst, inl, inr, arith, append_assoc}
+use Rattle.std.proofs.Common.{append-nil}
 use Rattle.std.proofs.Common.{length-append}
-use Rattle.std.specs.Prelude.{Option, None, Some, get_or, if◌then◌else◌, nat_eq, nat_lt, slice_get}
+use Rattle.std.specs.Prelude.{Option, None, Some, get_or, if◌then◌else◌, nat_eq, nat_lt, position, slice_get}
 use Rattle.std.specs.List.{AllByRecursion, IsDistinct, list_all, position_or_len}
 use Rattle.std.proofs.lemmas.Bool.{and_from, and_parts, ltb-true, or_parts}
 use Rattle.std.proofs.lemmas.List.{length-map, map-append}
@@ -11,6 +12,7 @@ use Rattle.std.proofs.lemmas.Option.{slice_get-get_or}
 use Rattle.vc_base.specs.Kept.{kept, kept_number, new_numbers, new_premises, with_step, number_for, count_with}
 use Rattle.vc_base.specs.Chains.{before_all, cites_earlier}
 use Rattle.vc_base.specs.Sets.{has}
+use Rattle.vc_base.proofs.ChainLaws.{get_has}
 use Rattle.vc_base.proofs.KeptLaws.{get_end}
 use Rattle.vc_base.proofs.ListLaws.{number_exact, number_itself}
 use Rattle.vc_base.proofs.SetLaws.{both, has_back, has_first, has_front, has_more, told}
@@ -55,6 +57,15 @@ once_only (q ∷ ps) (suc n) zero p once e f =
     let is : q ≡ p = cc in
     absurd (both (subst (λ y. nat_eq q y ≡ true) is (number_itself q)) (all_get q ps n p once.0 e))
 once_only (q ∷ ps) (suc n) (suc m) p once e f = ap suc (once_only ps n m p once.1 e f)
+
+-- a number that stands once among others stands first where it stands
+pub one_place : (ps : List ℕ) (n p : ℕ) → IsDistinct nat_eq ps → slice_get ps n ≡ Some p
+    → position (nat_eq p) ps ≡ Some n
+unfolding number_there
+one_place ps n p once e =
+    let h = get_has nat_eq number_exact number_itself ps n p e in
+    let r = number_there ps p h in
+    found_first (nat_eq p) ps h ∙ ap Some (once_only ps r.0 n p once r.2 e)
 
 -- a list with one more
 get_past : {X : Type 0} (xs : List X) → slice_get xs (length xs) ≡ None
@@ -141,7 +152,8 @@ module _ (index : Index) (old new : Sources) (needs : Fact → List ℕ) (facts 
   abbrev pub NeedsThere : List Fact → Type 0
   NeedsThere rest = list_all (λ fact. list_all (has nat_eq all) (needs fact)) rest ≡ true
 
-  places_more : (before more : List Fact) → places_of index (before ++ more) ≡ places_of index before ++ places_of index more
+  places_more : (before more : List Fact) → places_of index (before ++ more)
+      ≡ places_of index before ++ places_of index more
   places_more before more = map-append (λ (f : Fact). place_in index f.atom) before more
 
   -- the new number of what stands at a place, where it stayed
@@ -298,7 +310,8 @@ module _ (index : Index) (old new : Sources) (needs : Fact → List ℕ) (facts 
       split_next (long_next (Some (suc count))) counts_next
       (subst (λ n. AreNumbers (numbers ++ Some (suc n) ∷ []) (before ++ fact ∷ [])) (sym counts)
       (numbers_keep numbers before fact are here)) parts.1)
-      (staying_is_kept (numbers ++ None ∷ []) count (done ++ at fact ∷ []) before rest split_next (long_next None) counts
+      (staying_is_kept (numbers ++ None ∷ []) count (done ++ at fact ∷ []) before rest split_next
+      (long_next None) counts
       (numbers_drop numbers before fact are here) parts.1)
     where
       parts : (list_all (has nat_eq all) (needs fact) ≡ true) × NeedsThere rest

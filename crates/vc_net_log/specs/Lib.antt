@@ -1,4 +1,5 @@
 pub mod Coming
+pub mod Differing
 pub mod Going
 pub mod Keeping
 pub mod Laws

@@ -1,12 +1,13 @@
 //! Which facts stay when sources change.
 
-ghost use Rattle.std.specs.Prelude.{◌≡◌, ◌<◌, ◌≤◌, drop, length, option_map};
-ghost use Rattle.std.specs.List.{position_or_len};
+ghost use Rattle.std.specs.Prelude.{◌≡◌, ◌<◌, ◌≤◌, true, drop, length, nat_eq, option_map, slice_get};
+ghost use Rattle.std.specs.List.{IsDistinct, position_or_len};
 ghost use Rattle.vc_plan_reasons.specs.Checking.{var_of};
 ghost use Rattle.vc_plan_reasons.specs.Keeping.{entry_differs, same_entry, same_mark, same_user, user_differs};
 ghost use Rattle.vc_plan_sources.specs.Changes.{entry_from};
 ghost use Rattle.vc_net_places.specs.Places.{place_in};
-ghost use Rattle.vc_net_standing.specs.Standing.{atoms_of};
+ghost use Rattle.vc_net_standing.specs.Standing.{atoms_of, places_of};
+ghost use Rattle.vc_net_log.specs.Differing.{SameBeside, are_givable, gone_at, least_gone, number_if_gone};
 ghost use Rattle.vc_net_log.specs.Keeping.{IsCounted};
 ghost use Rattle.vc_net_log.specs.Staying.{AreApart, HasCells, all_stand, differs, needed, staying, stays};
 ghost use Rattle.vc_net_log.specs.Staying.{with_facts};
@@ -109,8 +110,7 @@ pub fn differs(old: &Sources, new: &Sources, fact: Fact) -> bool
 
 /// The number of the first fact whose source differs, counted from 0; of all, where none does.
 pub fn first_gone(facts: &[Fact], old: &Sources, new: &Sources) -> usize
-    ensures first { result ≡ position_or_len (differs old.now new.now) facts.now }
-    ensures few { result ≤ length facts.now }
+    ensures { result ≡ position_or_len (differs old.now new.now) facts.now }
 {
     let mut first = 0;
     let mut rest = facts;
@@ -122,6 +122,66 @@ pub fn first_gone(facts: &[Fact], old: &Sources, new: &Sources) -> usize
         rest = more;
     }
     first
+}
+
+/// The same, where the user's values differ for the first variables at most, and what is written for the second. No
+/// fact is looked at but those of these variables' values.
+pub fn first_gone_at(
+    standing: &Standing,
+    old: &Sources,
+    new: &Sources,
+    touched: &[u32],
+    written: &[u32],
+) -> usize
+    requires once { IsDistinct nat_eq (places_of standing.now.index standing.now.facts) }
+    requires givable { are_givable standing.now.facts ≡ true }
+    requires touched { SameBeside touched.now old.now.user new.now.user }
+    requires written { SameBeside written.now old.now.written new.now.written }
+    ensures { result ≡ position_or_len (differs old.now new.now) standing.now.facts }
+{
+    let by_users = least_gone(standing, old, new, touched, standing.facts().len());
+    least_gone(standing, old, new, written, by_users)
+}
+
+// The least of the number and those of the facts that are values of the variables and whose source differs.
+fn least_gone(
+    standing: &Standing,
+    old: &Sources,
+    new: &Sources,
+    vars: &[u32],
+    number: usize,
+) -> usize
+    ensures { result ≡ least_gone standing.now.index (differs old.now new.now) standing.now.facts number vars.now }
+{
+    let mut least = number;
+    let mut rest = vars;
+    while let [var, more @ ..] = rest {
+        least = least.min(gone_at(standing, old, new, *var));
+        rest = more;
+    }
+    least
+}
+
+// The number of the fact that is the variable's value, where its source differs; of all, where there is none.
+fn gone_at(standing: &Standing, old: &Sources, new: &Sources, var: u32) -> usize
+    ensures { result ≡ gone_at standing.now.index (differs old.now new.now) standing.now.facts var }
+{
+    let facts = standing.facts();
+    match standing.number_by_place(standing.places().first(var)) {
+        Some(number) => number_if_gone(facts, old, new, number),
+        None => facts.len(),
+    }
+}
+
+// The number, where the source of the fact of this number differs; of all, where it doesn't.
+fn number_if_gone(facts: &[Fact], old: &Sources, new: &Sources, number: usize) -> usize
+    ensures { result ≡ number_if_gone (differs old.now new.now) (length facts.now) number
+        (slice_get facts.now number) }
+{
+    match facts.get(number) {
+        Some(fact) if differs(old, new, *fact) => number,
+        _ => facts.len(),
+    }
 }
 
 /// The facts from this number on.

@@ -3,7 +3,7 @@
 use crate::cells::{premises_at, write_places};
 use crate::coming::{may_come_here, may_come_is, may_come_out};
 use crate::counting::{count_less, count_one_more};
-use crate::keeping::{facts_from, first_gone, put_back};
+use crate::keeping::{facts_from, first_gone, first_gone_at, put_back};
 use crate::steps::{number_at, steps_of};
 use std::alloc::{AllocError, Global};
 use std::marker::Model;
@@ -41,6 +41,7 @@ impl Model for Log {
 
 impl Log {
     ghost use Rattle.std.specs.Prelude.{◌≡◌, ◌++◌, ◌^◌, ◌<◌, ◌≤◌, ◌∷◌, [], true, length, map, position, IfOk};
+    ghost use Rattle.std.specs.List.{position_or_len};
     ghost use Rattle.vc_base.specs.Sets.{has, Within};
     ghost use Rattle.vc_plan.specs.Clear.{is_clear};
     ghost use Rattle.vc_plan.specs.Domains.{atom_count};
@@ -50,6 +51,8 @@ impl Log {
     ghost use Rattle.vc_net_places.specs.Places.{index_of, place_in};
     ghost use Rattle.vc_net_standing.specs.Standing.{is_free};
     ghost use Rattle.vc_net_log.specs.Coming.{are_by_slot};
+    ghost use Rattle.vc_net_log.specs.Differing.{SameBeside, are_givable};
+    ghost use Rattle.vc_net_log.specs.Staying.{differs};
     ghost use Rattle.vc_net_log.specs.Logs.{facts_of, nothing_logged, room_at, seen_by, set_of, stood_of, with_step};
     ghost use Rattle.vc_net_log.specs.Numbers.{number_by_place, premises_of};
     ghost use Rattle.vc_net_log.specs.Going.{WereTaken, with_steps};
@@ -183,7 +186,42 @@ impl Log {
         ensures taken { WereTaken self.old.steps self.new.steps taken.new.items }
         ensures room { taken.new.room ≡ taken.old.room }
     {
-        let first = first_gone(self.standing.facts(), old, new);
+        let first = first_gone(self.facts(), old, new);
+        self.keep_from(first, old, new, taken);
+    }
+
+    /// The same with other sources of which the user's values differ for the first variables at most, and what is
+    /// written for the second. No step in front of the first that goes is gone through.
+    pub fn keep_at(
+        &mut self,
+        old: &Sources,
+        new: &Sources,
+        touched: &[u32],
+        written: &[u32],
+        taken: &mut Bounded<Fact>,
+    )
+        requires room { length self.old.steps ≤ taken.old.room }
+        requires earlier { cites_earlier step_form 1 self.old.steps ≡ true }
+        requires givable { are_givable (facts_of self.old.steps) ≡ true }
+        requires touched { SameBeside touched.now old.now.user new.now.user }
+        requires written { SameBeside written.now old.now.written new.now.written }
+        ensures kept { self.new ≡ with_steps self.old (kept_of old.now new.now self.old.steps) }
+        ensures taken { WereTaken self.old.steps self.new.steps taken.new.items }
+        ensures room { taken.new.room ≡ taken.old.room }
+    {
+        let first = first_gone_at(&self.standing, old, new, touched, written);
+        self.keep_from(first, old, new, taken);
+    }
+
+    // Keeps what stays; the first whose source differs is of this number.
+    fn keep_from(&mut self, first: usize, old: &Sources, new: &Sources, taken: &mut Bounded<Fact>)
+        requires first { first ≡ position_or_len (differs old.now new.now) (facts_of self.old.steps) }
+        requires room { length self.old.steps ≤ taken.old.room }
+        requires earlier { cites_earlier step_form 1 self.old.steps ≡ true }
+        ensures kept { self.new ≡ with_steps self.old (kept_of old.now new.now self.old.steps) }
+        ensures taken { WereTaken self.old.steps self.new.steps taken.new.items }
+        ensures room { taken.new.room ≡ taken.old.room }
+    {
         taken.clear();
         taken.extend(facts_from(self.standing.facts(), first));
         count_less(taken.as_slice(), &mut self.outs);

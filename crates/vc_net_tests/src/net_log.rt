@@ -1,6 +1,6 @@
 //! The log of a slot with one variable of two texts.
 
-ghost use Rattle.std.specs.Prelude.{◌≡◌, false, true, [], ◌∷◌, IfOk};
+ghost use Rattle.std.specs.Prelude.{◌≡◌, false, true, [], ◌∷◌, length, IfOk, None};
 ghost use Rattle.vc_value.specs.declared.table_header.Domain.TheVariants.{Texts};
 ghost use Rattle.vc_plan.specs.declared.atoms.Atom.TheVariants.{Out};
 ghost use Rattle.vc_plan.specs.Clear.{is_clear};
@@ -19,6 +19,8 @@ use vc_net_log::Log;
 use vc_net_log::laws::{new_steps_are_free, premises_are_cited, rooms_are_bounds, steps_conclude};
 use vc_net_standing::Fact;
 use vc_plan::{Atom, Origin, Plan, Step, View, plans};
+use vc_plan_sources::Sources;
+use vc_rule_yield::Bounded;
 use vc_value::{Domain, Listed, Value, Word};
 
 fn domains<R: Abort>(rt: &R, alloc: Global) -> Listed<Domain>
@@ -48,6 +50,7 @@ fn variables<R: Abort>(rt: &R, alloc: Global) -> Listed<plans::Var>
 }
 
 fn plan_of_one<R: Abort>(rt: &R, alloc: Global) -> Plan
+    ensures vars { length result.vars ≡ 1 }
     ensures few { atom_count result ≡ 4 }
     ensures ordered { are_by_slot result.vars ≡ true }
     ensures clear { is_clear result (set_with []) ≡ true }
@@ -210,6 +213,45 @@ fn begins_anew(rt: HostRuntime) -> Result<(), Fail> {
     drop(log);
     assert_eq!(rt; told, [true, false, false, true, false, false]);
     assert_eq!(rt; found, (None, None, 0));
+    Ok(())
+}
+
+fn sources_of<R: Abort>(rt: &R, alloc: Global, value: Option<Value>) -> Sources
+    ensures users { length result.user ≡ 1 }
+    ensures written { result.written ≡ None ∷ [] }
+{
+    let plan = plan_of_one(rt, alloc);
+    let mut sources = Sources::new(alloc, &plan).expect(rt, "memory");
+    drop(plan);
+    sources.set_user(0, value);
+    sources
+}
+
+// How many facts are left, and how many were taken, when the user takes the value back.
+fn left_without<R: Abort>(rt: &R, alloc: Global) -> (usize, usize) {
+    let old = sources_of(rt, alloc, Some(Value::Text(1)));
+    let new = sources_of(rt, alloc, None);
+    let mut taken = Bounded::new(alloc, 4).expect(rt, "memory");
+    let mut log = log_of_one(rt, alloc);
+    log.push(
+        Fact {
+            atom: Atom::Is(0, Value::Text(1)),
+            origin: Origin::User,
+        },
+        &[],
+    );
+    log.keep_at(&old, &new, &[0], &[], &mut taken);
+    let counts = (log.count(), taken.len());
+    drop(log);
+    drop(taken);
+    drop(new);
+    drop(old);
+    counts
+}
+
+#[test]
+fn lets_go_what_the_user_takes_back(rt: HostRuntime) -> Result<(), Fail> {
+    assert_eq!(rt; left_without(&rt, rt.alloc()), (0, 1));
     Ok(())
 }
 

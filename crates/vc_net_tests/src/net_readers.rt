@@ -10,6 +10,7 @@ use std::test::Fail;
 use vc_net_places::Places;
 use vc_net_readers::Readers;
 use vc_net_readers::laws::woken_are_asked;
+use vc_net_readers::touching::touches;
 use vc_plan::{Condition, Kind, Plan, Relation, Rule, Slot, Term, Var};
 use vc_value::{Domain, Listed, Value, Word};
 
@@ -76,6 +77,7 @@ fn rules<R: Abort>(rt: &R, alloc: Global) -> Listed<Rule>
 fn plan_of_two<R: Abort>(rt: &R, alloc: Global) -> Plan
     ensures counted { atom_count result < 2 ^ 32 }
     ensures rules { length result.rules ≡ 2 }
+    ensures vars { length result.vars ≡ 2 }
 {
     let mut slots = Listed::new(alloc);
     slots
@@ -118,6 +120,13 @@ fn readers_of_two<R: Abort>(rt: &R, alloc: Global) -> Readers {
     readers.expect(rt, "memory")
 }
 
+fn is_touched<R: Abort>(rt: &R, alloc: Global, rule: u32, var: u32) -> bool {
+    let plan = plan_of_two(rt, alloc);
+    let is_touched = touches(&plan, rule, var);
+    drop(plan);
+    is_touched
+}
+
 fn at(list: &[u32], place: usize) -> Option<u32> {
     list.get(place).copied()
 }
@@ -129,13 +138,28 @@ fn a_rule_waits_for_its_value(rt: HostRuntime) -> Result<(), Fail> {
     assert_eq!(rt; at(readers.of_slot(0), 1), Some(1));
     assert_eq!(rt; at(readers.of_slot(0), 2), None);
     assert_eq!(rt; at(readers.of_slot(1), 0), None);
-    assert_eq!(rt; at(readers.of_var(0), 0), Some(1));
-    assert_eq!(rt; at(readers.of_var(0), 1), None);
+    assert_eq!(rt; at(readers.of_var(0), 1), Some(1));
     assert_eq!(rt; at(readers.of_var(1), 0), Some(0));
+    assert_eq!(rt; at(readers.of_var(1), 1), None);
     assert_eq!(rt; at(readers.of_var(2), 0), None);
+    assert_eq!(rt; at(readers.free(0), 0), Some(1));
+    assert_eq!(rt; at(readers.free(0), 1), None);
+    assert_eq!(rt; at(readers.free(1), 0), None);
+    assert_eq!(rt; at(readers.awaited(0), 0), Some(0));
+    assert_eq!(rt; at(readers.awaited(1), 0), Some(0));
+    assert_eq!(rt; at(readers.awaited(1), 1), None);
+    assert_eq!(rt; at(readers.awaited(2), 0), None);
     assert_eq!(rt; at(readers.waiting(2), 0), None);
     assert_eq!(rt; at(readers.waiting(3), 0), Some(0));
     assert_eq!(rt; at(readers.waiting(7), 0), None);
     woken_are_asked();
+    Ok(())
+}
+
+#[test]
+fn a_rule_touches_what_it_reads_and_writes(rt: HostRuntime) -> Result<(), Fail> {
+    assert!(rt; is_touched(&rt, rt.alloc(), 0, 0));
+    assert!(rt; is_touched(&rt, rt.alloc(), 0, 1));
+    assert!(rt; !is_touched(&rt, rt.alloc(), 1, 1));
     Ok(())
 }

@@ -14,7 +14,8 @@ pub returns-in-Broken-clause-settled : goal.returns-in-Broken-clause-settled
 returns-in-Broken-clause-settled g c =
     subst (λ agenda. IsSettled c.args.plan.now c.args.sources.now (with_agenda c.turn.new.work agenda))
     (sym c.push.ensures)
-    (work_is_broken c.args.plan.now c.args.sources.now _ c.turn.new.work (meant c.in-Some.giver) c.in-Broken.ensures.ends)
+    (work_is_broken c.args.plan.now c.args.sources.now _ c.turn.new.work
+    (meant c.in-Some.giver) c.in-Broken.ensures.ends)
 
 pub returns-clause-settled : goal.returns-clause-settled
 returns-clause-settled g c =

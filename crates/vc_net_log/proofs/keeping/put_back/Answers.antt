@@ -42,7 +42,8 @@ loop-rest-preserved-then-stays c =
       subst (λ s. AreApart s (take (length c.loop-rest.rest.now - 1) (drop 1 c.loop-rest.rest.now)))
           (sym c.put.ensures)
           (apart_with stood (get_or c.loop-rest.rest.now 0 nobody)
-          (take (length c.loop-rest.rest.now - 1) (drop 1 c.loop-rest.rest.now)) (first_apart stood c.loop-rest.rest.now nobody c.in-len1-up.len_at_least
+          (take (length c.loop-rest.rest.now - 1) (drop 1 c.loop-rest.rest.now))
+          (first_apart stood c.loop-rest.rest.now nobody c.in-len1-up.len_at_least
           c.loop-rest.invariant.2)),
       counted_here stood c.loop-rest.rest.now nobody c.in-len1-up.len_at_least c.put.new.self.facts c.loop-rest.outs
           c.count_one_more.new.outs more c.count_one_more.ensures c.loop-rest.invariant.3,
@@ -63,7 +64,8 @@ loop-rest-preserved c =
           ∙ (sym c.stays.ensures ∙ c.if-stays.false))
           ∙ c.loop-rest.invariant.1,
       apart_without stood (get_or c.loop-rest.rest.now 0 nobody)
-          (take (length c.loop-rest.rest.now - 1) (drop 1 c.loop-rest.rest.now)) (first_apart stood c.loop-rest.rest.now nobody c.in-len1-up.len_at_least
+          (take (length c.loop-rest.rest.now - 1) (drop 1 c.loop-rest.rest.now))
+          (first_apart stood c.loop-rest.rest.now nobody c.in-len1-up.len_at_least
           c.loop-rest.invariant.2),
       c.loop-rest.invariant.3,
       c.loop-rest.invariant.4,

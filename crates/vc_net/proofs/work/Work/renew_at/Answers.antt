@@ -9,7 +9,7 @@ use Rattle.vc_net.proofs.work.Work.renew_at.Goals as goal
 
 asked : (c : goal.After-wake_among-2)
     → c.wake_among-2.new.agenda
-    ≡ with_givers c.keep.new.self.agenda
+    ≡ with_givers c.keep_at.new.self.agenda
     (changed_among c.args.old.now c.args.new.now c.args.touched.now
     ++ changed_among c.args.old.now c.args.new.now c.args.written.now)
 asked c =
@@ -17,7 +17,7 @@ asked c =
     let written = changed_among c.args.old.now c.args.new.now c.args.written.now in
     c.wake_among-2.ensures
     ∙ (ap (λ a. with_givers a written) c.wake_among.ensures
-    ∙ sym (both_parts c.keep.new.self.agenda touched written))
+    ∙ sym (both_parts c.keep_at.new.self.agenda touched written))
 
 pub returns-clause-going : goal.returns-clause-going
 returns-clause-going c =
@@ -26,7 +26,7 @@ returns-clause-going c =
     let new = c.args.new.now in
     let touched = c.args.touched.now in
     let written = c.args.written.now in
-    goes_on_with plan old new c.args.self.now c.keep.new.self c.requires.going c.keep.ensures
+    goes_on_with plan old new c.args.self.now c.keep_at.new.self c.requires.going c.keep_at.ensures
     (changed_among old new touched ++ changed_among old new written)
     (changes_among plan old new touched written c.requires.lengths c.requires.others c.requires.touched
     c.requires.written)
@@ -39,14 +39,14 @@ returns-clause-behind c =
     let new = c.args.new.now in
     let touched = c.args.touched.now in
     let written = c.args.written.now in
-    stays_behind plan old new c.args.self.now c.keep.new.self c.requires.going c.keep.ensures
+    stays_behind plan old new c.args.self.now c.keep_at.new.self c.requires.going c.keep_at.ensures
     (changed_among old new touched ++ changed_among old new written)
     (changes_among plan old new touched written c.requires.lengths c.requires.others c.requires.touched
     c.requires.written)
     c.wake_among-2.new.agenda (asked c) c.requires.valid
 
 pub returns-clause-kept : goal.returns-clause-kept
-returns-clause-kept c = c.keep.ensures.kept
+returns-clause-kept c = c.keep_at.ensures.kept
 
 pub returns-clause-calm : goal.returns-clause-calm
-returns-clause-calm c = c.keep.ensures.calm
+returns-clause-calm c = c.keep_at.ensures.calm
