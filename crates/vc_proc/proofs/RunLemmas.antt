@@ -1,18 +1,20 @@
 -- What procedures write one after another: what was written so far and what is to come are all of it.
 use Rattle.std.proofs.Common.{◌≡◌, ℕ, zero, suc, ◌+◌, ◌-◌, ◌<◌, ◌≤◌, Bool, true, false, List, [], ◌∷◌, ◌++◌, length}
 use Rattle.std.proofs.Common.{drop, get_or, refl, sym, ◌∙◌, ap, arith}
-use Rattle.std.specs.Prelude.{if◌then◌else◌, flat_map, reverse, slice_get}
+use Rattle.std.specs.Prelude.{◌&&◌, ◌==◌, if◌then◌else◌, not, flat_map, reverse, slice_get, Option, None, Some}
 use Rattle.std.specs.List.{filter, range_with_len}
+use Rattle.std.proofs.lemmas.Bool.{eqb-true}
 use Rattle.std.proofs.lemmas.List.{reverse-append}
 use Rattle.std.proofs.lemmas.List.Elements.{filter-append}
 use Rattle.vc_base.proofs.ListLaws.{range_split}
 use Rattle.vc_plan.specs.declared.plans.Plan.{Plan}
+use Rattle.vc_plan.specs.declared.procedures.Procedure.{Procedure}
 use Rattle.vc_plan.specs.declared.procedures.Statement.{Statement}
 use Rattle.vc_plan.specs.Domains.{numbers_below}
 use Rattle.vc_plan.specs.Entries.{Entries}
 use Rattle.vc_plan.specs.Seen.{Seen}
 use Rattle.vc_plan.specs.Statements.{all_stated, stated}
-use Rattle.vc_plan.specs.Writes.{all_run, run_procedure}
+use Rattle.vc_plan.specs.Writes.{all_run, is_at, is_summing, run_procedure}
 
 range_next : (g n : ℕ) → g < n → range_with_len g (n - g) ≡ g ∷ range_with_len (g + 1) (n - (g + 1))
 range_next g n below = let more : n - g ≡ suc (n - (g + 1)) = omega (arith, below) in ap (range_with_len g) more
@@ -98,10 +100,39 @@ module _ (plan : Plan) (seen : Seen) (holds : ℕ → ℕ → Bool) where
       ∙ (ap (λ gs. all_run plan seen holds (flat_map f gs) old) (sym (last_first q (g - 1)))
       ∙ ap (λ k. all_run plan seen holds (flat_map f (reverse (filter q (numbers_below k)))) old) back))
 
+-- where none before a number passes, those that pass from there on are all
+pub filter_from : (q : ℕ → Bool) (s n : ℕ) → s ≤ n → ((k : ℕ) → k < s → q k ≡ false)
+    → filter q (range_with_len s (n - s)) ≡ filter q (range_with_len 0 n)
+filter_from q zero n low out = let whole : n - 0 ≡ n = omega arith in ap (λ m. filter q (range_with_len 0 m)) whole
+filter_from q (suc s) n low out =
+    let next : s + 1 ≡ suc s = omega arith in
+    let rest = filter q (range_with_len (s + 1) (n - (s + 1))) in
+    ap (λ t. filter q (range_with_len t (n - t))) (sym next)
+    ∙ (sym (ap (filter q) (range_next s n (omega (arith, low)))
+    ∙ ap (λ b. if b then s ∷ rest else rest) (out s (omega arith)))
+    ∙ filter_from q s n (omega (arith, low)) (λ k h. out k (omega (arith, h))))
+
+-- and where none from there on passes, there is none
+pub filter_past : (q : ℕ → Bool) (m s : ℕ) → ((k : ℕ) → s ≤ k → q k ≡ false) → filter q (range_with_len s m) ≡ []
+filter_past q zero s out = refl
+filter_past q (suc m) s out =
+    let rest = filter q (range_with_len (s + 1) m) in
+    ap (λ b. if b then s ∷ rest else rest) (out s (omega arith))
+    ∙ filter_past q m (s + 1) (λ k h. out k (omega (arith, h)))
+
+-- a procedure of another slot isn't one of the slot's
+pub other_slot : (plan : Plan) (summing : Bool) (slot : ℕ) (o : Option Procedure)
+    → ((procedure : Procedure) → o ≡ Some procedure → procedure.slot ≡ slot → ⊥) → is_at plan summing slot o ≡ false
+other_slot plan summing slot None apart = refl
+other_slot plan summing slot (Some procedure) apart =
+    by (procedure.slot == slot) refl (if is_summing plan procedure then summing else not summing)
+  where
+    by : (b : Bool) → (procedure.slot == slot) ≡ b → (c : Bool) → (b && c) ≡ false
+    by true e c = absurd (apart procedure refl (eqb-true procedure.slot slot e))
+    by false e c = refl
+
 pub range_done : (g n : ℕ) → n ≤ g → range_with_len g (n - g) ≡ []
 range_done g n past = let none : n - g ≡ 0 = omega (arith, past) in ap (range_with_len g) none
-
-pub ruleset running = (runs_next)
 
 pub ruleset ascending = (slots_next)
 

@@ -1,13 +1,15 @@
 -- Laws of what is written before a stage.
-use Rattle.std.proofs.Common.{◌≡◌, ℕ, zero, suc, ◌+◌, ◌-◌, ◌<◌, ◌≤◌, ◌^◌, Bool, true, false, not, ◌&&◌, List, ◌∷◌}
+use Rattle.std.proofs.Common.{◌≡◌, ℕ, zero, suc, ◌+◌, ◌-◌, ◌<◌, ◌≤◌, ◌^◌, Bool, true, false, not, ◌&&◌, List, [], ◌∷◌}
 use Rattle.std.proofs.Common.{length, refl, sym, ◌∙◌, ap, inl, inr, arith}
-use Rattle.std.specs.Prelude.{◌==◌, if◌then◌else◌, flat_map, reverse, slice_index_or}
-use Rattle.std.specs.List.{filter, range_with_len}
-use Rattle.std.proofs.lemmas.Bool.{leb-true, ltb-true}
+use Rattle.std.specs.Prelude.{◌||◌, ◌==◌, nat_le, nat_lt, if◌then◌else◌, flat_map, reverse, slice_index_or}
+use Rattle.std.specs.List.{filter, list_all, range_with_len}
+use Rattle.std.proofs.lemmas.Bool.{and_parts, eqb-true, le-leb, leb-true, ltb-true}
 use Rattle.std.proofs.lemmas.Bool.Decides.{eqb_tells}
 use Rattle.vc_plan.specs.declared.atoms.Atom.{Atom}
 use Rattle.vc_plan.specs.declared.plans.Plan.{Plan}
+use Rattle.vc_plan.specs.Classes.{are_procedures_in_order, is_not_behind, trigger_place}
 use Rattle.vc_plan.specs.Domains.{atom_count}
+use Rattle.vc_plan.specs.Orders.{are_in_order}
 use Rattle.vc_plan.specs.Seen.{Seen, seen_of}
 use Rattle.vc_plan.specs.Writes.{all_run, instances_at, last_stage, procedures_at, was_here}
 use Rattle.vc_rule_readings.proofs.PartLemmas.{valid_sums_fit}
@@ -18,12 +20,38 @@ use Rattle.vc_proc.specs.Stages.{depth_written, sums_written, unflagged}
 use Rattle.vc_proc.proofs.LyingLemmas.{all_run_long}
 use Rattle.vc_proc.proofs.OverlayLemmas.{none_each}
 
+-- what comes in one order comes in another that it implies
+module _ {X : Type 0} (before after : X → X → Bool) (so : (x y : X) → before x y ≡ true → after x y ≡ true) where
+  all_so : (x : X) (xs : List X) → list_all (before x) xs ≡ true → list_all (after x) xs ≡ true
+  all_so x [] e = refl
+  all_so x (y ∷ ys) e =
+      let both = and_parts (before x y) (list_all (before x) ys) e in
+      ap (λ b. b && list_all (after x) ys) (so x y both.0) ∙ all_so x ys both.1
+
+  in_order_so : (xs : List X) → are_in_order before xs ≡ true → are_in_order after xs ≡ true
+  in_order_so [] e = refl
+  in_order_so (x ∷ xs) e =
+      let both = and_parts (list_all (before x) xs) (are_in_order before xs) e in
+      ap (λ b. b && are_in_order after xs) (all_so x xs both.0) ∙ in_order_so xs both.1
+
+not_behind : (m n : ℕ) (b : Bool) → (nat_lt m n || ((m == n) && b)) ≡ true → nat_le m n ≡ true
+not_behind m n b e =
+    elim (nat_lt m n) as (λ c. nat_lt m n ≡ c → (c || ((m == n) && b)) ≡ true → nat_le m n ≡ true) [
+      | true ↦ λ h f. let below = ltb-true m n h in le-leb m n (omega (arith, below))
+      | false ↦ λ h f. let same = eqb-true m n (and_parts (m == n) b f).0 in le-leb m n (omega (arith, same))
+    ]
+    refl e
+
 pub valid_can_run : ValidCanRun
 valid_can_run plan valid =
     let atoms : atom_count plan ≤ 40_000 = leb-true (atom_count plan) 40_000 valid.atom_limit in record {
       sums = valid_sums_fit plan valid;
       grains = few_grains plan (omega (arith, atoms));
       few_procedures = ltb-true (length plan.procedures) (2 ^ 32) valid.procedure_limit;
+      by_slot = in_order_so (are_procedures_in_order plan) (λ a b. nat_le a.slot b.slot)
+          (λ a b e. not_behind a.slot b.slot
+          (is_not_behind (trigger_place plan a.trigger) (trigger_place plan b.trigger)) e)
+          plan.procedures valid.procedures_in_order;
       few_statements = valid.statement_limit;
     }
 

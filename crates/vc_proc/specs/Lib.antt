@@ -1,4 +1,5 @@
 pub mod Laws
+pub mod LookingUp
 pub mod Overlays
 pub mod Stages
 pub mod Writing

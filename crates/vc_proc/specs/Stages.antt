@@ -7,14 +7,17 @@ use Rattle.vc_plan.specs.Domains.{numbers_below}
 use Rattle.vc_plan.specs.Entries.{Entries}
 use Rattle.vc_plan.specs.Seen.{Seen}
 use Rattle.vc_plan.specs.Writes.{all_run, instances_at, last_stage, procedures_at}
+use Rattle.vc_rule_readings.specs.Finding.{stands_by}
 use Rattle.vc_rule_readings.specs.Summing.{SumsFit}
 use Rattle.vc_rule_table.specs.Cells.{FewGrains}
 
--- procedures can run: what they read can be computed, and numbers of 32 bits tell grains, procedures and statements
+-- procedures can run: what they read can be computed, numbers of 32 bits tell grains, procedures and statements, and
+-- they come by their slots
 pub record CanRun (plan : Plan) : Type 0 where
   pub sums : SumsFit plan
   pub grains : FewGrains plan
   pub few_procedures : length plan.procedures < 2 ^ 32
+  pub by_slot : stands_by (λ procedure. procedure.slot) plan.procedures ≡ true
   pub few_statements : list_all (λ procedure. nat_lt (length procedure.statements) (2 ^ 32)) plan.procedures ≡ true
 
 -- what the procedures of a depth's instances write

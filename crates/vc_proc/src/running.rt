@@ -5,12 +5,14 @@ ghost use Rattle.vc_plan.specs.Pieces.{lies_in};
 ghost use Rattle.vc_plan.specs.TableRows.{cell_passes};
 ghost use Rattle.vc_plan.specs.Writes.{is_triggered, run_procedure};
 ghost use Rattle.vc_rule_terms.specs.Computing.{LiesInGrains};
+ghost use Rattle.vc_proc_look_ups.specs.LookUps.{AreLookUpsOf};
 ghost use Rattle.vc_proc.specs.Overlays.{EntriesLie};
 ghost use Rattle.vc_proc.specs.Stages.{CanRun};
 
 use crate::overlay::Overlay;
 use crate::statements::run_statements;
 use vc_plan::{Piece, Plan, Procedure, Reading, Trigger, View};
+use vc_proc_look_ups::LookUps;
 use vc_rule_readings::Beside;
 use vc_rule_terms::elements::element;
 use vc_rule_terms::lies_in;
@@ -44,11 +46,13 @@ fn is_triggered<R: Reading>(stage: &R, overlay: &Overlay, trigger: Trigger) -> b
 
 fn run_whole<R: Reading>(
     plan: &Plan,
+    look_ups: &LookUps,
     stage: &R,
     proc: u32,
     procedure: &Procedure,
     overlay: &mut Overlay,
 )
+    requires orders { AreLookUpsOf plan.now look_ups.now }
     requires can { CanRun plan.now }
     requires there { slice_get plan.now.procedures proc ≡ Some procedure.now }
     requires values { LiesInGrains plan.now (R.seen stage.now) }
@@ -58,12 +62,26 @@ fn run_whole<R: Reading>(
     ensures lie { EntriesLie plan.now overlay.new }
 {
     if is_triggered(stage, &*overlay, procedure.trigger) {
-        run_statements(plan, stage, proc, procedure.statements.as_slice(), overlay);
+        run_statements(
+            plan,
+            look_ups,
+            stage,
+            proc,
+            procedure.statements.as_slice(),
+            overlay,
+        );
     }
 }
 
 /// Runs the procedure of this number, if there is one.
-pub fn run_procedure<R: Reading>(plan: &Plan, stage: &R, proc: u32, overlay: &mut Overlay)
+pub fn run_procedure<R: Reading>(
+    plan: &Plan,
+    look_ups: &LookUps,
+    stage: &R,
+    proc: u32,
+    overlay: &mut Overlay,
+)
+    requires orders { AreLookUpsOf plan.now look_ups.now }
     requires can { CanRun plan.now }
     requires values { LiesInGrains plan.now (R.seen stage.now) }
     requires lie { EntriesLie plan.now overlay.old }
@@ -72,7 +90,7 @@ pub fn run_procedure<R: Reading>(plan: &Plan, stage: &R, proc: u32, overlay: &mu
     ensures lie { EntriesLie plan.now overlay.new }
 {
     match element(plan.procedures.as_slice(), proc) {
-        Some(procedure) => run_whole(plan, stage, proc, procedure, overlay),
+        Some(procedure) => run_whole(plan, look_ups, stage, proc, procedure, overlay),
         None => {}
     }
 }

@@ -1,12 +1,15 @@
 //! Running the procedures of a stage.
 
-ghost use Rattle.std.specs.Prelude.{◌≡◌, ◌<◌, ◌&&◌, ◌==◌, not, false, true, if◌then◌else◌, slice_get};
+ghost use Rattle.std.specs.Prelude.{◌≡◌, ℕ, ◌<◌, ◌≤◌, ◌&&◌, ◌==◌, not, false, true, if◌then◌else◌};
+ghost use Rattle.std.specs.Prelude.{length, slice_get, Some};
 ghost use Rattle.std.specs.Prelude.{slice_index_or};
 ghost use Rattle.vc_plan.specs.Evaluate.{holds};
 ghost use Rattle.vc_plan.specs.Valid.{IsValid};
 ghost use Rattle.vc_plan.specs.Writes.{all_run, depth_of, is_at, procedures_at, run_procedure};
 ghost use Rattle.vc_plan_users.specs.Choosing.{users_of};
 ghost use Rattle.vc_rule_terms.specs.Computing.{LiesInGrains};
+ghost use Rattle.vc_rule_readings.specs.Finding.{stands_by};
+ghost use Rattle.vc_proc_look_ups.specs.LookUps.{AreLookUpsOf};
 ghost use Rattle.vc_proc.specs.Overlays.{EntriesLie};
 ghost use Rattle.vc_proc.specs.Stages.{CanRun, depth_written, stage_written, sums_written};
 
@@ -14,8 +17,9 @@ use crate::overlay::Overlay;
 use crate::running::run_procedure;
 use crate::stage::Stage;
 use crate::summing::is_summing;
-use vc_plan::{Plan, Reading, View, stages};
+use vc_plan::{Plan, Procedure, Reading, View, stages};
 use vc_plan_users::UserValues;
+use vc_proc_look_ups::LookUps;
 use vc_rule_terms::elements::element;
 
 // Whether the procedure of this number is one of the slot, of the summing ones or of the others.
@@ -30,12 +34,14 @@ fn is_at(plan: &Plan, summing: bool, slot: u32, proc: u32) -> bool
 
 fn run_if_at<R: Reading>(
     plan: &Plan,
+    look_ups: &LookUps,
     stage: &R,
     summing: bool,
     slot: u32,
     proc: u32,
     overlay: &mut Overlay,
 )
+    requires orders { AreLookUpsOf plan.now look_ups.now }
     requires can { CanRun plan.now }
     requires values { LiesInGrains plan.now (R.seen stage.now) }
     requires lie { EntriesLie plan.now overlay.old }
@@ -46,13 +52,40 @@ fn run_if_at<R: Reading>(
     ensures lie { EntriesLie plan.now overlay.new }
 {
     if is_at(plan, summing, slot, proc) {
-        run_procedure(plan, stage, proc, overlay);
+        run_procedure(plan, look_ups, stage, proc, overlay);
     }
 }
 
+// Where the procedures of the slot begin: they come by their slots.
+fn begin_of(procedures: &[Procedure], slot: u32) -> usize
+    requires { stands_by (λ procedure. procedure.slot) procedures.now ≡ true }
+    ensures bound { result ≤ length procedures.now }
+    ensures before { (k : ℕ) (procedure : Procedure) → slice_get procedures.now k ≡ Some procedure → k < result
+        → procedure.slot < slot }
+{
+    procedures.partition_point(|procedure| procedure.slot < slot)
+}
+
+// Where they end.
+fn end_of(procedures: &[Procedure], slot: u32) -> usize
+    requires { stands_by (λ procedure. procedure.slot) procedures.now ≡ true }
+    ensures bound { result ≤ length procedures.now }
+    ensures after { (k : ℕ) (procedure : Procedure) → slice_get procedures.now k ≡ Some procedure → result ≤ k
+        → slot < procedure.slot }
+{
+    procedures.partition_point(|procedure| procedure.slot <= slot)
+}
+
 // Runs the slot's summing procedures, or its others, in their order.
-#[tactic(auto, using(crate::proofs::RunLemmas::running))]
-fn run_slot<R: Reading>(plan: &Plan, stage: &R, summing: bool, slot: u32, overlay: &mut Overlay)
+fn run_slot<R: Reading>(
+    plan: &Plan,
+    look_ups: &LookUps,
+    stage: &R,
+    summing: bool,
+    slot: u32,
+    overlay: &mut Overlay,
+)
+    requires orders { AreLookUpsOf plan.now look_ups.now }
     requires can { CanRun plan.now }
     requires values { LiesInGrains plan.now (R.seen stage.now) }
     requires lie { EntriesLie plan.now overlay.old }
@@ -60,8 +93,11 @@ fn run_slot<R: Reading>(plan: &Plan, stage: &R, summing: bool, slot: u32, overla
         (procedures_at plan.now summing slot) overlay.old }
     ensures lie { EntriesLie plan.now overlay.new }
 {
-    for proc in 0..plan.procedures.len() as u32 {
-        run_if_at(plan, stage, summing, slot, proc, overlay);
+    let procedures = plan.procedures.as_slice();
+    let begin = begin_of(procedures, slot) as u32;
+    let end = end_of(procedures, slot) as u32;
+    for proc in begin..end {
+        run_if_at(plan, look_ups, stage, summing, slot, proc, overlay);
     }
 }
 
@@ -80,7 +116,15 @@ fn runs_at<R: Reading>(plan: &Plan, stage: &R, depth: u32, slot: u32) -> bool
     is_of_depth(plan, depth, slot) && stage.here(slot)
 }
 
-fn run_at_depth<R: Reading>(plan: &Plan, stage: &R, depth: u32, slot: u32, overlay: &mut Overlay)
+fn run_at_depth<R: Reading>(
+    plan: &Plan,
+    look_ups: &LookUps,
+    stage: &R,
+    depth: u32,
+    slot: u32,
+    overlay: &mut Overlay,
+)
+    requires orders { AreLookUpsOf plan.now look_ups.now }
     requires can { CanRun plan.now }
     requires values { LiesInGrains plan.now (R.seen stage.now) }
     requires lie { EntriesLie plan.now overlay.old }
@@ -90,13 +134,20 @@ fn run_at_depth<R: Reading>(plan: &Plan, stage: &R, depth: u32, slot: u32, overl
     ensures lie { EntriesLie plan.now overlay.new }
 {
     if runs_at(plan, stage, depth, slot) {
-        run_slot(plan, stage, false, slot, overlay);
+        run_slot(plan, look_ups, stage, false, slot, overlay);
     }
 }
 
 // Runs the procedures of the instances of a depth, by slot number.
 #[tactic(auto, using(crate::proofs::RunLemmas::ascending))]
-fn run_depth<R: Reading>(plan: &Plan, stage: &R, depth: u32, overlay: &mut Overlay)
+fn run_depth<R: Reading>(
+    plan: &Plan,
+    look_ups: &LookUps,
+    stage: &R,
+    depth: u32,
+    overlay: &mut Overlay,
+)
+    requires orders { AreLookUpsOf plan.now look_ups.now }
     requires can { CanRun plan.now }
     requires values { LiesInGrains plan.now (R.seen stage.now) }
     requires lie { EntriesLie plan.now overlay.old }
@@ -104,7 +155,7 @@ fn run_depth<R: Reading>(plan: &Plan, stage: &R, depth: u32, overlay: &mut Overl
     ensures lie { EntriesLie plan.now overlay.new }
 {
     for slot in 0..plan.slots.len() as u32 {
-        run_at_depth(plan, stage, depth, slot, overlay);
+        run_at_depth(plan, look_ups, stage, depth, slot, overlay);
     }
 }
 
@@ -124,7 +175,15 @@ fn sums_at<R: Reading>(stage: &R, late: &[bool], slot: u32) -> bool
     stage.here(slot) && !is_late(late, slot)
 }
 
-fn run_sums_at<R: Reading>(plan: &Plan, stage: &R, late: &[bool], slot: u32, overlay: &mut Overlay)
+fn run_sums_at<R: Reading>(
+    plan: &Plan,
+    look_ups: &LookUps,
+    stage: &R,
+    late: &[bool],
+    slot: u32,
+    overlay: &mut Overlay,
+)
+    requires orders { AreLookUpsOf plan.now look_ups.now }
     requires can { CanRun plan.now }
     requires values { LiesInGrains plan.now (R.seen stage.now) }
     requires lie { EntriesLie plan.now overlay.old }
@@ -134,13 +193,20 @@ fn run_sums_at<R: Reading>(plan: &Plan, stage: &R, late: &[bool], slot: u32, ove
     ensures lie { EntriesLie plan.now overlay.new }
 {
     if sums_at(stage, late, slot) {
-        run_slot(plan, stage, true, slot, overlay);
+        run_slot(plan, look_ups, stage, true, slot, overlay);
     }
 }
 
 // Runs the summing procedures of the instances without a flag, from the last slot to the first.
 #[tactic(auto, using(crate::proofs::RunLemmas::descending))]
-fn run_sums<R: Reading>(plan: &Plan, stage: &R, late: &[bool], overlay: &mut Overlay)
+fn run_sums<R: Reading>(
+    plan: &Plan,
+    look_ups: &LookUps,
+    stage: &R,
+    late: &[bool],
+    overlay: &mut Overlay,
+)
+    requires orders { AreLookUpsOf plan.now look_ups.now }
     requires can { CanRun plan.now }
     requires values { LiesInGrains plan.now (R.seen stage.now) }
     requires lie { EntriesLie plan.now overlay.old }
@@ -150,12 +216,20 @@ fn run_sums<R: Reading>(plan: &Plan, stage: &R, late: &[bool], overlay: &mut Ove
     let mut slot = plan.slots.len() as u32;
     while slot > 0 {
         slot -= 1;
-        run_sums_at(plan, stage, late, slot, overlay);
+        run_sums_at(plan, look_ups, stage, late, slot, overlay);
     }
 }
 
 /// The same of a plan of which procedures can run, by what is read in the stage before.
-pub fn run<R: Reading>(plan: &Plan, number: u32, stage: &R, late: &[bool], overlay: &mut Overlay)
+pub fn run<R: Reading>(
+    plan: &Plan,
+    look_ups: &LookUps,
+    number: u32,
+    stage: &R,
+    late: &[bool],
+    overlay: &mut Overlay,
+)
+    requires orders { AreLookUpsOf plan.now look_ups.now }
     requires can { CanRun plan.now }
     requires number { 0 < number }
     requires values { LiesInGrains plan.now (R.seen stage.now) }
@@ -165,9 +239,9 @@ pub fn run<R: Reading>(plan: &Plan, number: u32, stage: &R, late: &[bool], overl
     ensures lie { EntriesLie plan.now overlay.new }
 {
     if number == stages(plan) - 1 {
-        run_sums(plan, stage, late, overlay);
+        run_sums(plan, look_ups, stage, late, overlay);
     } else {
-        run_depth(plan, stage, number - 1, overlay);
+        run_depth(plan, look_ups, stage, number - 1, overlay);
     }
 }
 
@@ -176,12 +250,14 @@ pub fn run<R: Reading>(plan: &Plan, number: u32, stage: &R, late: &[bool], overl
 /// write. It takes no memory.
 pub fn run_stage<V: View>(
     plan: &Plan,
+    look_ups: &LookUps,
     stage: u32,
     view: &V,
     late: &[bool],
     users: &UserValues,
     overlay: &mut Overlay,
 )
+    requires orders { AreLookUpsOf plan.now look_ups.now }
     requires valid { IsValid plan.now }
     requires stage { 0 < stage }
     requires values { LiesInGrains plan.now (V.seen view.now) }
@@ -190,5 +266,5 @@ pub fn run_stage<V: View>(
         overlay.old }
     ensures lie { EntriesLie plan.now overlay.new }
 {
-    run(plan, stage, &Stage { view, users }, late, overlay);
+    run(plan, look_ups, stage, &Stage { view, users }, late, overlay);
 }

@@ -9,6 +9,7 @@ ghost use Rattle.vc_plan.specs.Truth.{number_of_value};
 ghost use Rattle.vc_rule_terms.specs.Computing.{ArgumentFits, LiesInGrains, TermsFit};
 ghost use Rattle.vc_rule_terms.specs.Values.{meant_if};
 ghost use Rattle.vc_rule_table.specs.Cells.{FewGrains};
+ghost use Rattle.vc_proc_look_ups.specs.LookUps.{AreLookUpsOf};
 ghost use Rattle.vc_proc.specs.Overlays.{EntriesLie};
 ghost use Rattle.vc_proc.specs.Stages.{CanRun};
 ghost use Rattle.vc_proc.specs.Writing.{place_from};
@@ -17,6 +18,7 @@ use crate::looking_up::look_up;
 use crate::overlay::Overlay;
 use crate::writing::{Place, enter_default, enter_hard, take_default};
 use vc_plan::{Action, Kleene, Plan, Reading, Statement, View};
+use vc_proc_look_ups::LookUps;
 use vc_rule_readings::{procedure_truth, procedure_value};
 use vc_rule_terms::TermValue;
 
@@ -64,7 +66,15 @@ fn delete_default(plan: &Plan, var: u32, value: Option<TermValue>, overlay: &mut
 }
 
 #[tactic(auto, using(crate::proofs::LyingLemmas::lies_beside))]
-fn act<R: Reading>(plan: &Plan, stage: &R, place: Place, action: &Action, overlay: &mut Overlay)
+fn act<R: Reading>(
+    plan: &Plan,
+    look_ups: &LookUps,
+    stage: &R,
+    place: Place,
+    action: &Action,
+    overlay: &mut Overlay,
+)
+    requires orders { AreLookUpsOf plan.now look_ups.now }
     requires can { CanRun plan.now }
     requires values { LiesInGrains plan.now (R.seen stage.now) }
     requires lie { EntriesLie plan.now overlay.old }
@@ -90,6 +100,7 @@ fn act<R: Reading>(plan: &Plan, stage: &R, place: Place, action: &Action, overla
             filled,
         } => look_up(
             plan,
+            look_ups,
             stage,
             place,
             *table,
@@ -113,11 +124,13 @@ fn is_true(truth: Kleene) -> bool
 #[tactic(auto, using(crate::proofs::LyingLemmas::lies_beside))]
 fn state<R: Reading>(
     plan: &Plan,
+    look_ups: &LookUps,
     stage: &R,
     place: Place,
     statement: &Statement,
     overlay: &mut Overlay,
 )
+    requires orders { AreLookUpsOf plan.now look_ups.now }
     requires can { CanRun plan.now }
     requires values { LiesInGrains plan.now (R.seen stage.now) }
     requires lie { EntriesLie plan.now overlay.old }
@@ -125,18 +138,20 @@ fn state<R: Reading>(
         overlay.old }
 {
     if is_true(procedure_truth(plan, stage, &*overlay, statement.condition)) {
-        act(plan, stage, place, &statement.action, overlay);
+        act(plan, look_ups, stage, place, &statement.action, overlay);
     }
 }
 
 // What it writes lies in the grains.
 fn run_statement<R: Reading>(
     plan: &Plan,
+    look_ups: &LookUps,
     stage: &R,
     place: Place,
     statement: &Statement,
     overlay: &mut Overlay,
 )
+    requires orders { AreLookUpsOf plan.now look_ups.now }
     requires can { CanRun plan.now }
     requires values { LiesInGrains plan.now (R.seen stage.now) }
     requires lie { EntriesLie plan.now overlay.old }
@@ -144,17 +159,19 @@ fn run_statement<R: Reading>(
         statement.now overlay.old }
     ensures lie { EntriesLie plan.now overlay.new }
 {
-    state(plan, stage, place, statement, overlay);
+    state(plan, look_ups, stage, place, statement, overlay);
 }
 
 /// Runs the statements of the procedure in their order.
 pub fn run_statements<R: Reading>(
     plan: &Plan,
+    look_ups: &LookUps,
     stage: &R,
     proc: u32,
     statements: &[Statement],
     overlay: &mut Overlay,
 )
+    requires orders { AreLookUpsOf plan.now look_ups.now }
     requires can { CanRun plan.now }
     requires few { length statements.now < 2 ^ 32 }
     requires values { LiesInGrains plan.now (R.seen stage.now) }
@@ -168,6 +185,13 @@ pub fn run_statements<R: Reading>(
             proc,
             statement: statement as u32,
         };
-        run_statement(plan, stage, place, &statements[statement], overlay);
+        run_statement(
+            plan,
+            look_ups,
+            stage,
+            place,
+            &statements[statement],
+            overlay,
+        );
     }
 }

@@ -30,6 +30,7 @@ use Rattle.vc_plan.proofs.PlanLaws.Rounds.{rounds_suffice}
 use Rattle.vc_plan_reasons.specs.Fitting.{sources_fit}
 use Rattle.vc_plan_reasons.proofs.ReasonLaws.Fitting.{stages_fit}
 use Rattle.vc_rule_laws.proofs.BoundLaws.{clear_lies_in_grains}
+use Rattle.vc_proc_look_ups.specs.LookUps.{AreLookUpsOf}
 use Rattle.vc_rule_terms.specs.Computing.{LiesInGrains}
 use Rattle.vc_net_log.specs.Logs.{set_of}
 use Rattle.vc_net.specs.Breaking.{clash_from, steps_with}
@@ -97,9 +98,10 @@ lies_at plan users k old new valid there s net at =
 -- what stays while a net is put in its place, and while nothing but flags or entries change
 pub stages_are : (plan : Plan) (old new : Stages) → AreStagesOf plan old → AllByRecursion (IsNetOf plan) new.nets.items
     → length new.nets.items ≡ length old.nets.items → length new.overlay ≡ length old.overlay → AreFor plan new.sources
-    → new.written ≡ old.written → IsBlankBeside old.written new.sources.written → length new.late ≡ length old.late
+    → new.written ≡ old.written → new.look_ups ≡ old.look_ups → IsBlankBeside old.written new.sources.written
+    → length new.late ≡ length old.late
     → AreStagesOf plan new
-stages_are plan old new of nets many overlay sources written blank late = record {
+stages_are plan old new of nets many overlay sources written orders blank late = record {
   nets = nets;
   many = many ∙ of.many;
   overlay = overlay ∙ of.overlay;
@@ -107,18 +109,20 @@ stages_are plan old new of nets many overlay sources written blank late = record
   late = late ∙ of.late;
   writes = subst (AreAllWritten plan) (sym written) of.writes;
   blank = subst (λ vars. IsBlankBeside vars new.sources.written) (sym written) blank;
+  look_ups = subst (AreLookUpsOf plan) (sym orders) of.look_ups;
 }
 
 -- the user's values are put into the sources, and nothing else changes
 pub users_put : (plan : Plan) (old new : Stages) (values : List (Option Value)) → AreStagesOf plan old
     → length values ≡ length plan.vars → new.nets.items ≡ old.nets.items
-    → new.overlay ≡ replicate (length old.overlay) None → new.sources ≡ record { user = values; written = old.sources.written } → new.written ≡ old.written
-    → new.late ≡ old.late → AreStagesOf plan new
-users_put plan old new values of many nets overlay sources written late =
+    → new.overlay ≡ replicate (length old.overlay) None → new.sources
+    ≡ record { user = values; written = old.sources.written } → new.written ≡ old.written
+    → new.look_ups ≡ old.look_ups → new.late ≡ old.late → AreStagesOf plan new
+users_put plan old new values of many nets overlay sources written orders late =
     let entries : new.sources.written ≡ old.sources.written = ap (λ (s : Sources). s.written) sources in
     stages_are plan old new of (subst (AllByRecursion (IsNetOf plan)) (sym nets) of.nets) (ap length nets)
     (ap length overlay ∙ length-replicate (length old.overlay) None)
-    (ap (λ (s : Sources). length s.user) sources ∙ many, ap length entries ∙ of.sources.1) written
+    (ap (λ (s : Sources). length s.user) sources ∙ many, ap length entries ∙ of.sources.1) written orders
     (subst (IsBlankBeside old.written) (sym entries) of.blank) (ap length late)
 
 -- where nothing is written but what statements write, what is written differs nowhere else
@@ -147,35 +151,40 @@ pub settled_at : (plan : Plan) (users : Users) (k : ℕ) (old new : Stages) (net
     → length users.values ≡ length plan.vars → IsNetOf plan net → new.nets.items ≡ slice_set old.nets.items k net
     → new.sources ≡ sources_of users old.overlay → sources_fit plan (sources_of users old.overlay) ≡ true
     → HasSettled plan new.sources net whole → new.overlay ≡ old.overlay → new.written ≡ old.written
-    → new.late ≡ old.late → new.broken ≡ old.broken → SettlesAt plan users k old new whole
-settled_at plan users k old new net whole of values its nets sources fits done overlay written late calm = record {
-  of = stages_are plan old new of
-      (subst (AllByRecursion (IsNetOf plan)) (sym nets) (all_set (IsNetOf plan) old.nets.items k net of.nets its))
-      (ap length nets ∙ length-set old.nets.items k net) (ap length overlay)
-      (subst (AreFor plan) (sym sources) (values, length-map old.overlay (option_map entry_in) ∙ of.overlay)) written
-      (subst (λ (s : Sources). IsBlankBeside old.written s.written) (sym sources)
-      (fit_beside plan (sources_of users old.overlay) old.written fits of.writes))
-      (ap length late);
-  net = net;
-  nets = nets;
-  settled = subst (λ s. HasSettled plan s net whole) sources done;
-  sources = sources;
-  overlay = overlay;
-  late = late;
-  broken = calm;
-}
+    → new.look_ups ≡ old.look_ups → new.late ≡ old.late → new.broken ≡ old.broken → SettlesAt plan users k old new whole
+settled_at plan users k old new net whole of values its nets sources fits done overlay written orders late calm =
+    record {
+      of = stages_are plan old new of
+          (subst (AllByRecursion (IsNetOf plan)) (sym nets) (all_set (IsNetOf plan) old.nets.items k net of.nets its))
+          (ap length nets ∙ length-set old.nets.items k net) (ap length overlay)
+          (subst (AreFor plan) (sym sources) (values, length-map old.overlay (option_map entry_in) ∙ of.overlay))
+          written
+          orders
+          (subst (λ (s : Sources). IsBlankBeside old.written s.written) (sym sources)
+          (fit_beside plan (sources_of users old.overlay) old.written fits of.writes))
+          (ap length late);
+      net = net;
+      nets = nets;
+      settled = subst (λ s. HasSettled plan s net whole) sources done;
+      sources = sources;
+      overlay = overlay;
+      late = late;
+      broken = calm;
+    }
 
 -- an evaluation begins with nothing written
 pub begins : (plan : Plan) (users : Users) (old new : Stages) → IsValid plan → users_fit plan users ≡ true
     → AreStagesOf plan old
-    → new.nets.items ≡ old.nets.items → new.sources ≡ old.sources → new.written ≡ old.written → new.late ≡ old.late
+    → new.nets.items ≡ old.nets.items → new.sources ≡ old.sources → new.written ≡ old.written
+    → new.look_ups ≡ old.look_ups → new.late ≡ old.late
     → new.overlay ≡ old.overlay → old.overlay ≡ replicate (length plan.vars) None → IsAt plan users new 0
-begins plan users old new valid fit of nets sources written late overlay cleared =
+begins plan users old new valid fit of nets sources written orders late overlay cleared =
     let nothing : new.overlay ≡ no_entries plan = overlay ∙ cleared ∙ sym (none_are_replicas plan) in
     record {
       of = stages_are plan old new of (subst (AllByRecursion (IsNetOf plan)) (sym nets) of.nets) (ap length nets)
           (ap length overlay)
-          (subst (AreFor plan) (sym sources) of.sources) written (blank_stays old new sources of.blank) (ap length late);
+          (subst (AreFor plan) (sym sources) of.sources) written orders (blank_stays old new sources of.blank)
+          (ap length late);
       settled = subst (HaveSettled plan users []) (sym nothing) (stages_begin plan users);
       fits = ap (λ entries. sources_fit plan (sources_of users entries)) nothing
           ∙ (stages_fit plan users valid.own_writes fit).first;
@@ -362,11 +371,12 @@ pub wrote : (plan : Plan) (users : Users) (k stage : ℕ) (old flagged new : Sta
     → flagged ≡ with_late old (flags_before plan k old) → stage ≡ k + 1 → slice_get flagged.nets.items k ≡ Some net
     → late ≡ flagged.late
     → new.nets.items ≡ flagged.nets.items → new.sources ≡ flagged.sources → new.written ≡ flagged.written
-    → new.late ≡ flagged.late → new.broken ≡ flagged.broken
+    → new.look_ups ≡ flagged.look_ups → new.late ≡ flagged.late → new.broken ≡ flagged.broken
     → new.overlay ≡ stage_written plan (holds users) stage late (said_by net) flagged.overlay
     → EntriesLie plan new.overlay
     → WritesAfter plan users k old new
-wrote plan users k stage old flagged new net late of is next found flags nets sources vars kept calm written lie =
+wrote plan users k stage old flagged new net late of is next found flags nets sources vars orders kept calm written
+    lie =
     let all = nets ∙ ap (λ s. s.nets.items) is in
     let told : new.late ≡ flags_before plan k old = kept ∙ ap (λ s. s.late) is in
     let entries : flagged.overlay ≡ old.overlay = ap (λ s. s.overlay) is in
@@ -376,7 +386,7 @@ wrote plan users k stage old flagged new net late of is next found flags nets so
     ∙ ap length entries in
     record {
       of = stages_are plan old new of (subst (AllByRecursion (IsNetOf plan)) (sym all) of.nets) (ap length all) long
-          (subst (AreFor plan) (sym same) of.sources) (vars ∙ ap (λ s. s.written) is)
+          (subst (AreFor plan) (sym same) of.sources) (vars ∙ ap (λ s. s.written) is) (orders ∙ ap (λ s. s.look_ups) is)
           (blank_stays old new same of.blank) (ap length told ∙ flags_long plan old k of);
       nets = all;
       late = told;
@@ -395,14 +405,14 @@ wrote plan users k stage old flagged new net late of is next found flags nets so
 
 -- who is late is flagged, and nothing else changes
 pub marked : (plan : Plan) (old new : Stages) → AreStagesOf plan old → new.nets.items ≡ old.nets.items
-    → new.sources ≡ old.sources → new.written ≡ old.written
+    → new.sources ≡ old.sources → new.written ≡ old.written → new.look_ups ≡ old.look_ups
     → new.overlay ≡ old.overlay → new.broken ≡ old.broken
     → new.late ≡ map (is_late_seen plan (map said_by old.nets.items)) (numbers_below (length plan.slots))
     → FlagsLateOnes plan old new
-marked plan old new of nets sources written overlay calm told = record {
+marked plan old new of nets sources written orders overlay calm told = record {
   of = stages_are plan old new of (subst (AllByRecursion (IsNetOf plan)) (sym nets) of.nets) (ap length nets)
       (ap length overlay)
-      (subst (AreFor plan) (sym sources) of.sources) written (blank_stays old new sources of.blank)
+      (subst (AreFor plan) (sym sources) of.sources) written orders (blank_stays old new sources of.blank)
       (ap length told ∙ length-map-range_with_len (is_late_seen plan (map said_by old.nets.items)) 0 (length plan.slots)
       ∙ sym of.late);
   nets = nets;

@@ -16,6 +16,7 @@ use Rattle.vc_net_log.specs.Logs.{seen_by}
 use Rattle.vc_net.specs.Differing.{AreAllWritten}
 use Rattle.vc_net.specs.Ending.{IsSettled, clash_of}
 use Rattle.vc_net.specs.Nets.{AreFor, IsNetOf, Netted}
+use Rattle.vc_proc_look_ups.specs.LookUps.{AreLookUpsOf}
 use Rattle.vc_session_stages.specs.Stages.{HaveAllSettled, is_late_seen}
 use Rattle.vc_session_evaluation.specs.Writing.{IsBlankBeside}
 use Rattle.vc_session_evaluation.specs.declared.stages.Stages.{Stages}
@@ -43,7 +44,7 @@ HasSettled plan sources net true = (set : List Atom) × (settlement_of plan sour
 HasSettled plan sources net false = (settlement_of plan sources ≡ broken) × IsRefuted plan sources net
 
 -- a net for each stage of the plan, and room for what is written and for who is late; all that statements write is
--- known, and the sources have nothing written elsewhere
+-- known, and the sources have nothing written elsewhere; orders of the plan's tables, by which statements look up
 pub record AreStagesOf (plan : Plan) (stages : Stages) : Type 0 where
   pub nets : AllByRecursion (IsNetOf plan) stages.nets.items
   pub many : length stages.nets.items ≡ suc (last_stage plan)
@@ -52,6 +53,7 @@ pub record AreStagesOf (plan : Plan) (stages : Stages) : Type 0 where
   pub late : length stages.late ≡ length plan.slots
   pub writes : AreAllWritten plan stages.written
   pub blank : IsBlankBeside stages.written stages.sources.written
+  pub look_ups : AreLookUpsOf plan stages.look_ups
 
 -- how an evaluation of the user's values ended: all stages settled at what the nets say, the last with all that was
 -- written, and who is late is flagged; or one is broken, and what contradicts in its net refutes its sources

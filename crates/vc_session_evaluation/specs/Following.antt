@@ -16,8 +16,8 @@ FollowsBeside vars values n nets k =
 abbrev pub FollowBeside : List ℕ → List (Option Value) → ℕ → List Netted → Type 0
 FollowBeside vars values n nets = (k : ℕ) → FollowsBeside vars values n nets k
 
--- these are the user's values of the last evaluation: those that the nets have which went on; and nothing was written but
--- what statements write
+-- these are the user's values of the last evaluation: those that the nets have which went on; and nothing was written
+-- but what statements write
 pub record HaveTaken (values : List (Option Value)) (stages : Stages) : Type 0 where
   pub sources : stages.sources.user ≡ values
   pub nets : (k : ℕ) (net : Netted) → k < nets_asked stages.nets.items stages.broken

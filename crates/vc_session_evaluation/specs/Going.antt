@@ -41,6 +41,7 @@ with_late old flags = record {
   overlay = old.overlay;
   sources = old.sources;
   written = old.written;
+  look_ups = old.look_ups;
   late = flags;
   broken = old.broken;
 }

@@ -19,18 +19,20 @@ use vc_plan::{Plan, stages};
 use vc_plan_sources::Sources;
 use vc_plan_users::UserValues;
 use vc_proc::{Overlay, run_stage};
+use vc_proc_look_ups::LookUps;
 use vc_value::Listed;
 use vc_value_steps::Steps;
 
-/// For each stage of a plan a net; what procedures wrote; the sources of the last stage that was settled; which variables
-/// statements write; which instances are late; and the first stage that is broken, if one is. All memory is taken at
-/// `new`.
+/// For each stage of a plan a net; what procedures wrote; the sources of the last stage that was settled; which
+/// variables statements write; the orders by which they look rows up; which instances are late; and the first stage
+/// that is broken, if one is. All memory is taken at `new`.
 #[derive(Drop)]
 pub struct Stages {
     pub nets: Vec<Net>,
     pub overlay: Overlay,
     pub sources: Sources,
     pub written: Listed<u32>,
+    pub look_ups: LookUps,
     pub late: Listed<bool>,
     pub broken: Option<u32>,
 }
@@ -53,6 +55,7 @@ impl Stages {
     ghost use Rattle.vc_session_evaluation.specs.Writing.{IsBlankBeside};
 
     /// Nets that haven't settled, each with all things behind, and nothing written.
+    #[tactic(auto, using(crate::proofs::RowLimits::rows_fit))]
     pub fn new(alloc: Global, plan: &Plan) -> Result<Stages, AllocError>
         requires valid { IsValid plan.now }
         ensures of { IfOk result (λ stages. AreStagesOf plan.now stages) }
@@ -62,12 +65,14 @@ impl Stages {
         let overlay = Overlay::new(alloc, plan)?;
         let sources = Sources::new(alloc, plan)?;
         let written = all_written(alloc, plan)?;
+        let look_ups = LookUps::new(alloc, plan)?;
         let late = no_flags(alloc, plan)?;
         Ok(Stages {
             nets,
             overlay,
             sources,
             written,
+            look_ups,
             late,
             broken: None,
         })
@@ -125,8 +130,8 @@ impl Stages {
         }
     }
 
-    // Goes through the stages with the user's values, which are in the sources, and nothing written. The first nets have
-    // these values too, but for the variables touched.
+    // Goes through the stages with the user's values, which are in the sources, and nothing written. The first nets
+    // have these values too, but for the variables touched.
     fn go_through<L: Ledger>(
         &mut self,
         plan: &Plan,
@@ -210,6 +215,7 @@ impl Stages {
         self.flag_before(plan, stage, last);
         run_stage(
             plan,
+            &self.look_ups,
             stage + 1,
             &self.nets[stage as usize],
             self.late.as_slice(),

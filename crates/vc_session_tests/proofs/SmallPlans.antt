@@ -8,6 +8,7 @@ use Rattle.vc_value.specs.declared.table_header.Domain.TheVariants.{Texts}
 use Rattle.vc_value.specs.declared.value.Value.TheVariants.{Text}
 use Rattle.vc_plan.specs.declared.conditions.Condition.TheVariants.{Always}
 use Rattle.vc_plan.specs.declared.plans.Plan.{Plan}
+use Rattle.vc_plan.specs.declared.plans.Table.{Table}
 use Rattle.vc_plan.specs.declared.plans.Var.{Var}
 use Rattle.vc_plan.specs.declared.procedures.Procedure.{Procedure}
 use Rattle.vc_plan.specs.declared.terms.Term.TheVariants.{Literal}
@@ -26,17 +27,29 @@ grains_few (domain ∷ []) zero e =
 grains_few (domain ∷ []) (suc d) e = omega arith
 grains_few (domain ∷ other ∷ domains) d e = absurd (cc)
 
-few_each : (procedures : List Procedure) → map (λ procedure. length procedure.statements) procedures ≡ 3 ∷ []
+few_each : (procedures : List Procedure) → map (λ procedure. length procedure.statements) procedures ≡ 4 ∷ []
     → list_all (λ procedure. nat_lt (length procedure.statements) (2 ^ 32)) procedures ≡ true
 few_each [] e = absurd (cc)
-few_each (p ∷ []) e = let three : length p.statements ≡ 3 = cc in ap (λ n. nat_lt n (2 ^ 32) && true) three
+few_each (p ∷ []) e = let four : length p.statements ≡ 4 = cc in ap (λ n. nat_lt n (2 ^ 32) && true) four
 few_each (p ∷ q ∷ procedures) e = absurd (cc)
 
-few_in_all : (procedures : List Procedure) → map (λ procedure. length procedure.statements) procedures ≡ 3 ∷ []
+few_in_all : (procedures : List Procedure) → map (λ procedure. length procedure.statements) procedures ≡ 4 ∷ []
     → length procedures < 2 ^ 32
 few_in_all [] e = absurd (cc)
 few_in_all (p ∷ []) e = omega arith
 few_in_all (p ∷ q ∷ procedures) e = absurd (cc)
+
+one_by_slot : (procedures : List Procedure) → map (λ procedure. length procedure.statements) procedures ≡ 4 ∷ []
+    → are_in_order (λ a b. nat_le a.slot b.slot) procedures ≡ true
+one_by_slot [] e = refl
+one_by_slot (p ∷ []) e = refl
+one_by_slot (p ∷ q ∷ procedures) e = absurd (cc)
+
+pub few_rows : (tables : List Table) → map (λ table. length table.rows) tables ≡ 3 ∷ []
+    → list_all (λ table. nat_lt (length table.rows) (2 ^ 32)) tables ≡ true
+few_rows [] e = absurd (cc)
+few_rows (t ∷ []) e = let three : length t.rows ≡ 3 = cc in ap (λ n. nat_lt n (2 ^ 32) && true) three
+few_rows (t ∷ u ∷ tables) e = absurd (cc)
 
 one_stands : (vars : List Var) → length vars ≡ 1 → are_in_order (λ a b. nat_le a.slot b.slot) vars ≡ true
 one_stands [] e = refl
@@ -46,7 +59,7 @@ one_stands (x ∷ y ∷ vars) e = absurd (omega (arith, e))
 pub texts_can_run : (plan : Plan) → length plan.texts ≡ 2 → plan.domains ≡ Texts (0 ∷ 1 ∷ []) ∷ []
     → length plan.slots ≡ 1
     → length plan.vars ≡ 1 → plan.conditions ≡ Always ∷ [] → plan.terms ≡ Literal (Text 1) ∷ Literal (Text 0) ∷ []
-    → map (λ procedure. length procedure.statements) plan.procedures ≡ 3 ∷ [] → CanRun plan
+    → map (λ procedure. length procedure.statements) plan.procedures ≡ 4 ∷ [] → CanRun plan
 texts_can_run plan texts domains slots vars conditions terms procedures = record {
   sums = record {
     terms = record {
@@ -63,6 +76,7 @@ texts_can_run plan texts domains slots vars conditions terms procedures = record
   };
   grains = λ v. by (slice_get plan.vars v);
   few_procedures = few_in_all plan.procedures procedures;
+  by_slot = one_by_slot plan.procedures procedures;
   few_statements = few_each plan.procedures procedures;
 }
   where

@@ -4,6 +4,8 @@
 #[cfg(test)]
 mod proc;
 #[cfg(test)]
+mod proc_look_ups;
+#[cfg(test)]
 mod session;
 #[cfg(test)]
 mod session_evaluation;

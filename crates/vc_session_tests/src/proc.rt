@@ -7,15 +7,18 @@ ghost use Rattle.vc_value.specs.declared.value.Value.TheVariants.{Text};
 ghost use Rattle.vc_plan.specs.declared.conditions.Condition.TheVariants.{Always};
 ghost use Rattle.vc_plan.specs.declared.terms.Term.TheVariants.{Literal};
 ghost use Rattle.vc_plan.specs.Entries.{no_entries};
+ghost use Rattle.vc_proc_look_ups.specs.LookUps.{AreLookUpsOf};
 ghost use Rattle.vc_proc.specs.Stages.{CanRun};
 
 use std::alloc::{AllocError, Global};
 use std::test::Fail;
 use vc_plan::{
-    Action, Condition, Mark, Plan, Procedure, Reading, Slot, Statement, Term, Trigger, Var, View,
+    Action, Condition, FilledColumn, KeyTerm, Mark, Plan, Procedure, Reading, Slot, Statement,
+    Table, Term, Trigger, Var, View,
 };
 use vc_proc::stages::run;
 use vc_proc::{Overlay, Written};
+use vc_proc_look_ups::LookUps;
 use vc_value::{Domain, Listed, Value, Word};
 
 #[derive(Drop)]
@@ -104,9 +107,25 @@ fn terms(alloc: Global) -> Result<Listed<Term>, AllocError>
     Ok(terms)
 }
 
-// The default is text 1, then the value is text 0, then a default of text 0 would go.
+// Looks text 0 up, and fills in the cell beside it.
+fn looks_up(alloc: Global) -> Result<Statement, AllocError> {
+    let mut keys = Listed::new(alloc);
+    keys.push(KeyTerm { column: 0, term: 1 })?;
+    let mut filled = Listed::new(alloc);
+    filled.push(FilledColumn { column: 1, var: 0 })?;
+    Ok(Statement {
+        action: Action::LookUp {
+            table: 0,
+            keys,
+            filled,
+        },
+        condition: 0,
+    })
+}
+
+// The default is text 1, then the value is text 0, then a default of text 0 would go, then the value is looked up.
 fn statements(alloc: Global) -> Result<Listed<Statement>, AllocError>
-    ensures { IfOk result (λ statements. length statements ≡ 3) }
+    ensures { IfOk result (λ statements. length statements ≡ 4) }
 {
     let mut statements = Listed::new(alloc);
     statements.push(Statement {
@@ -121,11 +140,12 @@ fn statements(alloc: Global) -> Result<Listed<Statement>, AllocError>
         action: Action::DeleteDefault { var: 0, term: 1 },
         condition: 0,
     })?;
+    statements.push(looks_up(alloc)?)?;
     Ok(statements)
 }
 
 fn procedures(alloc: Global) -> Result<Listed<Procedure>, AllocError>
-    ensures { IfOk result (λ procedures. map (λ procedure. length procedure.statements) procedures ≡ 3 ∷ []) }
+    ensures { IfOk result (λ procedures. map (λ procedure. length procedure.statements) procedures ≡ 4 ∷ []) }
 {
     let statements = statements(alloc)?;
     let mut procedures = Listed::new(alloc);
@@ -146,8 +166,40 @@ fn conditions(alloc: Global) -> Result<Listed<Condition>, AllocError>
     Ok(conditions)
 }
 
+fn row(alloc: Global, key: u32, cell: u32) -> Result<Listed<Value>, AllocError> {
+    let mut row = Listed::new(alloc);
+    row.push(Value::Text(key))?;
+    row.push(Value::Text(cell))?;
+    Ok(row)
+}
+
+// The second row and the third have the same key.
+fn rows(alloc: Global) -> Result<Listed<Listed<Value>>, AllocError>
+    ensures { IfOk result (λ rows. length rows ≡ 3) }
+{
+    let mut rows = Listed::new(alloc);
+    rows.push(row(alloc, 1, 0)?)?;
+    rows.push(row(alloc, 0, 1)?)?;
+    rows.push(row(alloc, 0, 0)?)?;
+    Ok(rows)
+}
+
+fn tables(alloc: Global) -> Result<Listed<Table>, AllocError>
+    ensures { IfOk result (λ tables. map (λ table. length table.rows) tables ≡ 3 ∷ []) }
+{
+    let rows = rows(alloc)?;
+    let mut tables = Listed::new(alloc);
+    tables.push(Table {
+        name: Word::from_bytes(alloc, b"SHADES")?,
+        columns: Listed::new(alloc),
+        rows,
+    })?;
+    Ok(tables)
+}
+
 fn plan_of_one(alloc: Global) -> Result<Plan, AllocError>
-    ensures { IfOk result (λ plan. CanRun plan) }
+    ensures can { IfOk result (λ plan. CanRun plan) }
+    ensures rows { IfOk result (λ plan. map (λ table. length table.rows) plan.tables ≡ 3 ∷ []) }
 {
     let texts = texts(alloc)?;
     let domains = domains(alloc)?;
@@ -156,6 +208,7 @@ fn plan_of_one(alloc: Global) -> Result<Plan, AllocError>
     let conditions = conditions(alloc)?;
     let terms = terms(alloc)?;
     let procedures = procedures(alloc)?;
+    let tables = tables(alloc)?;
     Ok(Plan {
         name: Word::from_bytes(alloc, b"LAMP")?,
         version: 1,
@@ -164,7 +217,7 @@ fn plan_of_one(alloc: Global) -> Result<Plan, AllocError>
         characteristics: Listed::new(alloc),
         objects: Listed::new(alloc),
         domains,
-        tables: Listed::new(alloc),
+        tables,
         slots,
         vars,
         sets: Listed::new(alloc),
@@ -188,16 +241,25 @@ fn text_by(text: u32, hard: bool, statement: u32) -> Option<Written> {
     })
 }
 
+#[tactic(auto, using(crate::proofs::SmallPlans::few_rows))]
+fn look_ups_of(alloc: Global, plan: &Plan) -> Result<LookUps, AllocError>
+    requires { map (λ table. length table.rows) plan.now.tables ≡ 3 ∷ [] }
+    ensures { IfOk result (λ look_ups. AreLookUpsOf plan.now look_ups) }
+{
+    LookUps::new(alloc, plan)
+}
+
 // What stands after stage 1, and after the last, which has no sums.
 #[tactic(auto, using(vc_proc::proofs::LyingLemmas::nothing_lies_as))]
-fn writes_both(plan: &Plan, overlay: &mut Overlay) -> bool
+fn writes_both(plan: &Plan, look_ups: &LookUps, overlay: &mut Overlay) -> bool
+    requires orders { AreLookUpsOf plan.now look_ups.now }
     requires can { CanRun plan.now }
     requires none { overlay.old ≡ no_entries plan.now }
 {
-    run(plan, 1, &Root, &[], overlay);
+    run(plan, look_ups, 1, &Root, &[], overlay);
     let first = overlay.entry(0);
-    run(plan, 2, &Root, &[], overlay);
-    first == text_by(0, true, 1) && overlay.entry(0) == first
+    run(plan, look_ups, 2, &Root, &[], overlay);
+    first == text_by(1, true, 3) && overlay.entry(0) == first
 }
 
 // Whether what is entered stands until all is taken away.
@@ -213,7 +275,8 @@ fn keeps(overlay: &mut Overlay) -> bool {
 fn writes_what_statements_say(rt: HostRuntime) -> Result<(), Fail> {
     let plan = plan_of_one(rt.alloc())?;
     let mut overlay = Overlay::new(rt.alloc(), &plan)?;
-    assert!(rt; writes_both(&plan, &mut overlay));
+    let look_ups = look_ups_of(rt.alloc(), &plan)?;
+    assert!(rt; writes_both(&plan, &look_ups, &mut overlay));
     assert!(rt; keeps(&mut overlay));
     Ok(())
 }

@@ -8,7 +8,8 @@ use Rattle.vc_session_evaluation.proofs.filling.fill_entries_at.Goals as goal
 
 pub loop-rest-preserved : goal.loop-rest-preserved
 loop-rest-preserved c = record {
-  same = beside_next c.loop-rest.rest.now 0 c.loop-rest.sources.written (sources_in c.args.overlay.now) c.fill_entry.new.sources.written
+  same = beside_next c.loop-rest.rest.now 0 c.loop-rest.sources.written
+      (sources_in c.args.overlay.now) c.fill_entry.new.sources.written
       c.in-len1-up.len_at_least c.loop-rest.invariant.long c.loop-rest.invariant.same
       (ap (λ (s : Sources). s.written) c.fill_entry.ensures);
   long = ap (λ (s : Sources). length s.written) c.fill_entry.ensures ∙ length-set c.loop-rest.sources.written _ _

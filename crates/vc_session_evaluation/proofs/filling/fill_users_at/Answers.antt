@@ -7,7 +7,8 @@ use Rattle.vc_session_evaluation.proofs.filling.fill_users_at.Goals as goal
 
 pub loop-rest-preserved : goal.loop-rest-preserved
 loop-rest-preserved c = record {
-  same = beside_next c.loop-rest.rest.now 0 c.loop-rest.sources.user c.args.users.now.values c.fill_user.new.sources.user
+  same = beside_next c.loop-rest.rest.now 0 c.loop-rest.sources.user
+      c.args.users.now.values c.fill_user.new.sources.user
       c.in-len1-up.len_at_least c.loop-rest.invariant.long c.loop-rest.invariant.same
       (ap (λ (s : Sources). s.user) c.fill_user.ensures);
   long = ap (λ (s : Sources). length s.user) c.fill_user.ensures ∙ length-set c.loop-rest.sources.user _ _

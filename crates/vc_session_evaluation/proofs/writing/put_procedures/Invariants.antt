@@ -6,4 +6,5 @@ use Rattle.vc_session_evaluation.proofs.writing.put_procedures.Given as goal
 
 abbrev pub invariant-loop-procedure : goal.invariant-loop-procedure
 invariant-loop-procedure l =
-    l.vars ++ flat_map procedure_written (drop l.procedure-index l.procedures) ≡ l.initial.vars ++ flat_map procedure_written l.procedures
+    l.vars ++ flat_map procedure_written (drop l.procedure-index l.procedures)
+    ≡ l.initial.vars ++ flat_map procedure_written l.procedures

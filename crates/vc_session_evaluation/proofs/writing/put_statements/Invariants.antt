@@ -6,4 +6,5 @@ use Rattle.vc_session_evaluation.proofs.writing.put_statements.Given as goal
 
 abbrev pub invariant-loop-statement : goal.invariant-loop-statement
 invariant-loop-statement l =
-    l.vars ++ flat_map statement_written (drop l.statement-index l.statements) ≡ l.initial.vars ++ flat_map statement_written l.statements
+    l.vars ++ flat_map statement_written (drop l.statement-index l.statements)
+    ≡ l.initial.vars ++ flat_map statement_written l.statements

@@ -13,7 +13,7 @@ pub go_through-requires-clause-of : goal.go_through-requires-clause-of
 go_through-requires-clause-of g c =
     users_put c.args.plan.now c.args.self.now _ c.args.users.now.values c.requires.of c.requires.users refl
     c.clear.ensures
-    c.fill_users.ensures refl refl
+    c.fill_users.ensures refl refl refl
 
 pub go_through-requires-clause-follow : goal.go_through-requires-clause-follow
 go_through-requires-clause-follow g c =

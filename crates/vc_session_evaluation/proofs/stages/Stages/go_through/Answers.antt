@@ -17,7 +17,7 @@ use Rattle.vc_session_evaluation.proofs.stages.Stages.go_through.Goals as goal
 pub loop-stage-init : goal.loop-stage-init
 loop-stage-init g c = record {
   at = begins c.args.plan.now (users_of c.args.users.now) c.args.self.now _ c.requires.valid c.requires.fit
-      c.requires.of refl refl refl refl refl c.requires.cleared;
+      c.requires.of refl refl refl refl refl refl c.requires.cleared;
   calm = refl;
   taken = c.requires.taken;
   later = λ i h. refl;

@@ -16,7 +16,7 @@ returns c =
     let found : slice_get nets c.args.last ≡ Some net =
     slice_get_read nets (length nets) c.args.last net refl (omega (arith, c.requires.of.many, c.requires.last))
     c.index.ensures in
-    marked plan c.args.self.now _ c.requires.of refl refl refl refl refl
+    marked plan c.args.self.now _ c.requires.of refl refl refl refl refl refl
     (late_told plan nets c.args.last net c.flag_late.new.late c.requires.last found
     (c.flag_late.ensures
     ∙ ap (λ all. map (λ i. (said_by net).here i && not (was_seen plan (map said_by all) i))

@@ -42,7 +42,7 @@ returns-clause-settles g c =
     c.settle.result c.requires.of c.requires.users c.settle.ensures.of refl
     (filled_is (users_of c.args.users.now) c.args.self.now.overlay c.fill_entries_at.new.sources
     c.args.self.now.sources.user c.fill_entries_at.ensures c.requires.taken)
-    c.requires.fits c.settle.ensures.settled refl refl refl refl
+    c.requires.fits c.settle.ensures.settled refl refl refl refl refl
 
 pub returns-clause-syncs : goal.returns-clause-syncs
 returns-clause-syncs g c =

@@ -1,10 +1,15 @@
 -- What procedures write is written.
-use Rattle.std.proofs.Common.{◌≡◌, ◌+◌, arith, ap, length, refl}
+use Rattle.std.proofs.Common.{◌≡◌, ◌+◌, arith, ap, length, refl, subst, sym}
 use Rattle.std.specs.Prelude.{Some, slice_get}
 use Rattle.std.proofs.lemmas.Option.{slice_get_read}
 use Rattle.vc_plan_users.specs.Choosing.{users_of}
+use Rattle.vc_proc_look_ups.specs.LookUps.{AreLookUpsOf}
 use Rattle.vc_session_evaluation.proofs.GoingLaws.{wrote}
 use Rattle.vc_session_evaluation.proofs.stages.Stages.write.Goals as goal
+
+pub run_stage-requires-clause-orders : goal.run_stage-requires-clause-orders
+run_stage-requires-clause-orders c =
+    subst (AreLookUpsOf c.args.plan.now) (sym (ap (λ s. s.look_ups) c.flag_before.ensures)) c.requires.of.look_ups
 
 pub returns : goal.returns
 returns c =
@@ -16,5 +21,6 @@ returns c =
     (omega (arith, many, c.requires.of.many, c.requires.last, c.requires.there)) c.index.ensures in
     wrote c.args.plan.now (users_of c.args.users.now) c.args.stage (c.args.stage + 1) c.args.self.now
     c.flag_before.new.self _ net
-    c.as_slice.result.now c.requires.of c.flag_before.ensures refl found c.as_slice.ensures refl refl refl refl refl
+    c.as_slice.result.now c.requires.of c.flag_before.ensures refl found c.as_slice.ensures
+    refl refl refl refl refl refl
     c.run_stage.ensures.is c.run_stage.ensures.lie

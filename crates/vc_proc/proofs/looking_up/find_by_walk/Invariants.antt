@@ -3,7 +3,7 @@ use Rattle.std.proofs.Common.{◌≡◌, length}
 use Rattle.std.specs.List.{find}
 use Rattle.vc_plan.specs.Parts.{procedure_reading}
 use Rattle.vc_plan.specs.Statements.{has_keys}
-use Rattle.vc_proc.proofs.looking_up.find_row.Given as goal
+use Rattle.vc_proc.proofs.looking_up.find_by_walk.Given as goal
 
 abbrev pub invariant-loop-rest : goal.invariant-loop-rest
 invariant-loop-rest g l =

@@ -1,0 +1,4 @@
+pub mod OrderLemmas
+pub mod PutLemmas
+pub mod RankLaws
+pub mod SearchLaws
