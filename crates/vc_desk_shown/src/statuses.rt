@@ -18,6 +18,6 @@ pub fn status(plan: &Plan, session: &Session) -> Status
 {
     match session.outcome() {
         Outcome::Broken(culprit) => Status::Contradiction(culprit),
-        Outcome::Settled => status_of(plan, session),
+        Outcome::Settled => status_of(plan, session, session.marked()),
     }
 }

@@ -1,5 +1,6 @@
 -- Edits of what a user chose, and which values may be given.
-use Rattle.std.specs.Prelude.{◌<◌, ℕ, Bool, true, false, ◌==◌, List, [], ◌∷◌, length, slice_index_or, None, Some, is_some}
+use Rattle.std.specs.Prelude.{◌<◌, ℕ, Bool, true, false, ◌==◌, List, [], ◌∷◌, length, slice_index_or, None, Some}
+use Rattle.std.specs.Prelude.{is_some}
 use Rattle.std.specs.List.{list_any}
 use Rattle.vc_value.specs.declared.value.Value.{Value}
 use Rattle.vc_value.specs.declared.value.Value.TheVariants.{Text, Num}

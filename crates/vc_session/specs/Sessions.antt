@@ -15,15 +15,17 @@ use Rattle.vc_net.specs.Nets.{Netted, outcome_by}
 use Rattle.vc_session_evaluation.specs.Evaluating.{AreStagesOf, IsEvaluated, said_by}
 use Rattle.vc_session_evaluation.specs.Following.{HaveTaken}
 use Rattle.vc_session_evaluation.specs.declared.stages.Stages.{Stages}
+use Rattle.vc_show.specs.Asking.{marked_of}
 use Rattle.vc_session.specs.Edits.{may_be_given}
 use Rattle.vc_session.specs.declared.session.NotSet.{NotSet}
 use Rattle.vc_session.specs.declared.session.SetFault.{SetFault}
 use Rattle.vc_session.specs.declared.session.SetFault.TheVariants as faults
 
--- what the user chose, and what its evaluation works on
+-- what the user chose, what its evaluation works on, and the variables that are marked as required
 pub record Opened : Type 0 where
   pub users : Chosen
   pub stages : Stages
+  pub marked : List ℕ
 
 -- the texts of a set's list, held or not
 abbrev pub listed : List SetText → List ℕ
@@ -35,12 +37,14 @@ pub record AreUsersOf (plan : Plan) (chosen : Chosen) : Type 0 where
   pub sets : map listed chosen.sets ≡ map listed (none_chosen plan).sets
   pub fit : users_fit plan (users_of chosen) ≡ true
 
--- a session of the plan: what the user chose is of the plan, and is evaluated with just these values
+-- a session of the plan: what the user chose is of the plan, and is evaluated with just these values; the plan's marks
+-- are known
 pub record IsSessionOf (plan : Plan) (session : Opened) : Type 0 where
   pub users : AreUsersOf plan session.users
   pub stages : AreStagesOf plan session.stages
   pub evaluated : IsEvaluated plan (users_of session.users) session.stages
   pub taken : HaveTaken session.users.values session.stages
+  pub marked : session.marked ≡ marked_of plan
 
 -- what the last stage says
 abbrev pub seen_in : Option Netted → Seen

@@ -18,6 +18,7 @@ use vc_plan::{Atom, Clash, Named, Outcome, Plan, Reading, Step, View};
 use vc_plan_users::UserValues;
 use vc_proc::Overlay;
 use vc_session_evaluation::Stages;
+use vc_show::asking::marked_vars;
 use vc_show::naming::slot_of_named;
 use vc_value::{Listed, Value};
 use vc_value_steps::Steps;
@@ -40,6 +41,8 @@ pub struct NotSet;
 pub struct Session {
     users: UserValues,
     stages: Stages,
+    // The variables that are marked as required: they are the plan's, and asked for after each edit.
+    marked: Listed<u32>,
 }
 
 impl Model for Session {
@@ -47,7 +50,7 @@ impl Model for Session {
 
     ghost Value = { Opened };
 
-    ghost view = { λ s. record { users = s.users; stages = s.stages } };
+    ghost view = { λ s. record { users = s.users; stages = s.stages; marked = s.marked } };
 }
 
 impl Session {
@@ -182,6 +185,13 @@ impl Session {
         ensures { result.now ≡ self.now.users }
     {
         &self.users
+    }
+
+    /// The variables that are marked as required.
+    pub fn marked(&self) -> &[u32]
+        ensures { result.now ≡ self.now.marked }
+    {
+        self.marked.as_slice()
     }
 
     /// What procedures wrote, up to the first broken stage.
@@ -364,8 +374,13 @@ fn begun<L: Ledger>(alloc: Global, plan: &Plan, blank: Blank) -> Result<Session,
 {
     let users = UserValues::new(alloc, plan)?;
     let mut stages = Stages::new(alloc, plan)?;
+    let marked = marked_vars(alloc, plan)?;
     let mut steps: Steps<L> = Steps::new(blank);
     stages.evaluate(plan, &users, &mut steps);
     drop(steps);
-    Ok(Session { users, stages })
+    Ok(Session {
+        users,
+        stages,
+        marked,
+    })
 }

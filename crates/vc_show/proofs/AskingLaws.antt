@@ -1,12 +1,12 @@
 -- What is asked for is what is marked, or what a selection condition demands: whether something is open is found by one
 -- pass over the variables, one over the sets and one over the selection conditions.
 use Rattle.std.proofs.Common.{◌≡◌, ◌<◌, ℕ, Bool, true, false, not, ◌&&◌, ◌||◌, List, [], ◌∷◌, length, refl, sym, ◌∙◌}
-use Rattle.std.proofs.Common.{ap, subst, inl, inr}
+use Rattle.std.proofs.Common.{ap, cond, subst, inl, inr}
 use Rattle.std.specs.Prelude.{Option, None, Some, slice_get}
-use Rattle.std.specs.List.{list_any}
+use Rattle.std.specs.List.{filter, list_any}
 use Rattle.std.proofs.lemmas.Bool.{and_from, and_parts, or_cases, or_left, or_right}
 use Rattle.std.proofs.lemmas.Option.{slice_get_within}
-use Rattle.vc_base.proofs.SetLaws.{same_test}
+use Rattle.vc_base.proofs.SetLaws.{both, same_test, told}
 use Rattle.vc_base.proofs.Settling.{IsIn, any_at, at_any}
 use Rattle.vc_plan.specs.declared.plans.Named.{Named}
 use Rattle.vc_plan.specs.declared.plans.Named.TheVariants.{Var, Set}
@@ -19,7 +19,7 @@ use Rattle.vc_plan.specs.Readings.{Reading}
 use Rattle.vc_plan.specs.Seen.{Seen, is_slot_here, slot_in}
 use Rattle.vc_plan.specs.Showing.{characteristic_of, has_open, has_value, is_hidden, is_marked, is_named_here, is_open}
 use Rattle.vc_plan.specs.Showing.{same_named, slot_of_set}
-use Rattle.vc_show.specs.Asking.{is_bare, is_demanding, lacks_demanded, lacks_marked, lacks_some}
+use Rattle.vc_show.specs.Asking.{is_bare, is_demanding, lacks_demanded, lacks_marked, lacks_some, marked_of}
 use Rattle.vc_show.proofs.HidingLemmas.{same_is, same_itself}
 use Rattle.vc_show.proofs.RangeLemmas.{some_below}
 
@@ -63,6 +63,21 @@ either_passes p q r each [] = refl
 either_passes p q r each (x ∷ xs) =
     ap (λ b. b || list_any p xs) (each x) ∙ (ap (λ b. (q x || r x) || b) (either_passes p q r each xs)
     ∙ regrouped (q x) (r x) (list_any q xs) (list_any r xs))
+
+-- where all that pass a test pass another, one of all passes it where one of those does that pass the other
+any_filtered : {X : Type 0} (p q : X → Bool) → ((x : X) → p x ≡ true → q x ≡ true) → (xs : List X)
+    → list_any p (filter q xs) ≡ list_any p xs
+any_filtered p q narrow [] = refl
+any_filtered p q narrow (x ∷ xs) = by (q x) refl (any_filtered p q narrow xs)
+  where
+    by : (b : Bool) → q x ≡ b → list_any p (filter q xs) ≡ list_any p xs
+        → list_any p (cond b (x ∷ filter q xs) (filter q xs)) ≡ (p x || list_any p xs)
+    by true e rest = ap (λ c. p x || c) rest
+    by false e rest =
+        elim (told (p x)) [
+          | inl passes ↦ absurd (both (narrow x passes) e)
+          | inr fails ↦ rest ∙ sym (ap (λ c. c || list_any p xs) fails)
+        ]
 
 collected : (a b c d : Bool) → ((a || b) || (c || d)) ≡ (a || (c || (b || d)))
 collected true b c d = refl
@@ -169,6 +184,16 @@ module _ (plan : Plan) (seen : Seen) (reading : Reading) where
       (λ h. let found = any_at (λ s. owed (Set s)) (numbers_below (length plan.sets)) h in
       owed_demanded (Set found.0) found.2))
       demanded_owed
+
+  -- what lacks is marked
+  pub marked_lack : list_any (λ v. lacks_marked plan seen reading (Var v)) (marked_of plan)
+      ≡ list_any (λ v. lacks_marked plan seen reading (Var v)) (numbers_below (length plan.vars))
+  marked_lack =
+      any_filtered (λ v. lacks_marked plan seen reading (Var v)) (λ v. is_marked (characteristic_of plan (Var v)))
+      (λ v e. (and_parts (is_marked (characteristic_of plan (Var v))) (not (is_hidden plan reading (Var v)))
+      (and_parts (is_bare plan seen reading (Var v))
+      (is_marked (characteristic_of plan (Var v)) && not (is_hidden plan reading (Var v))) e).1).0)
+      (numbers_below (length plan.vars))
 
   pub open_lacks : lacks_some plan seen reading ≡ has_open plan seen reading
   open_lacks =

@@ -1,6 +1,6 @@
 -- Which values are still asked for, by what asks for them.
-use Rattle.std.specs.Prelude.{Bool, not, ◌&&◌, ◌||◌, length}
-use Rattle.std.specs.List.{list_any}
+use Rattle.std.specs.Prelude.{ℕ, Bool, not, ◌&&◌, ◌||◌, List, length}
+use Rattle.std.specs.List.{filter, list_any}
 use Rattle.vc_plan.specs.declared.plans.Named.{Named}
 use Rattle.vc_plan.specs.declared.plans.Named.TheVariants.{Var, Set}
 use Rattle.vc_plan.specs.declared.plans.Plan.{Plan}
@@ -11,6 +11,10 @@ use Rattle.vc_plan.specs.Readings.{Reading}
 use Rattle.vc_plan.specs.Seen.{Seen}
 use Rattle.vc_plan.specs.Showing.{characteristic_of, has_value, is_hidden, is_marked, is_named_here}
 use Rattle.vc_plan.specs.Truth.{truth_at}
+
+-- the variables that are marked as required
+abbrev pub marked_of : Plan → List ℕ
+marked_of plan = filter (λ v. is_marked (characteristic_of plan (Var v))) (numbers_below (length plan.vars))
 
 -- whether its instance is here, and it has no value
 abbrev pub is_bare : Plan → Seen → Reading → Named → Bool

@@ -1,6 +1,7 @@
 //! What must have a value, and whether something that must has none.
 
-ghost use Rattle.std.specs.Prelude.{◌≡◌, ◌<◌, ◌^◌, ◌||◌, ◌&&◌, not, length, slice_get};
+ghost use Rattle.std.specs.Prelude.{◌≡◌, ◌<◌, ◌^◌, ◌||◌, ◌&&◌, ◌++◌, ◌∷◌, [], not, length, slice_get};
+ghost use Rattle.std.specs.Prelude.{if◌then◌else◌, IfOk, OnOk};
 ghost use Rattle.std.specs.List.{list_any};
 ghost use Rattle.vc_plan.specs.Domains.{numbers_below};
 ghost use Rattle.vc_plan.specs.Kleene.{is_true};
@@ -9,15 +10,17 @@ ghost use Rattle.vc_plan.specs.Showing.{characteristic_of, has_open, is_hidden, 
 ghost use Rattle.vc_plan.specs.Truth.{truth_at};
 ghost use Rattle.vc_plan.specs.declared.plans.Named.TheVariants.{Set, Var};
 ghost use Rattle.vc_rule_terms.specs.Computing.{LiesInGrains, TermsFit};
-ghost use Rattle.vc_show.specs.Asking.{is_bare, is_demanding, lacks_demanded, lacks_marked, lacks_some};
+ghost use Rattle.vc_show.specs.Asking.{is_bare, is_demanding, lacks_demanded, lacks_marked, lacks_some, marked_of};
 ghost use Rattle.vc_show.specs.Fitting.{ShownFits};
 
 use crate::hiding::hidden;
 use crate::naming::{is_bare, same_named};
 use crate::sets::is_true;
+use std::alloc::{AllocError, Global};
 use vc_plan::{Named, Plan, Reading, Requirement};
 use vc_rule_readings::full_truth;
 use vc_rule_terms::elements::element;
+use vc_value::Listed;
 
 fn is_marked_at(plan: &Plan, characteristic: u32) -> bool
     ensures { result ≡ is_marked (slice_get plan.now.characteristics characteristic) }
@@ -53,6 +56,30 @@ fn is_marked(plan: &Plan, named: Named) -> bool
     match named {
         Named::Var(var) => is_var_marked(plan, var),
         Named::Set(set) => is_set_marked(plan, set),
+    }
+}
+
+/// The variables that are marked as required, in order.
+#[tactic(auto, using(vc_base::proofs::ListLaws::filter_next))]
+pub fn marked_vars(alloc: Global, plan: &Plan) -> Result<Listed<u32>, AllocError>
+    requires { ShownFits plan.now }
+    ensures { IfOk result (λ marked. marked ≡ marked_of plan.now) }
+{
+    let mut marked = Listed::new(alloc);
+    for var in 0..plan.vars.len() {
+        push_if_marked(plan, var as u32, &mut marked)?;
+    }
+    Ok(marked)
+}
+
+fn push_if_marked(plan: &Plan, var: u32, marked: &mut Listed<u32>) -> Result<(), AllocError>
+    ensures { OnOk result (marked.new ≡ marked.old
+        ++ (if is_marked (characteristic_of plan.now (Var var)) then var ∷ [] else [])) }
+{
+    if is_var_marked(plan, var) {
+        marked.push(var)
+    } else {
+        Ok(())
     }
 }
 
@@ -130,23 +157,30 @@ fn lacks_marked<R: Reading>(plan: &Plan, reading: &R, named: Named) -> bool
     is_marked(plan, named) && is_bare_and_shown(plan, reading, named)
 }
 
-#[tactic(auto, using(crate::proofs::RangeLemmas::some_passes))]
-fn some_var_lacks<R: Reading>(plan: &Plan, reading: &R) -> bool
+fn one_lacks<R: Reading>(plan: &Plan, reading: &R, vars: &[u32]) -> bool
     requires fit { ShownFits plan.now }
     requires values { LiesInGrains plan.now (R.seen reading.now) }
+    ensures { result ≡ list_any (λ v. lacks_marked plan.now (R.seen reading.now)
+        (full_reading plan.now (R.seen reading.now) (R.holdings reading.now)) (Var v)) vars.now }
+{
+    for var in vars {
+        if lacks_marked(plan, reading, Named::Var(*var)) {
+            return true;
+        }
+    }
+    false
+}
+
+// What lacks is marked, so no other variable is asked.
+fn some_var_lacks<R: Reading>(plan: &Plan, reading: &R, marked: &[u32]) -> bool
+    requires fit { ShownFits plan.now }
+    requires values { LiesInGrains plan.now (R.seen reading.now) }
+    requires marked { marked.now ≡ marked_of plan.now }
     ensures { result ≡ list_any (λ v. lacks_marked plan.now (R.seen reading.now)
         (full_reading plan.now (R.seen reading.now) (R.holdings reading.now)) (Var v))
         (numbers_below (length plan.now.vars)) }
 {
-    let count = plan.vars.len() as u32;
-    let mut var = 0;
-    while var < count {
-        if lacks_marked(plan, reading, Named::Var(var)) {
-            return true;
-        }
-        var += 1;
-    }
-    false
+    one_lacks(plan, reading, marked)
 }
 
 #[tactic(auto, using(crate::proofs::RangeLemmas::some_passes))]
@@ -214,22 +248,25 @@ fn some_text_lacks<R: Reading>(plan: &Plan, reading: &R) -> bool
     some_set_lacks(plan, reading) || some_demand_lacks(plan, reading)
 }
 
-// One pass over the variables, one over the sets and one over the selection conditions.
-fn lacks_some<R: Reading>(plan: &Plan, reading: &R) -> bool
+// One pass over the marked variables, one over the sets and one over the selection conditions.
+fn lacks_some<R: Reading>(plan: &Plan, reading: &R, marked: &[u32]) -> bool
     requires fit { ShownFits plan.now }
     requires values { LiesInGrains plan.now (R.seen reading.now) }
+    requires marked { marked.now ≡ marked_of plan.now }
     ensures { result ≡ lacks_some plan.now (R.seen reading.now)
         (full_reading plan.now (R.seen reading.now) (R.holdings reading.now)) }
 {
-    some_var_lacks(plan, reading) || some_text_lacks(plan, reading)
+    some_var_lacks(plan, reading, marked) || some_text_lacks(plan, reading)
 }
 
-/// Whether something that must have a value has none: it is here, and isn't hidden.
-pub fn has_open<R: Reading>(plan: &Plan, reading: &R) -> bool
+/// Whether something that must have a value has none: it is here, and isn't hidden. It is told the variables that are
+/// marked, since they are the plan's.
+pub fn has_open<R: Reading>(plan: &Plan, reading: &R, marked: &[u32]) -> bool
     requires fit { ShownFits plan.now }
     requires values { LiesInGrains plan.now (R.seen reading.now) }
+    requires marked { marked.now ≡ marked_of plan.now }
     ensures { result ≡ has_open plan.now (R.seen reading.now)
         (full_reading plan.now (R.seen reading.now) (R.holdings reading.now)) }
 {
-    lacks_some(plan, reading)
+    lacks_some(plan, reading, marked)
 }

@@ -4,6 +4,7 @@ ghost use Rattle.std.specs.Prelude.{◌≡◌, None};
 ghost use Rattle.vc_plan.specs.Readings.{full_reading};
 ghost use Rattle.vc_plan.specs.Showing.{culprit_at, settled_status, status_by};
 ghost use Rattle.vc_rule_terms.specs.Computing.{LiesInGrains};
+ghost use Rattle.vc_show.specs.Asking.{marked_of};
 ghost use Rattle.vc_show.specs.Fitting.{ShownFits};
 
 use crate::asking::has_open;
@@ -20,13 +21,14 @@ fn culprit_at(named: Named, dependency: u32) -> Culprit
     }
 }
 
-fn unviolated<R: Reading>(plan: &Plan, reading: &R) -> Status
+fn unviolated<R: Reading>(plan: &Plan, reading: &R, marked: &[u32]) -> Status
     requires fit { ShownFits plan.now }
     requires values { LiesInGrains plan.now (R.seen reading.now) }
+    requires marked { marked.now ≡ marked_of plan.now }
     ensures { result ≡ status_by plan.now (R.seen reading.now)
         (full_reading plan.now (R.seen reading.now) (R.holdings reading.now)) None }
 {
-    if has_open(plan, reading) {
+    if has_open(plan, reading, marked) {
         Status::Unfinished
     } else {
         Status::Complete
@@ -34,15 +36,16 @@ fn unviolated<R: Reading>(plan: &Plan, reading: &R) -> Status
 }
 
 /// How an evaluation stands of which no stage is broken: contradicted by the first precondition that is violated,
-/// unfinished where something that must have a value has none, or complete.
-pub fn status_of<R: Reading>(plan: &Plan, reading: &R) -> Status
+/// unfinished where something that must have a value has none, or complete. It is told the variables that are marked.
+pub fn status_of<R: Reading>(plan: &Plan, reading: &R, marked: &[u32]) -> Status
     requires fit { ShownFits plan.now }
     requires values { LiesInGrains plan.now (R.seen reading.now) }
+    requires marked { marked.now ≡ marked_of plan.now }
     ensures { result ≡ settled_status plan.now (R.seen reading.now)
         (full_reading plan.now (R.seen reading.now) (R.holdings reading.now)) }
 {
     match first_violated(plan, reading) {
         Some(guard) => Status::Contradiction(culprit_at(guard.at, guard.dependency)),
-        None => unviolated(plan, reading),
+        None => unviolated(plan, reading, marked),
     }
 }

@@ -19,6 +19,7 @@ use vc_plan::{
     Condition, Culprit, Guard, Named, Piece, Plan, Reading, Relation, Requirement, Selection,
     Status, Term, TextSet, Var, View,
 };
+use vc_show::asking::marked_vars;
 use vc_show::{hidden, hidden_value, required, status_of};
 use vc_value::{Domain, Listed, Value, Word};
 
@@ -194,10 +195,13 @@ fn plan<R: Abort>(rt: &R, alloc: Global) -> Plan
 }
 
 // The calls by themselves, so that a test doesn't compute what they ensure.
-fn status(plan: &Plan, text: u32) -> Status
+fn status<R: Abort>(rt: &R, alloc: Global, plan: &Plan, text: u32) -> Status
     requires { ShownFits plan.now }
 {
-    status_of(plan, &Chosen { text })
+    let marked = marked_vars(alloc, plan).expect(rt, "memory");
+    let status = status_of(plan, &Chosen { text }, marked.as_slice());
+    drop(marked);
+    status
 }
 
 fn is_hidden(plan: &Plan, text: u32) -> bool
@@ -234,10 +238,10 @@ fn tells_the_status(rt: HostRuntime) -> Result<(), Fail> {
     let plan = plan(&rt, rt.alloc());
     assert!(rt; !is_required(&plan, 2));
     assert!(rt; is_required(&plan, 0));
-    assert_eq!(rt; status(&plan, 2), Status::Complete);
-    assert_eq!(rt; status(&plan, 0), Status::Unfinished);
+    assert_eq!(rt; status(&rt, rt.alloc(), &plan, 2), Status::Complete);
+    assert_eq!(rt; status(&rt, rt.alloc(), &plan, 0), Status::Unfinished);
     assert_eq!(rt;
-        status(&plan, 1),
+        status(&rt, rt.alloc(), &plan, 1),
         Status::Contradiction(Culprit::HiddenSet {
             dependency: 1,
             set: 0

@@ -10,7 +10,8 @@ use Rattle.vc_session.proofs.session.Session.add.Goals as goal
 pub evaluate_edit-requires-clause-users : goal.evaluate_edit-requires-clause-users
 evaluate_edit-requires-clause-users g c =
     let plan = c.args.plan.now in
-    let of : IsSessionOf plan (record { users = c.self.inside.users; stages = c.self.inside.stages }) =
+    let of : IsSessionOf plan
+    (record { users = c.self.inside.users; stages = c.self.inside.stages; marked = c.self.inside.marked }) =
     subst (IsSessionOf plan) (sym c.self.view_is) c.requires.of in
     let users : AreUsersOf plan c.give.new.users =
     subst (AreUsersOf plan) (sym c.give.ensures) (given_of plan c.self.inside.users c.args.named c.args.value of.users
@@ -20,7 +21,8 @@ evaluate_edit-requires-clause-users g c =
 pub evaluate_edit-requires-clause-touched : goal.evaluate_edit-requires-clause-touched
 evaluate_edit-requires-clause-touched g c =
     let plan = c.args.plan.now in
-    let session : Opened = record { users = c.self.inside.users; stages = c.self.inside.stages } in
+    let session : Opened =
+    record { users = c.self.inside.users; stages = c.self.inside.stages; marked = c.self.inside.marked } in
     edit_differs plan session (touched_by c.args.named) c.give.new.users _
     (subst (IsSessionOf plan) (sym c.self.view_is) c.requires.of) c.give.ensures
     (given_touches c.self.inside.users c.args.named c.args.value)
@@ -28,7 +30,8 @@ evaluate_edit-requires-clause-touched g c =
 pub returns-in-None-clause-of : goal.returns-in-None-clause-of
 returns-in-None-clause-of g c =
     let plan = c.args.plan.now in
-    let of : IsSessionOf plan (record { users = c.self.inside.users; stages = c.self.inside.stages }) =
+    let of : IsSessionOf plan
+    (record { users = c.self.inside.users; stages = c.self.inside.stages; marked = c.self.inside.marked }) =
     subst (IsSessionOf plan) (sym c.self.view_is) c.requires.of in
     let users : AreUsersOf plan c.give.new.users =
     subst (AreUsersOf plan) (sym c.give.ensures) (given_of plan c.self.inside.users c.args.named c.args.value of.users
@@ -38,6 +41,7 @@ returns-in-None-clause-of g c =
       stages = c.evaluate_edit.ensures.of;
       evaluated = c.evaluate_edit.ensures.evaluated;
       taken = c.evaluate_edit.ensures.taken;
+      marked = of.marked;
     }
 
 pub returns-in-None-clause-cost : goal.returns-in-None-clause-cost

@@ -13,14 +13,16 @@ use Rattle.vc_session.proofs.session.Session.clash.Goals as goal
 pub clash-requires : goal.clash-requires
 clash-requires c =
     let plan = c.args.plan.now in
-    let s : Opened = record { users = c.self.inside.users; stages = c.self.inside.stages } in
+    let s : Opened =
+    record { users = c.self.inside.users; stages = c.self.inside.stages; marked = c.self.inside.marked } in
     let of : IsSessionOf plan s = subst (IsSessionOf plan) (sym c.self.view_is) c.requires.of in
     short_broken plan (users_of s.users) s.stages c.requires.valid of.stages of.evaluated
 
 pub returns-clause-explains : goal.returns-clause-explains
 returns-clause-explains c =
     let plan = c.args.plan.now in
-    let s : Opened = record { users = c.self.inside.users; stages = c.self.inside.stages } in
+    let s : Opened =
+    record { users = c.self.inside.users; stages = c.self.inside.stages; marked = c.self.inside.marked } in
     let of : IsSessionOf plan s = subst (IsSessionOf plan) (sym c.self.view_is) c.requires.of in
     subst (λ (session : Opened). IfOk c.clash.result (λ clash. IsClash plan (users_of session.users) clash))
     c.self.view_is
@@ -29,7 +31,8 @@ returns-clause-explains c =
 
 pub returns-clause-blames : goal.returns-clause-blames
 returns-clause-blames c =
-    let s : Opened = record { users = c.self.inside.users; stages = c.self.inside.stages } in
+    let s : Opened =
+    record { users = c.self.inside.users; stages = c.self.inside.stages; marked = c.self.inside.marked } in
     subst (λ (session : Opened). IfOk c.clash.result (λ clash. outcome_by (blamed_by clash)
     ≡ outcome_of session.stages session.stages.broken)) c.self.view_is
     (if_ok_told c.clash.result (clash_by (broken_net s.stages))

@@ -11,7 +11,8 @@ use Rattle.vc_session.proofs.session.Session.log.Goals as goal
 pub returns : goal.returns
 returns c =
     let plan = c.args.plan.now in
-    let s : Opened = record { users = c.self.inside.users; stages = c.self.inside.stages } in
+    let s : Opened =
+    record { users = c.self.inside.users; stages = c.self.inside.stages; marked = c.self.inside.marked } in
     let of : IsSessionOf plan s = subst (IsSessionOf plan) (sym c.self.view_is) c.requires.of in
     subst (λ (session : Opened). IfOk c.log.result (λ log. IsLog plan (users_of session.users) log)) c.self.view_is
     (if_ok_told c.log.result (log_by (settled_net s.stages)) (IsLog plan (users_of s.users)) c.log.ensures

@@ -10,7 +10,8 @@ use Rattle.vc_session.proofs.session.Session.retract.Goals as goal
 pub evaluate_edit-requires-clause-users : goal.evaluate_edit-requires-clause-users
 evaluate_edit-requires-clause-users g c =
     let plan = c.args.plan.now in
-    let of : IsSessionOf plan (record { users = c.self.inside.users; stages = c.self.inside.stages }) =
+    let of : IsSessionOf plan
+    (record { users = c.self.inside.users; stages = c.self.inside.stages; marked = c.self.inside.marked }) =
     subst (IsSessionOf plan) (sym c.self.view_is) c.requires.of in
     let users : AreUsersOf plan c.take.new.users =
     subst (AreUsersOf plan) (sym c.take.ensures) (taken_of plan c.self.inside.users c.args.named of.users) in
@@ -19,7 +20,8 @@ evaluate_edit-requires-clause-users g c =
 pub evaluate_edit-requires-clause-touched : goal.evaluate_edit-requires-clause-touched
 evaluate_edit-requires-clause-touched g c =
     let plan = c.args.plan.now in
-    let session : Opened = record { users = c.self.inside.users; stages = c.self.inside.stages } in
+    let session : Opened =
+    record { users = c.self.inside.users; stages = c.self.inside.stages; marked = c.self.inside.marked } in
     edit_differs plan session (touched_by c.args.named) c.take.new.users _
     (subst (IsSessionOf plan) (sym c.self.view_is) c.requires.of) c.take.ensures
     (taken_touches c.self.inside.users c.args.named)
@@ -27,7 +29,8 @@ evaluate_edit-requires-clause-touched g c =
 pub returns-clause-of : goal.returns-clause-of
 returns-clause-of g c =
     let plan = c.args.plan.now in
-    let of : IsSessionOf plan (record { users = c.self.inside.users; stages = c.self.inside.stages }) =
+    let of : IsSessionOf plan
+    (record { users = c.self.inside.users; stages = c.self.inside.stages; marked = c.self.inside.marked }) =
     subst (IsSessionOf plan) (sym c.self.view_is) c.requires.of in
     let users : AreUsersOf plan c.take.new.users =
     subst (AreUsersOf plan) (sym c.take.ensures) (taken_of plan c.self.inside.users c.args.named of.users) in
@@ -36,6 +39,7 @@ returns-clause-of g c =
       stages = c.evaluate_edit.ensures.of;
       evaluated = c.evaluate_edit.ensures.evaluated;
       taken = c.evaluate_edit.ensures.taken;
+      marked = of.marked;
     }
 
 pub returns-clause-cost : goal.returns-clause-cost

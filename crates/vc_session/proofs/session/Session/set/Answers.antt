@@ -10,7 +10,8 @@ use Rattle.vc_session.proofs.session.Session.set.Goals as goal
 pub evaluate_edit-requires-clause-users : goal.evaluate_edit-requires-clause-users
 evaluate_edit-requires-clause-users g c =
     let plan = c.args.plan.now in
-    let of : IsSessionOf plan (record { users = c.self.inside.users; stages = c.self.inside.stages }) =
+    let of : IsSessionOf plan
+    (record { users = c.self.inside.users; stages = c.self.inside.stages; marked = c.self.inside.marked }) =
     subst (IsSessionOf plan) (sym c.self.view_is) c.requires.of in
     let users : AreUsersOf plan c.give_alone.new.users =
     subst (AreUsersOf plan) (sym c.give_alone.ensures)
@@ -21,7 +22,8 @@ evaluate_edit-requires-clause-users g c =
 pub evaluate_edit-requires-clause-touched : goal.evaluate_edit-requires-clause-touched
 evaluate_edit-requires-clause-touched g c =
     let plan = c.args.plan.now in
-    let session : Opened = record { users = c.self.inside.users; stages = c.self.inside.stages } in
+    let session : Opened =
+    record { users = c.self.inside.users; stages = c.self.inside.stages; marked = c.self.inside.marked } in
     edit_differs plan session (touched_by c.args.named) c.give_alone.new.users _
     (subst (IsSessionOf plan) (sym c.self.view_is) c.requires.of) c.give_alone.ensures
     (given_alone_touches c.self.inside.users c.args.named c.args.value)
@@ -29,7 +31,8 @@ evaluate_edit-requires-clause-touched g c =
 pub returns-in-None-clause-of : goal.returns-in-None-clause-of
 returns-in-None-clause-of g c =
     let plan = c.args.plan.now in
-    let of : IsSessionOf plan (record { users = c.self.inside.users; stages = c.self.inside.stages }) =
+    let of : IsSessionOf plan
+    (record { users = c.self.inside.users; stages = c.self.inside.stages; marked = c.self.inside.marked }) =
     subst (IsSessionOf plan) (sym c.self.view_is) c.requires.of in
     let users : AreUsersOf plan c.give_alone.new.users =
     subst (AreUsersOf plan) (sym c.give_alone.ensures)
@@ -40,6 +43,7 @@ returns-in-None-clause-of g c =
       stages = c.evaluate_edit.ensures.of;
       evaluated = c.evaluate_edit.ensures.evaluated;
       taken = c.evaluate_edit.ensures.taken;
+      marked = of.marked;
     }
 
 pub returns-in-None-clause-cost : goal.returns-in-None-clause-cost

@@ -11,14 +11,16 @@ use Rattle.vc_session.proofs.session.Session.why.Goals as goal
 pub chain-requires : goal.chain-requires
 chain-requires c =
     let plan = c.args.plan.now in
-    let s : Opened = record { users = c.self.inside.users; stages = c.self.inside.stages } in
+    let s : Opened =
+    record { users = c.self.inside.users; stages = c.self.inside.stages; marked = c.self.inside.marked } in
     let of : IsSessionOf plan s = subst (IsSessionOf plan) (sym c.self.view_is) c.requires.of in
     short_settled plan (users_of s.users) s.stages c.requires.valid of.stages of.evaluated
 
 pub returns : goal.returns
 returns c =
     let plan = c.args.plan.now in
-    let s : Opened = record { users = c.self.inside.users; stages = c.self.inside.stages } in
+    let s : Opened =
+    record { users = c.self.inside.users; stages = c.self.inside.stages; marked = c.self.inside.marked } in
     let of : IsSessionOf plan s = subst (IsSessionOf plan) (sym c.self.view_is) c.requires.of in
     subst (λ (session : Opened). IfOk c.chain.result (λ chain. IsWhy plan (users_of session.users) c.args.atom chain))
     c.self.view_is
