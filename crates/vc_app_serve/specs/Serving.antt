@@ -139,7 +139,8 @@ Ends tells s r k d (Err stops.Door) = PlanEnds tells s r k d (Err stops.Door)
 abbrev pub Says : Service → Outside → ℕ → Result Unit Stop → Type 0
 Says s o status (Ok done) = (status ≡ 0) × (o.written_after ≡ o.written_before) × (o.sink_after ≡ o.sink_before)
 Says s o status (Err stop) =
-    IsSaid o.written_before o.written_after o.sink_before o.sink_after (stop_line s.model stop) (stop_status stop) status
+    IsSaid o.written_before o.written_after o.sink_before o.sink_after (stop_line s.model stop)
+    (stop_status stop) status
 
 abbrev pub read_by : Outside → Read
 read_by o = read_from o.files o.shelf_before o.shelf_after

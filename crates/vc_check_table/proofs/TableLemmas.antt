@@ -100,14 +100,16 @@ module _ (plan : Plan) (seen : Seen) (table : ℕ) (columns : List Binding) wher
       (filter (λ g. not (keeps plan seen v columns (rows_of plan table) g)) (numbers_below (count_of plan v)))) a
       ≡ puts_out plan seen v columns (rows_of plan table) a
   outs_among v (Here i) =
-      no_slot v (filter (λ g. not (keeps plan seen v columns (rows_of plan table) g)) (numbers_below (count_of plan v))) i
+      no_slot v
+      (filter (λ g. not (keeps plan seen v columns (rows_of plan table) g)) (numbers_below (count_of plan v))) i
   outs_among v (Out w g) =
       out_of v (filter (λ h. not (keeps plan seen v columns (rows_of plan table) h)) (numbers_below (count_of plan v)))
       w g
       ∙ ap (λ b. (w == v) && b)
       (among_below (λ h. not (keeps plan seen v columns (rows_of plan table) h)) (count_of plan v) g)
   outs_among v (Is w a) =
-      no_value v (filter (λ g. not (keeps plan seen v columns (rows_of plan table) g)) (numbers_below (count_of plan v)))
+      no_value v
+      (filter (λ g. not (keeps plan seen v columns (rows_of plan table) g)) (numbers_below (count_of plan v)))
       w a
 
   pub gives_outs : (v : ℕ) (a : Atom) → is_restrictable plan v ≡ true

@@ -20,8 +20,8 @@ use Rattle.vc_wire_replies.specs.declared.reply.SavedRefusal.TheVariants.{NotJso
 use Rattle.vc_desk.specs.Editing.{EditsTo}
 use Rattle.vc_desk.specs.States.{HoldsOfSaved, State}
 
--- where the keeper failed, its count of faults rose, and it is said; where memory was wanting, that is said; nothing else
--- changes then. Else it is answered so by the texts that are saved before and after
+-- where the keeper failed, its count of faults rose, and it is said; where memory was wanting, that is said; nothing
+-- else changes then. Else it is answered so by the texts that are saved before and after
 pub data UnlessKeeperFails (state : State) (reply : Reply) (next : State) (Answers : Texts → Texts → Type 0) : Type 0
   where
     keeper_failed : reply ≡ Refused KeeperFault → Raised state.faults next.faults → next.saved ≡ state.saved

@@ -7,7 +7,8 @@ use Rattle.vc_http_responses.specs.Responses.{bad_response, response}
 
 -- a session that isn't open is asked for, and the connection goes on
 no_session : response 404 [] true (codes "refused 1 NoSession\n")
-    ≡ codes "HTTP/1.1 404 Not Found\r\ncontent-type: text/plain; charset=utf-8\r\ncontent-length: 20\r\n\r\nrefused 1 NoSession\n"
+    ≡ codes "HTTP/1.1 404 Not Found\r\ncontent-type: text/plain; charset=utf-8\r\ncontent-length: 20\r\n\r\n"
+    ++ codes "refused 1 NoSession\n"
 unfolding digits
 no_session = refl
 

@@ -45,12 +45,13 @@ refused_whole status allow old new before now appends calm = λ plan number stat
 pub refused_half : (status : ℕ) (allow : Allow) (old new : Option (List ℕ)) (before now : ℕ)
     → AppendsFront old new (bad_response status allow) → Raised before now
     → Refuses status allow old new before now course.Failed
-refused_half status allow old new before now (front, unsent, is, appends) raised = λ plan number state bytes rest spells. (
-  front,
-  half_said unsent [] false (refused status (methods_in allow), spells, (sym is, refl, refl, refl)),
-  appends,
-  raised,
-)
+refused_half status allow old new before now (front, unsent, is, appends) raised =
+    λ plan number state bytes rest spells. (
+      front,
+      half_said unsent [] false (refused status (methods_in allow), spells, (sym is, refl, refl, refl)),
+      appends,
+      raised,
+    )
 
 -- a request that is applied is answered by the reply
 said : (plan : Plan) (number : ℕ) (state : State) (request : Request) (keep goes : Bool) (reply : Reply) (next : State)
@@ -72,7 +73,8 @@ pub answered_whole : (plan later : Plan) (state : State) (request : Request) (go
 answered_whole plan later state request goes reply next old new before now came still applies (appends, calm) is =
     λ number keep bytes rest same spells.
     subst (λ c. ComesTo plan number state bytes next rest old new before now c) (sym is)
-    (by number bytes rest goes (said plan number state request keep goes reply next bytes rest (answer plan reply goes) same spells
+    (by number bytes rest goes
+    (said plan number state request keep goes reply next bytes rest (answer plan reply goes) same spells
     applies refl) (subst (λ p. Appends old new (answer p reply goes)) still appends))
   where
     by : (number : ℕ) (bytes rest : List ℕ) (goes : Bool)

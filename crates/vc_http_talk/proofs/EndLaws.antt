@@ -73,7 +73,8 @@ no_further plan other state begun bytes one two written said next last rest left
   where
     by : GoesOnAt other begun bytes one → ⊥
     by (front, middle, beyond, more, then, remains, stays, passes, answers) =
-        let same = decided plan other state begun bytes one written front next middle rest beyond goes true talk passes in
+        let same =
+        decided plan other state begun bytes one written front next middle rest beyond goes true talk passes in
         over_then other (suc one) middle beyond more then remains stays
         (subst (λ xs. IsOver true xs) same.0 (subst (λ g. IsOver g rest) same.1 over)) answers
 

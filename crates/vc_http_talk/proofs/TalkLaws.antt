@@ -208,7 +208,8 @@ goes_further plan start kept (Some more) rest (Some less) count before state nex
       bytes = s.bytes;
       given = still start s.given;
       written = s.written ++ last;
-      talk = talk_on plan before s.bytes count s.written state (kept ++ more) last next (rest ++ less) true s.talk answers;
+      talk = talk_on plan before s.bytes count s.written state (kept ++ more) last next
+          (rest ++ less) true s.talk answers;
       appends = Appends-trans old new newer s.written last s.appends appends;
     }
   where

@@ -46,8 +46,15 @@ two_requests plan state between next bytes more rest one two first second spells
 -- a message that is refused leaves the state, and nothing of the bytes
 refused_once : (plan : Plan) (state : State) (bytes : List ℕ) → MessageOf bytes (refused 404 [])
     → Talk plan state bytes 1 (refusal 404 []) state [] false
-refused_once plan state bytes spells =
-    ([], state, bytes, refusal 404 [], (refl, refl, refl, refl), (refused 404 [], spells, (refl, refl, refl, refl)), refl)
+refused_once plan state bytes spells = (
+  [],
+  state,
+  bytes,
+  refusal 404 [],
+  (refl, refl, refl, refl),
+  (refused 404 [], spells, (refl, refl, refl, refl)),
+  refl,
+)
 
 method_refused : refusal 405 (methods_in GetDelete)
     ≡ codes "HTTP/1.1 405 Method Not Allowed\r\ncontent-type: text/plain; charset=utf-8\r\ncontent-length: 22\r\n"

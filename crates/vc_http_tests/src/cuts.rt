@@ -76,7 +76,8 @@ fn requests_are_cut(rt: HostRuntime) -> Result<(), Fail> {
             KEPT,
         ),
         (
-            "PUT /sessions/a/values/0/SIZE HTTP/1.1\r\nHost: d\r\nConnection: Close\r\nContent-Length: 13\r\n\r\n{\"value\":\"L\"}",
+            "PUT /sessions/a/values/0/SIZE HTTP/1.1\r\nHost: d\r\nConnection: Close\r\n\
+             Content-Length: 13\r\n\r\n{\"value\":\"L\"}",
             LAST,
         ),
         (

@@ -12,7 +12,8 @@ returns-in-Ok-plan_line g c =
     (g.S.Sink.written c.args.out.now) (g.S.Sink.written c.say.new.out) (g.S.Sink.faults c.args.out.now)
     (g.S.Sink.faults c.say.new.out) in
     record {
-      ends = plan_said (some_spot c.args.alloc) c.args.name.now o c.in-Ok.plan c.bytes.result.now c.say.result c.in-Ok.ensures.plan
+      ends = plan_said
+          (some_spot c.args.alloc) c.args.name.now o c.in-Ok.plan c.bytes.result.now c.say.result c.in-Ok.ensures.plan
           (c.bytes.ensures ∙ c.in-Ok-plan_line.ensures) c.say.ensures;
     }
 
@@ -35,7 +36,9 @@ returns-in-Ok-stop_line g c =
     (g.S.Sink.written c.args.out.now) (g.S.Sink.written said.new.out) (g.S.Sink.faults c.args.out.now)
     (g.S.Sink.faults said.new.out) in
     record {
-      ends = stop_said (some_spot c.args.alloc) c.args.name.now o c.in-Err.stop c.bytes-in-Ok-stop_line.result.now c.stop_status.result
+      ends = stop_said
+          (some_spot c.args.alloc) c.args.name.now o c.in-Err.stop
+          c.bytes-in-Ok-stop_line.result.now c.stop_status.result
           said.result
           c.in-Err.ensures.stops (c.bytes-in-Ok-stop_line.ensures ∙ c.in-Ok-stop_line.ensures) c.stop_status.ensures
           said.ensures;

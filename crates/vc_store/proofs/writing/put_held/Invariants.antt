@@ -10,6 +10,7 @@ use Rattle.vc_store.proofs.writing.put_held.Given as goal
 abbrev pub invariant-loop-listed : goal.invariant-loop-listed
 invariant-loop-listed l =
     map view l.out.items
-    ++ map choice_data (map (saving.choice_of l.plan l.slot (Set l.set)) (map Text (held_texts (drop l.listed-index l.texts))))
+    ++ map choice_data
+    (map (saving.choice_of l.plan l.slot (Set l.set)) (map Text (held_texts (drop l.listed-index l.texts))))
     ≡ map view l.initial.out.items
     ++ map choice_data (map (saving.choice_of l.plan l.slot (Set l.set)) (map Text (held_texts l.texts)))

@@ -23,5 +23,6 @@ returns c =
     let ended : length c.args.plan.now.slots - c.loop-slot.slot ≡ 0
     = omega (arith, c.loop-slot-test.false, c.len-slot-end.ensures) in
     sym (append-nil out)
-    ∙ ap (λ n. out ++ flat_map (json_at c.args.plan.now c.args.users.now) (range_with_len c.loop-slot.slot n)) (sym ended)
+    ∙ ap (λ n. out ++ flat_map (json_at c.args.plan.now c.args.users.now) (range_with_len c.loop-slot.slot n))
+    (sym ended)
     ∙ c.loop-slot.invariant.0
