@@ -3,7 +3,8 @@ use Rattle.std.proofs.Common.{◌≡◌, ℕ, ◌<◌, Bool, true, false, cond, 
 use Rattle.std.proofs.Common.{sym, ◌∙◌, ap, subst, inl, inr, arith}
 use Rattle.std.specs.Prelude.{nat_eq, Option, None, Some}
 use Rattle.std.specs.List.{list_all}
-use Rattle.std.proofs.lemmas.Bool.{and_parts, and_from, not-true, not_from_false, false_from_ne_true, eqb-true, cases_lt}
+use Rattle.std.proofs.lemmas.Bool.{and_parts, and_from, not-true, not_from_false, false_from_ne_true, eqb-true}
+use Rattle.std.proofs.lemmas.Bool.{cases_lt}
 use Rattle.vc_base.specs.Sets.{has}
 use Rattle.vc_base.proofs.ListLaws.{number_exact, number_itself, range_has}
 use Rattle.vc_base.proofs.SetLaws.{both, same_test, all_at, all_from}
@@ -142,7 +143,8 @@ clear_where_named plan grains set said is names =
     (facts_from plan set
     (λ a h. all_at same_atom atom_exact atom_itself (fits plan (seen_of set)) set a e h) grains
     (λ a h. all_at same_atom atom_exact atom_itself (is_named plan) set a names h)))
-    (λ e. all_from same_atom atom_exact atom_itself (fits plan (seen_of set)) set (atom_fits plan set (facts plan set e)))
+    (λ e. all_from same_atom atom_exact atom_itself (fits plan (seen_of set)) set
+    (atom_fits plan set (facts plan set e)))
 
 pub unclear_where_not : (plan : Plan) (set : List Atom) → list_all (is_named plan) set ≡ false
     → is_clear plan set ≡ false
