@@ -1,6 +1,6 @@
 -- What a session says is what the evaluation of the user's values reaches, and what it blames refutes.
 use Rattle.std.proofs.Common.{◌≡◌, ℕ, zero, suc, Bool, List, [], ◌∷◌, length, map, refl, sym, ap, ◌∙◌, subst}
-use Rattle.std.specs.Prelude.{Option, None, Some, Result, Ok, Err, IfOk, pred, slice_get}
+use Rattle.std.specs.Prelude.{Option, None, Some, Result, Ok, Err, IfOk}
 use Rattle.vc_plan.specs.declared.atoms.Clash.{Clash}
 use Rattle.vc_plan.specs.declared.atoms.Culprit.{Culprit}
 use Rattle.vc_plan.specs.declared.atoms.Outcome.TheVariants as outcomes
@@ -25,18 +25,14 @@ use Rattle.vc_net.specs.Ending.{clash_of}
 use Rattle.vc_net.specs.Nets.{Netted, outcome_by}
 use Rattle.vc_session_stages.specs.Stages.{is_late_seen, seen_at}
 use Rattle.vc_session_stages.proofs.StageLaws.{late_is_seen}
-use Rattle.vc_session_evaluation.specs.Evaluating.{EndsAt, HasBroken, HasEnded, said_by}
+use Rattle.vc_session_evaluation.specs.Evaluating.{EndsAt, HasBroken, HasEnded}
 use Rattle.vc_session_evaluation.proofs.GoingLaws.{settled_lies}
+use Rattle.vc_session_evaluation.proofs.OnceLaws.{last_said}
 use Rattle.vc_session.specs.Sessions.{IsSessionOf, Opened, last_seen, outcome_at, outcome_of, seen_in}
 use Rattle.vc_desk_shown.specs.Laws.{SettledSessionsReach}
 use Rattle.vc_desk_shown.specs.Shown.{chosen_text, instances_text, shown, shown_after}
 
--- what the net of a stage says
-seen_there : (nets : List Netted) (k : ℕ) → seen_in (slice_get nets k) ≡ seen_at (map said_by nets) k
-seen_there [] k = refl
-seen_there (net ∷ nets) zero = refl
-seen_there (net ∷ nets) (suc k) = seen_there nets k
-
+-- what the set of a stage says
 said_at : (sets : List (List Atom)) (k : ℕ) → seen_at (map seen_of sets) k ≡ seen_of (set_at sets k)
 said_at [] k = refl
 said_at (set ∷ sets) zero = refl
@@ -53,8 +49,7 @@ settled_sessions_reach plan session valid of calm =
     let ended : HasEnded plan users stages = subst (EndsAt plan users stages) calm of.evaluated in
     let all = ended.settled in
     let says : last_seen stages ≡ seen_of (last_set plan all.sets) =
-    ap (λ n. seen_in (slice_get stages.nets.items (pred n))) of.stages.many
-    ∙ seen_there stages.nets.items (last_stage plan)
+    ap seen_in ended.its ∙ sym (last_said plan stages ended.net of.stages ended.its)
     ∙ ap (λ seen. seen_at seen (last_stage plan)) (sym all.seen)
     ∙ said_at all.sets (last_stage plan) in
     record {

@@ -19,6 +19,7 @@ use Rattle.vc_net_bounds.specs.Capping.{most_cells}
 use Rattle.vc_plan.proofs.PlanLaws.Atoms.{atom_exact, atom_itself}
 use Rattle.vc_plan.proofs.PlanLaws.Facts.{clear_from, not_exhausted_past}
 use Rattle.vc_plan_blame.proofs.BlameLaws.Unclear.{some_grain}
+use Rattle.vc_rule_grains.specs.Finding.{GrainsFit}
 use Rattle.vc_net_log.specs.Coming.{are_by_slot}
 use Rattle.vc_net_places.specs.Cells.{bounds_of, own_bound, total}
 use Rattle.vc_net_places.specs.Places.{index_of, number_of, place_for}
@@ -32,6 +33,9 @@ use Rattle.std.proofs.lemmas.List.Sums.{sum_by-cons}
 pub atoms_fit : (plan : Plan) → IsValid plan → atom_count plan < 2 ^ 32
 atoms_fit plan valid =
     let few : atom_count plan ≤ 40_000 = leb-true (atom_count plan) 40_000 valid.atom_limit in omega (arith, few)
+
+pub grains_fit : (plan : Plan) → IsValid plan → GrainsFit plan
+grains_fit plan valid = record { few = atoms_fit plan valid; proper = valid.proper }
 
 pub rules_fit : (plan : Plan) → IsValid plan → length plan.rules < 2 ^ 32
 rules_fit plan valid =
@@ -109,4 +113,4 @@ pub places_counted : (plan : Plan) → length (index_of plan).things ≡ atom_co
 places_counted plan = things_are_counted plan
 
 -- what each call needs of a valid plan
-pub ruleset fitting = (atoms_fit, rules_fit, vars_fit, vars_ordered, cells_fit)
+pub ruleset fitting = (atoms_fit, grains_fit, rules_fit, vars_fit, vars_ordered, cells_fit)

@@ -1,7 +1,7 @@
 //! Who is asked when sources have changed.
 
 ghost use Rattle.std.specs.Prelude.{◌≡◌, ◌||◌, ◌^◌, ◌<◌, [], if◌then◌else◌, length};
-ghost use Rattle.vc_plan.specs.Domains.{atom_count};
+ghost use Rattle.vc_rule_grains.specs.Finding.{GrainsFit};
 ghost use Rattle.vc_plan_reasons.specs.Checking.{concluded};
 ghost use Rattle.vc_plan_reasons.specs.Keeping.{entry_differs, user_differs};
 ghost use Rattle.vc_net_places.specs.Places.{index_of};
@@ -22,7 +22,7 @@ use vc_plan_sources::Sources;
 
 /// Lets all wait whom those of the facts wake that are no more concluded.
 pub fn wake_dropped(plan: &Plan, readers: &Readers, log: &Log, facts: &[Fact], agenda: &mut Agenda)
-    requires few { atom_count plan.now < 2 ^ 32 }
+    requires grains { GrainsFit plan.now }
     requires vars { length plan.now.vars < 2 ^ 32 }
     requires index { log.now.index ≡ index_of plan.now }
     requires readers { readers.now ≡ readers_of plan.now }

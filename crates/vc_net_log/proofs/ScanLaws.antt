@@ -1,8 +1,8 @@
 -- Which of a slot's variables, and which of a variable's grains, pass a test.
-use Rattle.std.proofs.Common.{◌≡◌, ℕ, zero, suc, ◌+◌, ◌-◌, ◌<◌, ◌≤◌, ◌⊎◌, Bool, true, false, ◌&&◌, ◌||◌, List, [], ◌∷◌}
+use Rattle.std.proofs.Common.{◌≡◌, ℕ, zero, suc, ◌-◌, ◌<◌, ◌≤◌, ◌⊎◌, Bool, true, false, ◌&&◌, ◌||◌, List, [], ◌∷◌}
 use Rattle.std.proofs.Common.{length, get_or, refl, sym, ◌∙◌, ap, subst, inl, inr, arith}
 use Rattle.std.specs.Prelude.{Some, nat_eq, nat_le, nat_lt, option_to_list, slice_get, ◌==◌}
-use Rattle.std.specs.List.{list_all, list_any, range_with_len}
+use Rattle.std.specs.List.{list_all, list_any}
 use Rattle.std.specs.List.Sorted.{IsPartitionedBy, IsPartitionPoint}
 use Rattle.std.proofs.lemmas.Bool.{and_parts, cases_lt, leb-true, lt-ltb, ltb-false, ltb-true}
 use Rattle.std.proofs.lemmas.Option.{get_or_from_slice_get, slice_get-get_or, slice_get_within}
@@ -16,29 +16,6 @@ use Rattle.vc_plan.specs.Domains.{numbers_below}
 use Rattle.vc_plan.specs.Seen.{slot_in}
 use Rattle.vc_plan_blame.specs.Blame.{uses_up}
 use Rattle.vc_net_log.specs.Coming.{are_by_slot, has_full, is_full}
-
--- a test of the numbers from one on
-from_one : (p : ℕ → Bool) (g n m : ℕ) → n - g ≡ suc m
-    → list_any p (range_with_len g (n - g)) ≡ (p g || list_any p (range_with_len (g + 1) m))
-from_one p g n m e = ap (λ k. list_any p (range_with_len g k)) e
-
-pub any_next : (p : ℕ → Bool) (g n : ℕ) → g < n → p g ≡ false
-    → list_any p (range_with_len g (n - g)) ≡ list_any p (range_with_len (g + 1) (n - (g + 1)))
-any_next p g n below e =
-    from_one p g n (n - (g + 1)) (omega (arith, below))
-    ∙ ap (λ b. b || list_any p (range_with_len (g + 1) (n - (g + 1)))) e
-
-pub any_here : (p : ℕ → Bool) (g n : ℕ) → g < n → p g ≡ true → list_any p (range_with_len g (n - g)) ≡ true
-any_here p g n below e =
-    from_one p g n (n - (g + 1)) (omega (arith, below))
-    ∙ ap (λ b. b || list_any p (range_with_len (g + 1) (n - (g + 1)))) e
-
-pub any_ends : (p : ℕ → Bool) (g n : ℕ) → n ≤ g → list_any p (range_with_len g (n - g)) ≡ false
-any_ends p g n past =
-    let none : n - g ≡ 0 = omega (arith, past) in
-    ap (λ k. list_any p (range_with_len g k)) none
-
-pub ruleset scanning = (any_next, any_here, any_ends)
 
 pub none_below : (p : ℕ → Bool) (n : ℕ) → ((v : ℕ) → v < n → p v ≡ false) → list_any p (numbers_below n) ≡ false
 none_below p n none =

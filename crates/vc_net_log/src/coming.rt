@@ -1,25 +1,24 @@
 //! Whether an atom may come to what stands, which is clear.
 
-ghost use Rattle.std.specs.Prelude.{◌≡◌, ◌^◌, ◌<◌, ◌≤◌, ℕ, true, not, ◌&&◌, nat_lt, length, map, slice_get};
+ghost use Rattle.std.specs.Prelude.{◌≡◌, ◌^◌, ◌<◌, ◌≤◌, ℕ, true, not, ◌&&◌, nat_lt, length, slice_get};
 ghost use Rattle.std.specs.Prelude.{slice_index_or, Some};
-ghost use Rattle.vc_plan.specs.Domains.{atom_count, count_of, grains_in, grains_of, passes};
-ghost use Rattle.vc_plan.specs.Pieces.{lies_in, lies_in_some};
+ghost use Rattle.vc_plan.specs.Domains.{atom_count, count_of, grains_of};
 ghost use Rattle.vc_plan.specs.Seen.{is_here};
 ghost use Rattle.vc_plan.specs.declared.atoms.Atom.TheVariants.{Is};
-ghost use Rattle.vc_plan.specs.declared.conditions.Piece.TheVariants.{OneText, Stretch};
 ghost use Rattle.vc_plan.specs.declared.plans.Var.{Var as PlanVar};
-ghost use Rattle.vc_value.specs.declared.value.Value.TheVariants.{Num, Text};
+ghost use Rattle.vc_rule_grains.specs.Finding.{GrainsFit};
 ghost use Rattle.vc_net_standing.specs.Coming.{is_held_by, may_be, may_come};
 ghost use Rattle.vc_net_standing.specs.Standing.{seen_by};
-ghost use Rattle.vc_net_log.specs.Coming.{are_by_slot, has_full, is_full, is_full_with, lies_in_left, lies_in_out};
+ghost use Rattle.vc_net_log.specs.Coming.{are_by_slot, has_full, is_full, is_full_with, lies_in_left};
 
 use vc_net_standing::Standing;
 use vc_plan::{Plan, Var, View, count_of};
+use vc_rule_grains::finding::grain_of;
 use vc_rule_grains::grains::piece;
 use vc_rule_terms::elements::element;
 use vc_rule_terms::lies_in;
 use vc_rule_yield::atoms::same_value;
-use vc_value::{Dec, Domain, GrainList, Value};
+use vc_value::Value;
 
 // How many of the variable's grains are out.
 fn out_count(outs: &[u32], var: u32) -> usize
@@ -131,99 +130,13 @@ pub fn may_come_out(plan: &Plan, standing: &Standing, outs: &[u32], var: u32, gr
     (grain as usize) < count_of(plan, var) && may_go(plan, standing, outs, var, grain)
 }
 
-fn has_text(texts: &[u32], text: u32) -> bool
-    ensures { result ≡ lies_in_some (map OneText texts.now) (Text text) }
-{
-    let mut rest = texts;
-    while let [other, more @ ..] = rest {
-        if *other == text {
-            return true;
-        }
-        rest = more;
-    }
-    false
-}
-
-#[tactic(auto, using(vc_rule_grains::proofs::GrainLemmas::text_at))]
-fn is_text_at(texts: &[u32], text: u32, grain: u32) -> bool
-    ensures { result ≡ passes (lies_in (Text text)) (slice_get (map OneText texts.now) grain) }
-{
-    match element(texts, grain) {
-        Some(other) => *other == text,
-        None => false,
-    }
-}
-
-fn is_text_out_at(texts: &[u32], standing: &Standing, var: u32, text: u32, grain: u32) -> bool
-    ensures { result ≡ passes (lies_in (Text text)) (slice_get (map OneText texts.now) grain)
-        && (seen_by standing.now).out var grain }
-{
-    is_text_at(texts, text, grain) && standing.out(var, grain)
-}
-
-#[tactic(auto, using(crate::proofs::ScanLaws::scanning))]
-fn is_text_out(texts: &[u32], standing: &Standing, var: u32, text: u32) -> bool
-    requires { length texts.now < 2 ^ 32 }
-    ensures { result ≡ lies_in_out (map OneText texts.now) (seen_by standing.now) var (Text text) }
-{
-    let count = texts.len() as u32;
-    let mut grain = 0;
-    while grain < count {
-        if is_text_out_at(texts, standing, var, text, grain) {
-            return true;
-        }
-        grain += 1;
-    }
-    false
-}
-
-fn may_have_text(texts: &[u32], standing: &Standing, var: u32, text: u32) -> bool
-    requires { length texts.now < 2 ^ 32 }
-    ensures { result ≡ lies_in_left (map OneText texts.now) (seen_by standing.now) var (Text text) }
-{
-    has_text(texts, text) && !is_text_out(texts, standing, var, text)
-}
-
-fn may_have_number(grains: &GrainList, standing: &Standing, var: u32, number: Dec) -> bool
-    ensures { result ≡ lies_in_left (map Stretch grains.now) (seen_by standing.now) var (Num number) }
-{
-    // As they ascend, one alone holds it.
-    let _count = grains.count();
-    match grains.find(number) {
-        Some(grain) => !standing.out(var, grain),
-        None => false,
-    }
-}
-
-fn may_have(domain: &Domain, standing: &Standing, var: u32, value: Value) -> bool
-    requires { length (grains_in (Some domain.now)) < 2 ^ 32 }
-    ensures { result ≡ lies_in_left (grains_in (Some domain.now)) (seen_by standing.now) var value }
-{
-    match domain {
-        Domain::Texts(texts) => match value {
-            Value::Text(text) => may_have_text(texts.as_slice(), standing, var, text),
-            Value::Num(_) => false,
-        },
-        Domain::Nums {
-            decimals: _,
-            grains,
-        } => match value {
-            Value::Text(_) => false,
-            Value::Num(number) => may_have_number(grains, standing, var, number),
-        },
-    }
-}
-
-// Whether the value lies in a grain of the variable, and in none that is out.
+// Whether the value lies in a grain of the variable, and in none that is out. One alone holds it.
 fn lies_in_left(plan: &Plan, standing: &Standing, var: u32, value: Value) -> bool
-    requires { atom_count plan.now < 2 ^ 32 }
+    requires { GrainsFit plan.now }
     ensures { result ≡ lies_in_left (grains_of plan.now var) (seen_by standing.now) var value }
 {
-    match element(plan.vars.as_slice(), var) {
-        Some(x) => match element(plan.domains.as_slice(), x.domain) {
-            Some(domain) => may_have(domain, standing, var, value),
-            None => false,
-        },
+    match grain_of(plan, var, value) {
+        Some(grain) => !standing.out(var, grain),
         None => false,
     }
 }
@@ -240,7 +153,7 @@ fn may_be(value: Value, other: Option<Value>) -> bool
 
 /// Whether the variable may have the value: it has no other, and one of its grains that are left holds it.
 pub fn may_come_is(plan: &Plan, standing: &Standing, var: u32, value: Value) -> bool
-    requires { atom_count plan.now < 2 ^ 32 }
+    requires { GrainsFit plan.now }
     ensures { result ≡ may_come plan.now (seen_by standing.now) (Is var value) }
 {
     lies_in_left(plan, standing, var, value) && may_be(value, standing.value(var))

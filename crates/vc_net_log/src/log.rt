@@ -45,6 +45,7 @@ impl Log {
     ghost use Rattle.vc_base.specs.Sets.{has, Within};
     ghost use Rattle.vc_plan.specs.Clear.{is_clear};
     ghost use Rattle.vc_plan.specs.Domains.{atom_count};
+    ghost use Rattle.vc_rule_grains.specs.Finding.{GrainsFit};
     ghost use Rattle.vc_plan.specs.Seen.{same_atom, says};
     ghost use Rattle.vc_plan_reasons.specs.Checking.{concluded, set_with};
     ghost use Rattle.vc_net_places.specs.Cells.{begins_from, total};
@@ -147,7 +148,7 @@ impl Log {
 
     /// Whether what stands, which is clear, stays so with the atom.
     pub fn may_come(&self, plan: &Plan, atom: Atom) -> bool
-        requires few { atom_count plan.now < 2 ^ 32 }
+        requires grains { GrainsFit plan.now }
         requires index { self.now.index ≡ index_of plan.now }
         requires ordered { are_by_slot plan.now.vars ≡ true }
         requires clear { is_clear plan.now (set_of self.now) ≡ true }

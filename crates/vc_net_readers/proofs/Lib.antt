@@ -5,4 +5,3 @@ pub mod ReaderRows
 pub mod RisingLemmas
 pub mod TouchedLemmas
 pub mod WaiterLemmas
-pub mod WaitingLemmas

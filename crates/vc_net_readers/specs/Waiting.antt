@@ -1,15 +1,12 @@
 -- Which rules wait for a value, of which variable and under which grain.
-use Rattle.std.specs.Prelude.{ℕ, Bool, true, false, ◌==◌, if◌then◌else◌, List, [], ◌∷◌, length, slice_get, Option, None}
+use Rattle.std.specs.Prelude.{ℕ, Bool, true, false, ◌==◌, if◌then◌else◌, List, [], ◌∷◌, Option, None}
 use Rattle.std.specs.Prelude.{Some}
-use Rattle.std.specs.List.{find}
 use Rattle.std.specs.Option.{option_to_list}
 use Rattle.vc_value.specs.declared.value.Value.{Value}
 use Rattle.vc_plan.specs.declared.atoms.Atom.TheVariants.{Out}
-use Rattle.vc_plan.specs.declared.conditions.Piece.{Piece}
 use Rattle.vc_plan.specs.declared.plans.Plan.{Plan}
-use Rattle.vc_plan.specs.Domains.{grains_of, numbers_below, passes}
 use Rattle.vc_plan.specs.Gives.{by_rule}
-use Rattle.vc_plan.specs.Pieces.{lies_in}
+pub use Rattle.vc_rule_grains.specs.Finding.{grain_in, grain_with}
 use Rattle.vc_net_laws.specs.declared.triggers.Trigger.{Trigger}
 use Rattle.vc_net_laws.specs.Triggers.{trigger_by}
 use Rattle.vc_net_places.specs.Places.{Index, index_of, place_in}
@@ -35,13 +32,6 @@ free_by plan r = if is_free (trigger_by plan (by_rule r)) then vars_by plan r el
 -- the variables for whose value a rule waits
 abbrev pub awaited_by : Plan → ℕ → List ℕ
 awaited_by plan r = vars_of_trigger (trigger_by plan (by_rule r))
-
--- the first of some grains in which a value lies, and the first of a variable's
-abbrev pub grain_in : List Piece → Value → Option ℕ
-grain_in pieces a = find (λ g. passes (lies_in a) (slice_get pieces g)) (numbers_below (length pieces))
-
-abbrev pub grain_with : Plan → ℕ → Value → Option ℕ
-grain_with plan v a = grain_in (grains_of plan v) a
 
 -- that of the value that a variable has, if it has one
 abbrev pub grain_held : Plan → ℕ → Option Value → Option ℕ

@@ -6,7 +6,7 @@ ghost use Rattle.vc_net_readers.specs.Readers.{awaited_lists, free_lists, place_
 ghost use Rattle.vc_net_readers.specs.Readers.{waiter_lists};
 ghost use Rattle.vc_net_readers.specs.Touched.{slots_by, vars_by};
 ghost use Rattle.vc_net_readers.specs.Waiting.{awaited_by, free_by, waits_by};
-ghost use Rattle.vc_plan.specs.Domains.{atom_count};
+ghost use Rattle.vc_rule_grains.specs.Finding.{GrainsFit};
 ghost use Rattle.vc_net_places.specs.Places.{index_of};
 
 use crate::filing::{empty_lists, file_at, file_at_all};
@@ -45,7 +45,7 @@ impl Model for Readers {
 
 impl Readers {
     ghost use Rattle.std.specs.Prelude.{◌≡◌, ◌^◌, ◌<◌, length, IfOk};
-    ghost use Rattle.vc_plan.specs.Domains.{atom_count};
+    ghost use Rattle.vc_rule_grains.specs.Finding.{GrainsFit};
     ghost use Rattle.vc_net_places.specs.Places.{index_of};
     ghost use Rattle.vc_net_readers.specs.Filing.{list_at};
     ghost use Rattle.vc_net_readers.specs.Readers.{readers_of};
@@ -54,7 +54,7 @@ impl Readers {
     pub fn new(alloc: Global, plan: &Plan, index: &Places) -> Result<Readers, AllocError>
         requires rules { length plan.now.rules < 2 ^ 32 }
         requires vars { length plan.now.vars < 2 ^ 32 }
-        requires few { atom_count plan.now < 2 ^ 32 }
+        requires grains { GrainsFit plan.now }
         requires index { index.now ≡ index_of plan.now }
         ensures { IfOk result (λ readers. readers ≡ readers_of plan.now) }
     {
@@ -209,7 +209,7 @@ fn file_at_grain(
     rule: u32,
     lists: &mut Vec<Listed<u32>>,
 ) -> Result<(), AllocError>
-    requires few { atom_count plan.now < 2 ^ 32 }
+    requires grains { GrainsFit plan.now }
     requires index { index.now ≡ index_of plan.now }
     ensures { OnOk result (lists.new.items ≡ filed_at_all lists.old.items (waits_by plan.now rule) rule) }
 {
@@ -306,7 +306,7 @@ fn awaited_from(
 #[tactic(auto, using(crate::proofs::FilingLemmas::filed_next))]
 fn place_lists(alloc: Global, plan: &Plan, index: &Places) -> Result<Vec<Listed<u32>>, AllocError>
     requires rules { length plan.now.rules < 2 ^ 32 }
-    requires few { atom_count plan.now < 2 ^ 32 }
+    requires grains { GrainsFit plan.now }
     requires index { index.now ≡ index_of plan.now }
     ensures { IfOk result (λ lists. lists.items ≡ place_lists plan.now) }
 {

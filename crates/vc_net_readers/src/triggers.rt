@@ -1,11 +1,10 @@
 //! The trigger of a rule, and the place of the grain in which its value lies.
 
-ghost use Rattle.std.specs.Prelude.{◌≡◌, ◌^◌, ◌<◌, length, map, slice_get, Some};
-ghost use Rattle.vc_value.specs.declared.value.Value.TheVariants.{Text};
-ghost use Rattle.vc_plan.specs.declared.conditions.Piece.TheVariants.{OneText, Stretch};
-ghost use Rattle.vc_plan.specs.Domains.{atom_count, grains_in, passes};
+ghost use Rattle.std.specs.Prelude.{◌≡◌, ◌^◌, ◌<◌, length, map, Some};
+ghost use Rattle.vc_plan.specs.declared.conditions.Piece.TheVariants.{OneText};
+ghost use Rattle.vc_plan.specs.Domains.{atom_count, grains_in};
 ghost use Rattle.vc_plan.specs.Gives.{by_rule};
-ghost use Rattle.vc_plan.specs.Pieces.{lies_in};
+ghost use Rattle.vc_rule_grains.specs.Finding.{GrainsFit};
 ghost use Rattle.vc_net_laws.specs.Triggers.{literal_equals, trigger_by, trigger_in, trigger_of, trigger_of_relation};
 ghost use Rattle.vc_net_laws.specs.Triggers.{trigger_of_sides, variable_equals};
 ghost use Rattle.vc_net_places.specs.Places.{index_of};
@@ -14,9 +13,10 @@ ghost use Rattle.vc_net_readers.specs.Waiting.{grain_held, grain_in, grain_with,
 use vc_net_laws::Trigger;
 use vc_net_places::Places;
 use vc_plan::{Atom, Condition, Plan, Relation, Rule, Term};
+use vc_rule_grains::finding::{first_grain, grain_among_numbers, grain_of};
 use vc_rule_grains::remaining::grain_count;
 use vc_rule_terms::elements::element;
-use vc_value::{Domain, GrainList, Value};
+use vc_value::{Domain, Value};
 
 fn literal_equals(value: Value, other: &Term) -> Option<Trigger>
     ensures { result ≡ literal_equals value other.now }
@@ -87,51 +87,14 @@ pub fn trigger_by(plan: &Plan, rule: u32) -> Option<Trigger>
     }
 }
 
-#[tactic(auto, using(vc_rule_grains::proofs::GrainLemmas::text_at))]
-fn is_text_at(texts: &[u32], text: u32, grain: u32) -> bool
-    ensures { result ≡ passes (lies_in (Text text)) (slice_get (map OneText texts.now) grain) }
-{
-    match element(texts, grain) {
-        Some(other) => *other == text,
-        None => false,
-    }
-}
-
-#[tactic(auto, using(crate::proofs::WaitingLemmas::finding))]
-fn grain_of_text(texts: &[u32], count: u32, text: u32) -> Option<u32>
-    requires { count ≡ length (map OneText texts.now) }
-    ensures { result ≡ grain_in (map OneText texts.now) (Text text) }
-{
-    let mut grain = 0;
-    while grain < count {
-        if is_text_at(texts, text, grain) {
-            return Some(grain);
-        }
-        grain += 1;
-    }
-    None
-}
-
-// A number has no grain among texts.
-#[tactic(auto, using(crate::proofs::WaitingLemmas::elsewhere))]
+#[tactic(auto, using(vc_rule_grains::proofs::FindingLemmas::no_number))]
 fn grain_among_texts(texts: &[u32], count: u32, value: Value) -> Option<u32>
     requires { count ≡ length (map OneText texts.now) }
     ensures { result ≡ grain_in (map OneText texts.now) value }
 {
     match value {
-        Value::Text(text) => grain_of_text(texts, count, text),
+        Value::Text(text) => first_grain(texts, count, text),
         Value::Num(_) => None,
-    }
-}
-
-// A number's grain is found by halves; a text has none among numbers.
-#[tactic(auto, using(crate::proofs::WaitingLemmas::elsewhere))]
-fn grain_among_numbers(grains: &GrainList, value: Value) -> Option<u32>
-    ensures { result ≡ grain_in (map Stretch grains.now) value }
-{
-    match value {
-        Value::Text(_) => None,
-        Value::Num(number) => grains.find(number),
     }
 }
 
@@ -148,7 +111,7 @@ fn grain_in(domain: &Domain, count: u32, value: Value) -> Option<u32>
     }
 }
 
-/// The first grain of the variable in which the value lies.
+/// The first grain of the variable in which the value lies, of whatever plan.
 pub fn grain_with(plan: &Plan, var: u32, value: Value) -> Option<u32>
     requires { atom_count plan.now < 2 ^ 32 }
     ensures { result ≡ grain_with plan.now var value }
@@ -165,11 +128,11 @@ pub fn grain_with(plan: &Plan, var: u32, value: Value) -> Option<u32>
 
 /// The grain in which the value that the variable has lies, if it has one.
 pub fn grain_held(plan: &Plan, var: u32, value: Option<Value>) -> Option<u32>
-    requires { atom_count plan.now < 2 ^ 32 }
+    requires { GrainsFit plan.now }
     ensures { result ≡ grain_held plan.now var value }
 {
     match value {
-        Some(value) => grain_with(plan, var, value),
+        Some(value) => grain_of(plan, var, value),
         None => None,
     }
 }
@@ -185,7 +148,7 @@ fn place_in_grain(index: &Places, var: u32, grain: Option<u32>) -> Option<usize>
 
 /// The place of the grain in which the trigger's value lies.
 pub fn place_of_trigger(plan: &Plan, index: &Places, trigger: Option<Trigger>) -> Option<usize>
-    requires few { atom_count plan.now < 2 ^ 32 }
+    requires grains { GrainsFit plan.now }
     requires index { index.now ≡ index_of plan.now }
     ensures { result ≡ place_of_trigger plan.now trigger }
 {
@@ -193,7 +156,7 @@ pub fn place_of_trigger(plan: &Plan, index: &Places, trigger: Option<Trigger>) -
         Some(trigger) => place_in_grain(
             index,
             trigger.var,
-            grain_with(plan, trigger.var, trigger.value),
+            grain_of(plan, trigger.var, trigger.value),
         ),
         None => None,
     }

@@ -2,7 +2,7 @@
 
 ghost use Rattle.std.specs.Prelude.{◌≡◌, ◌^◌, ◌<◌, false, [], ◌∷◌, length, IfOk};
 ghost use Rattle.vc_value.specs.declared.table_header.Domain.TheVariants.{Texts};
-ghost use Rattle.vc_plan.specs.Domains.{atom_count};
+ghost use Rattle.vc_rule_grains.specs.Finding.{GrainsFit};
 
 use std::alloc::{AllocError, Global};
 use std::test::Fail;
@@ -100,7 +100,7 @@ fn rules(alloc: Global) -> Result<Listed<Rule>, AllocError>
 }
 
 fn plan_of_two(alloc: Global) -> Result<Plan, AllocError>
-    ensures counted { IfOk result (λ plan. atom_count plan < 2 ^ 32) }
+    ensures grains { IfOk result (λ plan. GrainsFit plan) }
     ensures rules { IfOk result (λ plan. length plan.rules ≡ 2) }
     ensures vars { IfOk result (λ plan. length plan.vars ≡ 2) }
 {
@@ -146,7 +146,7 @@ fn who_begins(alloc: Global, plan: &Plan) -> Result<Agenda, AllocError>
 }
 
 fn who_is_woken(alloc: Global, plan: &Plan, atom: Atom) -> Result<Agenda, AllocError>
-    requires few { atom_count plan.now < 2 ^ 32 }
+    requires grains { GrainsFit plan.now }
     requires rules { length plan.now.rules < 2 ^ 32 }
     requires vars { length plan.now.vars < 2 ^ 32 }
 {

@@ -6,6 +6,7 @@ ghost use Rattle.vc_plan.specs.declared.atoms.Atom.TheVariants.{Out};
 ghost use Rattle.vc_plan.specs.Clear.{is_clear};
 ghost use Rattle.vc_plan.specs.Domains.{atom_count};
 ghost use Rattle.vc_plan_reasons.specs.Checking.{set_with};
+ghost use Rattle.vc_rule_grains.specs.Finding.{GrainsFit};
 ghost use Rattle.vc_net_places.specs.Places.{index_of};
 ghost use Rattle.vc_net_places.specs.declared.places.Thing.TheVariants.{Slot, Var};
 ghost use Rattle.vc_net_log.specs.Coming.{are_by_slot};
@@ -52,6 +53,7 @@ fn variables<R: Abort>(rt: &R, alloc: Global) -> Listed<plans::Var>
 fn plan_of_one<R: Abort>(rt: &R, alloc: Global) -> Plan
     ensures vars { length result.vars ≡ 1 }
     ensures few { atom_count result ≡ 4 }
+    ensures grains { GrainsFit result }
     ensures ordered { are_by_slot result.vars ≡ true }
     ensures clear { is_clear result (set_with []) ≡ true }
     ensures still { is_clear result (set_with (Out 0 0 ∷ [])) ≡ true }

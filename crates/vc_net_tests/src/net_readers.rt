@@ -1,8 +1,8 @@
 //! The readers of a slot with two variables and two rules, one of which waits for a value.
 
-ghost use Rattle.std.specs.Prelude.{◌≡◌, ◌^◌, ◌<◌, false, [], ◌∷◌, length, IfOk};
+ghost use Rattle.std.specs.Prelude.{◌≡◌, false, [], ◌∷◌, length, IfOk};
 ghost use Rattle.vc_value.specs.declared.table_header.Domain.TheVariants.{Texts};
-ghost use Rattle.vc_plan.specs.Domains.{atom_count};
+ghost use Rattle.vc_rule_grains.specs.Finding.{GrainsFit};
 
 use std::alloc::Global;
 use std::process::Abort;
@@ -75,7 +75,7 @@ fn rules<R: Abort>(rt: &R, alloc: Global) -> Listed<Rule>
 }
 
 fn plan_of_two<R: Abort>(rt: &R, alloc: Global) -> Plan
-    ensures counted { atom_count result < 2 ^ 32 }
+    ensures grains { GrainsFit result }
     ensures rules { length result.rules ≡ 2 }
     ensures vars { length result.vars ≡ 2 }
 {

@@ -3,7 +3,7 @@
 ghost use Rattle.std.specs.Prelude.{◌≡◌, ◌^◌, ◌<◌, length, nat_eq};
 ghost use Rattle.std.specs.List.{filter, flat_map};
 ghost use Rattle.vc_base.specs.Sets.{has};
-ghost use Rattle.vc_plan.specs.Domains.{atom_count};
+ghost use Rattle.vc_rule_grains.specs.Finding.{GrainsFit};
 ghost use Rattle.vc_plan.specs.Seen.{is_value};
 ghost use Rattle.vc_plan_reasons.specs.Things.{slot_at, thing_of, var_at};
 ghost use Rattle.vc_net_places.specs.Places.{index_of};
@@ -35,7 +35,7 @@ pub fn wake<V: View>(
     atom: Atom,
     agenda: &mut Agenda,
 )
-    requires few { atom_count plan.now < 2 ^ 32 }
+    requires grains { GrainsFit plan.now }
     requires vars { length plan.now.vars < 2 ^ 32 }
     requires index { index.now ≡ index_of plan.now }
     requires readers { readers.now ≡ readers_of plan.now }
@@ -67,7 +67,7 @@ fn wake_at_var<V: View>(
     var: u32,
     agenda: &mut Agenda,
 )
-    requires few { atom_count plan.now < 2 ^ 32 }
+    requires grains { GrainsFit plan.now }
     requires index { index.now ≡ index_of plan.now }
     requires readers { readers.now ≡ readers_of plan.now }
     ensures { agenda.new ≡ with_givers agenda.old (waking plan.now (V.seen view.now) (var_at var)) }
@@ -91,7 +91,7 @@ fn push_awaiting<V: View>(
     var: u32,
     agenda: &mut Agenda,
 )
-    requires few { atom_count plan.now < 2 ^ 32 }
+    requires grains { GrainsFit plan.now }
     requires there { var < length plan.now.vars }
     requires index { index.now ≡ index_of plan.now }
     requires readers { readers.now ≡ readers_of plan.now }
@@ -151,7 +151,7 @@ fn waiting<'a, V: View>(
     view: &V,
     var: u32,
 ) -> &'a [u32]
-    requires few { atom_count plan.now < 2 ^ 32 }
+    requires grains { GrainsFit plan.now }
     requires index { index.now ≡ index_of plan.now }
     requires readers { readers.now ≡ readers_of plan.now }
     ensures { result.now ≡ waiting_on plan.now (V.seen view.now) var }

@@ -1,10 +1,9 @@
 -- What a rule says at what is seen, with what it follows from.
-use Rattle.std.specs.Prelude.{ℕ, ◌^◌, ◌<◌, if◌then◌else◌, slice_get, Option, None, Some}
+use Rattle.std.specs.Prelude.{ℕ, if◌then◌else◌, slice_get, Option, None, Some}
 use Rattle.vc_plan.specs.declared.plans.Plan.{Plan}
 use Rattle.vc_plan.specs.declared.rules.Kind.{Kind}
 use Rattle.vc_plan.specs.declared.rules.Kind.TheVariants.{Among, Compare, Equate, ByTable, Never, Last, Line}
 use Rattle.vc_plan.specs.declared.rules.Rule.{Rule}
-use Rattle.vc_plan.specs.Domains.{atom_count}
 use Rattle.vc_plan.specs.Gives.{acts}
 use Rattle.vc_plan.specs.Seen.{Seen}
 use Rattle.vc_plan.specs.Valid.{IsValid}
@@ -12,6 +11,7 @@ use Rattle.vc_rule_terms.specs.Computing.{TermsFit}
 use Rattle.vc_rule_yield.specs.Yielding.{Yielded}
 use Rattle.vc_rule_premises.specs.Citing.{cited_all, why_it_acts}
 use Rattle.vc_rule_premises.specs.Saying.{Said, silent, said_with, taken}
+use Rattle.vc_rule_grains.specs.Finding.{GrainsFit}
 use Rattle.vc_rule_grains.specs.Kinds.{among_said, never_said, last_said, line_said}
 use Rattle.vc_rule_sides.specs.Comparing.{compare_said}
 use Rattle.vc_rule_sides.specs.Equating.{equate_said}
@@ -43,10 +43,10 @@ taken_from plan seen rule y =
     let more = taken (cited_all y (why_it_acts plan seen rule)) (kind_said plan seen rule rule.kind) in
     if acts plan seen rule then more else y
 
--- terms and conditions fit, and a number of 32 bits tells each grain
+-- terms and conditions fit, and so do grains
 pub record RulesFit (plan : Plan) : Type 0 where
   pub terms : TermsFit plan
-  pub grains : atom_count plan < 2 ^ 32
+  pub grains : GrainsFit plan
 
 -- those of a valid plan do
 abbrev pub ValidRulesFit : Type 0

@@ -11,7 +11,7 @@ use vc_plan::{Kind, Plan, Rule, View};
 use vc_rule_grains::{say_among, say_last, say_line, say_never};
 use vc_rule_premises::{acts, cite_why_it_acts};
 use vc_rule_sides::{say_compare, say_equate};
-use vc_rule_table::say_table;
+use vc_rule_table_saying::say_table;
 use vc_rule_terms::elements::element;
 use vc_rule_yield::Yield;
 use vc_value_steps::Steps;

@@ -1,5 +1,5 @@
 -- Walks over a variable's grains: what they count, cite and conclude.
-use Rattle.std.proofs.Common.{◌≡◌, ℕ, zero, suc, ◌+◌, ◌<◌, ◌≤◌, Bool, true, false, cond, not, ◌&&◌, List, [], ◌∷◌}
+use Rattle.std.proofs.Common.{◌≡◌, ℕ, zero, suc, ◌+◌, ◌-◌, ◌<◌, ◌≤◌, Bool, true, false, cond, not, ◌&&◌, List, [], ◌∷◌}
 use Rattle.std.proofs.Common.{length, map, take, refl, sym, ◌∙◌, ap, arith}
 use Rattle.std.specs.Prelude.{slice_get, None}
 use Rattle.std.specs.List.{filter, range_with_len}
@@ -9,7 +9,7 @@ use Rattle.vc_plan.specs.declared.atoms.Atom.TheVariants.{Out}
 use Rattle.vc_plan.specs.declared.conditions.Piece.{Piece}
 use Rattle.vc_plan.specs.declared.plans.Plan.{Plan}
 use Rattle.vc_plan.specs.Answers.{nothing, value_atoms, only_value, last_atoms}
-use Rattle.vc_plan.specs.Domains.{grains_of, count_of, passes, is_grain_with}
+use Rattle.vc_plan.specs.Domains.{grains_of, count_of, passes, is_grain_with, numbers_below}
 use Rattle.vc_plan.specs.Gives.{not_out}
 use Rattle.vc_plan.specs.Restrictions.{of_remaining}
 use Rattle.vc_plan.specs.Seen.{Seen, says}
@@ -18,10 +18,10 @@ use Rattle.vc_rule_premises.specs.Citing.{cited_all}
 use Rattle.vc_rule_premises.specs.Saying.{conclusion_from, said_from, take_conclusions, taken}
 use Rattle.vc_rule_premises.proofs.SayingLaws.{plain_taken, conclusion_taken}
 use Rattle.vc_rule_grains.specs.Kinds.{any_piece}
-use Rattle.vc_rule_grains.specs.Remaining.{remaining_of, with_one, counted, left_by}
+use Rattle.vc_rule_grains.specs.Remaining.{is_several, remaining_of, with_one, counted, left_by}
 use Rattle.vc_rule_grains.specs.declared.remaining.Remaining.{Remaining}
 use Rattle.vc_rule_grains.specs.declared.remaining.Remaining.TheVariants.{Nothing, One, Several}
-use Rattle.vc_rule_grains.proofs.Walking.{walked}
+use Rattle.vc_rule_grains.proofs.Walking.{Walks, walked, walk_on}
 
 -- the value that is the last
 abbrev pub last_by : Plan → ℕ → Remaining → List Atom
@@ -61,6 +61,24 @@ count_walked p remaining (g ∷ gs) =
 
 pub remaining_walked : (p : ℕ → Bool) (gs : List ℕ) → walked (count_step p) Nothing gs ≡ remaining_of (filter p gs)
 remaining_walked p gs = count_walked p Nothing gs ∙ all_counted (filter p gs)
+
+-- once there are several, what is to come makes no difference
+several_walked : (p : ℕ → Bool) (gs : List ℕ) → walked (count_step p) Several gs ≡ Several
+several_walked p gs = count_walked p Several gs ∙ several_stay (filter p gs)
+
+pub several_ends : (p : ℕ → Bool) (now next : Remaining) (at count : ℕ) → Walks (count_step p) Nothing now at count
+    → at < count → next ≡ count_step p now at → is_several next ≡ true
+    → Several ≡ remaining_of (filter p (numbers_below count))
+several_ends p now next at count w below e several =
+    let then = walk_on (count_step p) Nothing now next at count w below e in
+    sym (several_walked p (range_with_len (at + 1) (count - (at + 1))))
+    ∙ (ap (λ r. walked (count_step p) r (range_with_len (at + 1) (count - (at + 1)))) (sym (is next several))
+    ∙ (then.left ∙ remaining_walked p (numbers_below count)))
+  where
+    is : (r : Remaining) → is_several r ≡ true → r ≡ Several
+    is Nothing h = absurd (cc)
+    is (One g) h = absurd (cc)
+    is Several h = refl
 
 pub cites_walked : (p : ℕ → Bool) (v : ℕ) (y : Yielded) (gs : List ℕ)
     → walked (cite_step p v) y gs ≡ cited_all y (map (Out v) (filter p gs))

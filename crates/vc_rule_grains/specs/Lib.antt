@@ -1,4 +1,5 @@
 pub mod Confining
+pub mod Finding
 pub mod Kinds
 pub mod Laws
 pub mod Remaining

@@ -1,5 +1,5 @@
 -- How many grains there are of some, and which if it is one.
-use Rattle.std.specs.Prelude.{ℕ, ◌&&◌, Bool, List, [], ◌∷◌, Option}
+use Rattle.std.specs.Prelude.{ℕ, ◌&&◌, Bool, true, false, List, [], ◌∷◌, Option}
 use Rattle.std.specs.List.{filter}
 use Rattle.vc_value.specs.declared.value.Value.{Value}
 use Rattle.vc_plan.specs.declared.conditions.Piece.{Piece}
@@ -13,6 +13,11 @@ abbrev pub remaining_of : List ℕ → Remaining
 remaining_of [] = Nothing
 remaining_of (g ∷ []) = One g
 remaining_of (g ∷ (h ∷ more)) = Several
+
+abbrev pub is_several : Remaining → Bool
+is_several Nothing = false
+is_several (One g) = false
+is_several Several = true
 
 -- with one more, and with all of these more
 abbrev pub with_one : Remaining → ℕ → Remaining

@@ -1,13 +1,14 @@
 //! Which pieces a restriction allows.
 
-ghost use Rattle.std.specs.Prelude.{◌≡◌, ◌≤◌, Some};
+ghost use Rattle.std.specs.Prelude.{◌≡◌, ◌≤◌, Some, IfSome};
 ghost use Rattle.std.specs.List.{list_any};
 ghost use Rattle.vc_plan.specs.Domains.{decimals_in, decimals_of};
-ghost use Rattle.vc_plan.specs.Pieces.{is_part};
+ghost use Rattle.vc_plan.specs.Pieces.{is_inside, is_part};
 ghost use Rattle.vc_plan.specs.Restrictions.{rounded_value, literal_for, allows};
 ghost use Rattle.vc_rule_terms.specs.Computing.{TermsFit};
 ghost use Rattle.vc_rule_terms.specs.Values.{meant};
-ghost use Rattle.vc_rule_grains.specs.Tests.{allowed_by};
+ghost use Rattle.vc_rule_grains.specs.Finding.{PassesOnly};
+ghost use Rattle.vc_rule_grains.specs.Tests.{allowed_by, stored_value};
 
 use crate::testing::Test;
 use vc_plan::{Piece, Plan, Relation, Restriction};
@@ -35,6 +36,37 @@ impl<'a> Test for Allowed<'a> {
             Allowed::Inside(relation, value) => is_inside(relation, value, piece),
             Allowed::PartOf(pieces) => is_part_of_some(piece, pieces),
         }
+    }
+
+    fn only(&self) -> Option<Value> {
+        match *self {
+            Allowed::Inside(relation, value) => only_equal(relation, value),
+            Allowed::PartOf(_) => None,
+        }
+    }
+}
+
+// The value that all has that stands in the relation to this one: at `=` this one.
+#[tactic(auto, using(crate::proofs::FindingLemmas::equal_only))]
+fn only_equal(relation: Relation, value: TermValue) -> Option<Value>
+    ensures { IfSome result (PassesOnly (is_inside relation (meant value))) }
+{
+    match relation {
+        Relation::Equal => stored_value(value),
+        _ => None,
+    }
+}
+
+/// The value, where it is small enough to be stored.
+pub fn stored_value(value: TermValue) -> Option<Value>
+    ensures { result ≡ stored_value (meant value) }
+{
+    match value {
+        TermValue::Text(text) => Some(Value::Text(text)),
+        TermValue::Number(number) => match number.to_dec() {
+            Some(number) => Some(Value::Num(number)),
+            None => None,
+        },
     }
 }
 

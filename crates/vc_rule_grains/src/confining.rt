@@ -1,16 +1,19 @@
 //! A variable that is to lie in grains that pass a test.
 
-ghost use Rattle.std.specs.Prelude.{◌≡◌, ◌^◌, ◌<◌, [], ◌&&◌, not, if◌then◌else◌, map};
+ghost use Rattle.std.specs.Prelude.{◌≡◌, [], ◌&&◌, not, if◌then◌else◌, map, option_to_list};
+ghost use Rattle.std.specs.List.{filter};
 ghost use Rattle.vc_base.specs.Rounds.{atoms};
 ghost use Rattle.vc_plan.specs.Answers.{nothing, clash_if, is_nothing, value_atoms, only_value};
-ghost use Rattle.vc_plan.specs.Domains.{atom_count, is_grain_with};
+ghost use Rattle.vc_plan.specs.Domains.{is_grain_with};
 ghost use Rattle.vc_plan.specs.Restrictions.{failing, left_with, of_remaining};
 ghost use Rattle.vc_plan.specs.declared.atoms.Atom.TheVariants.{Out};
 ghost use Rattle.vc_rule_yield.specs.Yielding.{cited, concluded};
 ghost use Rattle.vc_rule_premises.specs.Citing.{cited_all};
 ghost use Rattle.vc_rule_premises.specs.Saying.{clashing, said_from, taken};
 ghost use Rattle.vc_rule_grains.specs.Confining.{outs_with, why_left, confined_said};
+ghost use Rattle.vc_rule_grains.specs.Finding.{GrainsFit};
 
+use crate::finding::grain_of;
 use crate::grains::{is_grain_with, is_restrictable, only_value, stands};
 use crate::remaining::{Remaining, grain_count, remaining_of};
 use crate::testing::Test;
@@ -20,7 +23,7 @@ use vc_rule_yield::Yield;
 /// Says what follows where the variable is to lie in grains that pass the test: if it is
 /// restrictable the others are out; if it isn't, what follows of those that are left and pass.
 pub fn confine<V: View, T: Test>(plan: &Plan, view: &V, var: u32, test: &T, out: &mut Yield)
-    requires { atom_count plan.now < 2 ^ 32 }
+    requires { GrainsFit plan.now }
     ensures { out.new ≡ taken out.old (confined_said plan.now (V.seen view.now) var (T.passes test.now)) }
 {
     if is_restrictable(plan, var) {
@@ -31,7 +34,7 @@ pub fn confine<V: View, T: Test>(plan: &Plan, view: &V, var: u32, test: &T, out:
 }
 
 fn exclude<V: View, T: Test>(plan: &Plan, view: &V, var: u32, test: &T, out: &mut Yield)
-    requires { atom_count plan.now < 2 ^ 32 }
+    requires { GrainsFit plan.now }
     ensures { out.new ≡ taken out.old (said_from (V.seen view.now) [] (atoms (map (Out var)
         (failing plan.now var (T.passes test.now))))) }
 {
@@ -61,7 +64,7 @@ fn conclude_if(concludes: bool, atom: Atom, out: &mut Yield)
 }
 
 fn say_remaining<V: View, T: Test>(plan: &Plan, view: &V, var: u32, test: &T, out: &mut Yield)
-    requires { atom_count plan.now < 2 ^ 32 }
+    requires { GrainsFit plan.now }
     ensures { out.new ≡ taken out.old (said_from (V.seen view.now) (why_left plan.now (V.seen view.now) var (T.passes
         test.now)) (of_remaining plan.now var (left_with plan.now (V.seen view.now) var (T.passes test.now)))) }
 {
@@ -74,7 +77,7 @@ fn say_remaining<V: View, T: Test>(plan: &Plan, view: &V, var: u32, test: &T, ou
 
 /// Tells a clash where no grain is left that passes the test.
 pub fn say_if_none<V: View, T: Test>(plan: &Plan, view: &V, var: u32, test: &T, out: &mut Yield)
-    requires { atom_count plan.now < 2 ^ 32 }
+    requires { GrainsFit plan.now }
     ensures { out.new ≡ taken out.old (said_from (V.seen view.now) (why_left plan.now (V.seen view.now) var (T.passes
         test.now)) (clash_if (is_nothing (left_with plan.now (V.seen view.now) var (T.passes test.now))) nothing)) }
 {
@@ -86,7 +89,7 @@ pub fn say_if_none<V: View, T: Test>(plan: &Plan, view: &V, var: u32, test: &T, 
 }
 
 fn clash_from_left<V: View, T: Test>(plan: &Plan, view: &V, var: u32, test: &T, out: &mut Yield)
-    requires { atom_count plan.now < 2 ^ 32 }
+    requires { GrainsFit plan.now }
     ensures { out.new ≡ taken out.old (clashing (why_left plan.now (V.seen view.now) var (T.passes test.now))) }
 {
     cite_why_left(plan, view, var, test, out);
@@ -101,7 +104,7 @@ fn conclude_value<V: View, T: Test>(
     test: &T,
     out: &mut Yield,
 )
-    requires { atom_count plan.now < 2 ^ 32 }
+    requires { GrainsFit plan.now }
     ensures { out.new ≡ taken out.old (said_from (V.seen view.now) (why_left plan.now (V.seen view.now) var (T.passes
         test.now)) (atoms (value_atoms var (only_value plan.now var grain)))) }
 {
@@ -119,7 +122,7 @@ fn conclude_value<V: View, T: Test>(
 /// Cites why no more grains that pass the test are left: the variable's value, or that the others
 /// are out.
 pub fn cite_why_left<V: View, T: Test>(plan: &Plan, view: &V, var: u32, test: &T, out: &mut Yield)
-    requires { atom_count plan.now < 2 ^ 32 }
+    requires { GrainsFit plan.now }
     ensures { out.new ≡ cited_all out.old (why_left plan.now (V.seen view.now) var (T.passes test.now)) }
 {
     match view.value(var) {
@@ -128,9 +131,39 @@ pub fn cite_why_left<V: View, T: Test>(plan: &Plan, view: &V, var: u32, test: &T
     }
 }
 
-/// Cites that the grains that are out and pass the test are.
+/// Cites that the grains that are out and pass the test are. Where a value is known that those hold that pass, no grain
+/// is looked at but its own.
 pub fn cite_outs<V: View, T: Test>(plan: &Plan, view: &V, var: u32, test: &T, out: &mut Yield)
-    requires { atom_count plan.now < 2 ^ 32 }
+    requires { GrainsFit plan.now }
+    ensures { out.new ≡ cited_all out.old (outs_with plan.now (V.seen view.now) var (T.passes test.now)) }
+{
+    match test.only() {
+        Some(value) => cite_out_at(plan, view, var, test, grain_of(plan, var, value), out),
+        None => cite_outs_among(plan, view, var, test, out),
+    }
+}
+
+// The same, where no grain is out and passes but this one, if there is one.
+fn cite_out_at<V: View, T: Test>(
+    plan: &Plan,
+    view: &V,
+    var: u32,
+    test: &T,
+    grain: Option<u32>,
+    out: &mut Yield,
+)
+    ensures { out.new ≡ cited_all out.old (map (Out var) (filter (λ g. (V.seen view.now).out var g
+        && is_grain_with plan.now var (T.passes test.now) g) (option_to_list grain))) }
+{
+    if let Some(grain) = grain {
+        let cites = is_out_with(plan, view, var, test, grain);
+        cite_if(cites, Atom::Out(var, grain), out);
+    }
+}
+
+// The same, where all are gone through.
+fn cite_outs_among<V: View, T: Test>(plan: &Plan, view: &V, var: u32, test: &T, out: &mut Yield)
+    requires { GrainsFit plan.now }
     ensures { out.new ≡ cited_all out.old (outs_with plan.now (V.seen view.now) var (T.passes test.now)) }
 {
     let count = grain_count(plan, var);

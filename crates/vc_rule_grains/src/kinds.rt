@@ -1,16 +1,16 @@
 //! What rules of the kinds Among, Never, Last and Line say where they act.
 
-ghost use Rattle.std.specs.Prelude.{◌≡◌, ◌^◌, ◌<◌, ◌==◌, ◌∷◌, [], slice_get};
+ghost use Rattle.std.specs.Prelude.{◌≡◌, ◌==◌, ◌∷◌, [], slice_get};
 ghost use Rattle.std.specs.List.{list_any};
 ghost use Rattle.vc_base.specs.Rounds.{atoms};
 ghost use Rattle.vc_plan.specs.Answers.{last_atoms, value_atoms, only_value};
-ghost use Rattle.vc_plan.specs.Domains.{atom_count};
 ghost use Rattle.vc_plan.specs.Gives.{not_out};
 ghost use Rattle.vc_plan.specs.Restrictions.{is_inferred};
 ghost use Rattle.vc_plan.specs.Seen.{parent_in, is_here};
 ghost use Rattle.vc_rule_terms.specs.Computing.{TermsFit};
 ghost use Rattle.vc_rule_premises.specs.Citing.{cited_all};
 ghost use Rattle.vc_rule_premises.specs.Saying.{said_from, taken};
+ghost use Rattle.vc_rule_grains.specs.Finding.{GrainsFit};
 ghost use Rattle.vc_rule_grains.specs.Kinds.{among_said, never_said, last_said, line_said, slot_of, why_last};
 
 use crate::allowing::allowed_of;
@@ -39,7 +39,7 @@ pub fn say_among<V: View>(
     out: &mut Yield,
 )
     requires fit { TermsFit plan.now }
-    requires grains { atom_count plan.now < 2 ^ 32 }
+    requires grains { GrainsFit plan.now }
     ensures { out.new ≡ taken out.old (among_said plan.now (V.seen view.now) rule.now var restriction.now) }
 {
     let allowed = allowed_of(plan, var, restriction);
@@ -60,7 +60,7 @@ pub fn is_inferred(rule: &Rule, var: u32) -> bool
 /// Says that the variable has its last grain's value, where its slot is here and one grain alone
 /// isn't out.
 pub fn say_last<V: View>(plan: &Plan, view: &V, var: u32, out: &mut Yield)
-    requires { atom_count plan.now < 2 ^ 32 }
+    requires { GrainsFit plan.now }
     ensures { out.new ≡ taken out.old (last_said plan.now (V.seen view.now) var) }
 {
     if is_here(plan, view, var) {
@@ -69,7 +69,7 @@ pub fn say_last<V: View>(plan: &Plan, view: &V, var: u32, out: &mut Yield)
 }
 
 fn say_last_grain<V: View>(plan: &Plan, view: &V, var: u32, out: &mut Yield)
-    requires { atom_count plan.now < 2 ^ 32 }
+    requires { GrainsFit plan.now }
     ensures { out.new ≡ taken out.old (said_from (V.seen view.now) (why_last plan.now (V.seen view.now) var)
         (atoms (last_atoms plan.now var (not_out plan.now (V.seen view.now) var)))) }
 {
@@ -81,7 +81,7 @@ fn say_last_grain<V: View>(plan: &Plan, view: &V, var: u32, out: &mut Yield)
 }
 
 fn conclude_last<V: View>(plan: &Plan, view: &V, var: u32, grain: u32, out: &mut Yield)
-    requires { atom_count plan.now < 2 ^ 32 }
+    requires { GrainsFit plan.now }
     ensures { out.new ≡ taken out.old (said_from (V.seen view.now) (why_last plan.now (V.seen view.now) var)
         (atoms (value_atoms var (only_value plan.now var grain)))) }
 {
@@ -97,7 +97,7 @@ fn conclude_last<V: View>(plan: &Plan, view: &V, var: u32, grain: u32, out: &mut
 }
 
 fn cite_why_last<V: View>(plan: &Plan, view: &V, var: u32, out: &mut Yield)
-    requires { atom_count plan.now < 2 ^ 32 }
+    requires { GrainsFit plan.now }
     ensures { out.new ≡ cited_all out.old (why_last plan.now (V.seen view.now) var) }
 {
     cite_slot_of(plan, var, out);

@@ -4,6 +4,7 @@
 
 pub mod allowing;
 pub mod confining;
+pub mod finding;
 pub mod grains;
 pub mod kinds;
 pub mod laws;

@@ -1,9 +1,11 @@
 //! Tests of pieces.
 
-ghost use Rattle.std.specs.Prelude.{◌≡◌};
+ghost use Rattle.std.specs.Prelude.{◌≡◌, IfSome};
+ghost use Rattle.vc_rule_grains.specs.Finding.{PassesOnly};
 ghost use Rattle.vc_rule_grains.specs.Kinds.{any_piece};
 
 use vc_plan::Piece;
+use vc_value::Value;
 
 /// A test that some pieces pass.
 pub trait Test {
@@ -15,6 +17,10 @@ pub trait Test {
     /// Whether the piece passes.
     fn passes(&self, piece: Piece) -> bool
         ensures { result ≡ passes self.now piece };
+
+    /// A value that each piece holds that passes, if there is one to tell.
+    fn only(&self) -> Option<Value>
+        ensures { IfSome result (PassesOnly (passes self.now)) };
 }
 
 /// What every piece passes.
@@ -28,5 +34,9 @@ impl Test for AnyPiece {
 
     fn passes(&self, _piece: Piece) -> bool {
         true
+    }
+
+    fn only(&self) -> Option<Value> {
+        None
     }
 }

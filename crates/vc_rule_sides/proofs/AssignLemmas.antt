@@ -1,9 +1,9 @@
 -- Which values the grains of a variable hold, and which numbers of terms can be rounded.
 use Rattle.std.proofs.Common.{◌≡◌, ℕ, suc, ◌+◌, ◌^◌, ◌<◌, ◌≤◌, leb, ℤ, unsigned_abs, Bool, true, false, cond, not, ◌||◌}
 use Rattle.std.proofs.Common.{List, [], ◌∷◌, length, map, refl, sym, ◌∙◌, ap, subst, inl, inr, arith}
-use Rattle.std.specs.Prelude.{◌==◌, nat_lt, Option, None, Some, is_some, option_map, slice_get}
+use Rattle.std.specs.Prelude.{◌==◌, ◌&&◌, nat_lt, IfSome, Option, None, Some, is_some, option_map, slice_get}
 use Rattle.std.specs.List.{list_all, list_any, position, position_or_len}
-use Rattle.std.specs.Int.Signed.{le_z}
+use Rattle.std.specs.Int.Signed.{le_z, lt_z}
 use Rattle.std.proofs.lemmas.Bool.{and_parts, or_cases, ltb-true, ltb-false, lt-ltb, le-ltb}
 use Rattle.std.proofs.lemmas.Int.{ints}
 use Rattle.vc_value.specs.Grains as grains
@@ -14,6 +14,8 @@ use Rattle.vc_value.specs.declared.table_header.Domain.TheVariants.{Texts, Nums}
 use Rattle.vc_value.specs.declared.value.Value.{Value}
 use Rattle.vc_value.specs.declared.value.Value.TheVariants.{Text, Num}
 use Rattle.vc_plan.specs.declared.conditions.Piece.TheVariants.{OneText, Stretch}
+use Rattle.vc_plan.specs.declared.conditions.Relation.{Relation}
+use Rattle.vc_plan.specs.declared.conditions.Relation.TheVariants.{Equal}
 use Rattle.vc_plan.specs.declared.plans.Plan.{Plan}
 use Rattle.vc_plan.specs.declared.plans.Var.{Var}
 use Rattle.vc_plan.specs.declared.terms.Term.{Term}
@@ -28,7 +30,10 @@ use Rattle.vc_plan.specs.Truth.{number_of_value, value_of_number, number, term_v
 use Rattle.vc_rule_terms.specs.Computing.{TermsFit, LiesInGrains, ArgumentFits}
 use Rattle.vc_rule_terms.proofs.SizeLemmas.{AtMost}
 use Rattle.vc_rule_terms.proofs.TermLemmas.{PassesIf, all_get, size_small, term_computes}
-use Rattle.vc_rule_sides.specs.Assigning.{stored_value}
+use Rattle.vc_rule_grains.specs.Finding.{PassesOnly}
+use Rattle.vc_rule_grains.specs.Tests.{stored_value}
+use Rattle.vc_rule_grains.proofs.FindingLemmas.{stored_is}
+use Rattle.vc_rule_sides.specs.Comparing.{may_relate}
 
 -- what lists of texts and of grains hold
 pub text_held : (t : ℕ) (texts : List ℕ) → list_any (λ s. s == t) texts ≡ lies_in_some (map OneText texts) (Text t)
@@ -115,15 +120,7 @@ var_stored plan all None n e = absurd (cc)
 var_stored plan all (Some x) n e =
     domain_stored plan (slice_get plan.domains x.domain) n (all_get (domain_there plan) plan.domains x.domain all) e
 
--- what is stored is the value itself, and what can't be stored no grain holds
-pub stored_is : (a b : Value) → stored_value a ≡ Some b → a ≡ b
-stored_is (Text t) b e = cc
-stored_is (Num n) b e = by (nat_lt (unsigned_abs n.millionths) (10 ^ 15)) e
-  where
-    by : (c : Bool) → option_map Num (cond c (Some (record { millionths = n.millionths })) None) ≡ Some b → Num n ≡ b
-    by true k = cc
-    by false k = absurd (cc)
-
+-- what can't be stored no grain holds
 pub not_stored : (plan : Plan) → TermsFit plan → (v : ℕ) (a : Value) → stored_value a ≡ None
     → lies_in_some (grains_of plan v) a ≡ false
 not_stored plan fit v (Text t) e = absurd (cc)
@@ -172,3 +169,24 @@ side_fits plan fit seen lies n =
         subst ArgumentFits (sym (number_is seen term))
         (fits (number (net_reading seen) term) (term_size plan term) both.1
         (size_small plan fit.domains_there term there small))
+
+-- at `=` what is stored is all that may stand so
+pub equal_only : (r : Relation) (a : Value) (o : Option Value) → r ≡ Equal → o ≡ stored_value a
+    → IfSome o (PassesOnly (may_relate r a))
+equal_only r a None e f = tt
+equal_only r a (Some b) e f =
+    subst (λ q. PassesOnly (may_relate q a) b) (sym e)
+    (subst (PassesOnly (may_relate Equal a)) (stored_is a b (sym f)) (equals a))
+  where
+    within : (x a y : ℤ) → not (lt_z y a || lt_z a x) ≡ true → (le_z x a && le_z a y) ≡ true
+    within x a y h = grind (arith, ints)
+
+    twice : (b : Bool) → not (not b) ≡ true → b ≡ true
+    twice true h = refl
+    twice false h = absurd (cc)
+
+    equals : (a : Value) → PassesOnly (may_relate Equal a) a
+    equals (Text t) (OneText s) h = twice (s == t) h
+    equals (Text t) (Stretch grain) h = absurd (cc)
+    equals (Num n) (OneText s) h = absurd (cc)
+    equals (Num n) (Stretch grain) h = within grain.low.millionths n.millionths grain.high.millionths h

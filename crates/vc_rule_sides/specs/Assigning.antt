@@ -1,24 +1,17 @@
 -- What follows for a variable that is to have a value, as it is told.
-use Rattle.std.specs.Prelude.{[], ◌∷◌, Option, Some, option_map}
+use Rattle.std.specs.Prelude.{[], ◌∷◌}
 use Rattle.vc_base.specs.Rounds.{Given, clash, atoms}
-use Rattle.vc_value.specs.declared.value.Value.{Value}
-use Rattle.vc_value.specs.declared.value.Value.TheVariants.{Text, Num}
-use Rattle.vc_value_wide.specs.Millionths.{stored}
 use Rattle.vc_plan.specs.declared.atoms.Atom.{Atom}
 use Rattle.vc_plan.specs.declared.atoms.Atom.TheVariants.{Is}
 use Rattle.vc_plan.specs.declared.plans.Plan.{Plan}
 use Rattle.vc_plan.specs.Answers.{nothing}
 use Rattle.vc_plan.specs.Seen.{Seen}
 use Rattle.vc_rule_premises.specs.Saying.{Said, said_from}
+pub use Rattle.vc_rule_grains.specs.Tests.{stored_value}
 use Rattle.vc_rule_sides.specs.Comparing.{values_in}
 use Rattle.vc_rule_sides.specs.declared.assigning.Assigned.{Assigned}
 use Rattle.vc_rule_sides.specs.declared.assigning.Assigned.TheVariants.{Nothing, NoGrain, To}
 use Rattle.vc_rule_sides.specs.declared.equating.EqualSide.{EqualSide}
-
--- the value, where it is small enough to be stored
-abbrev pub stored_value : Value → Option Value
-stored_value (Text t) = Some (Text t)
-stored_value (Num a) = option_map Num (stored a.millionths)
 
 abbrev pub assigned_given : Assigned → Given Atom
 assigned_given Nothing = nothing

@@ -13,7 +13,7 @@ ghost use Rattle.vc_rule_sides.specs.Assigning.{stored_value, assigned_given};
 ghost use Rattle.vc_value.specs.declared.value.Value.TheVariants.{Num};
 
 use vc_plan::Plan;
-use vc_rule_grains::allowing::decimals_of;
+use vc_rule_grains::allowing::{decimals_of, stored_value};
 use vc_rule_terms::TermValue;
 use vc_rule_terms::elements::element;
 use vc_value::{Dec, Domain, GrainList, Value};
@@ -37,19 +37,6 @@ pub fn rounded_value(decimals: u8, value: TermValue) -> TermValue
     match value {
         TermValue::Text(text) => TermValue::Text(text),
         TermValue::Number(number) => TermValue::Number(number.rounded(decimals)),
-    }
-}
-
-// The value, where it is small enough to be stored.
-fn stored_value(value: TermValue) -> Option<Value>
-    ensures { result ≡ stored_value (meant value) }
-{
-    match value {
-        TermValue::Text(text) => Some(Value::Text(text)),
-        TermValue::Number(number) => match number.to_dec() {
-            Some(number) => Some(Value::Num(number)),
-            None => None,
-        },
     }
 }
 

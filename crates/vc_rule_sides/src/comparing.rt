@@ -1,20 +1,22 @@
 //! Comparisons of two terms.
 
-ghost use Rattle.std.specs.Prelude.{◌≡◌, ◌^◌, ◌<◌, ◌++◌};
+ghost use Rattle.std.specs.Prelude.{◌≡◌, ◌++◌, IfSome};
 ghost use Rattle.vc_base.specs.Rounds.{is_clash};
-ghost use Rattle.vc_plan.specs.Domains.{atom_count};
 ghost use Rattle.vc_plan.specs.Kleene.{is_false};
 ghost use Rattle.vc_rule_terms.specs.Computing.{TermsFit, LiesInGrains};
 ghost use Rattle.vc_rule_terms.specs.Values.{meant};
 ghost use Rattle.vc_rule_premises.specs.Saying.{clashing, together, taken};
-ghost use Rattle.vc_rule_sides.specs.Comparing.{values_in, compare_said};
+ghost use Rattle.vc_rule_grains.specs.Finding.{GrainsFit, PassesOnly};
+ghost use Rattle.vc_rule_sides.specs.Comparing.{may_relate, values_in, compare_said};
 ghost use Rattle.vc_rule_sides.specs.Sides.{side_given, side_said};
 
 use crate::sides::{cite_values, confine_by, is_ruled_out, lone_inferred};
 use vc_plan::{Kleene, Piece, Plan, Relation, Rule, View};
 use vc_rule_grains::Test;
+use vc_rule_grains::allowing::stored_value;
 use vc_rule_terms::{TermValue, compared, is_inside, opposite, term_value, turned};
 use vc_rule_yield::Yield;
+use vc_value::Value;
 
 /// What may stand in the relation to the value.
 #[derive(Clone, Copy)]
@@ -31,6 +33,21 @@ impl Test for MayRelate {
 
     fn passes(&self, piece: Piece) -> bool {
         !is_inside(opposite(self.relation), self.value, piece)
+    }
+
+    fn only(&self) -> Option<Value> {
+        only_equal(self.relation, self.value)
+    }
+}
+
+// The value that all has that may stand in the relation to this one: at `=` this one.
+#[tactic(auto, using(crate::proofs::AssignLemmas::equal_only))]
+fn only_equal(relation: Relation, value: TermValue) -> Option<Value>
+    ensures { IfSome result (PassesOnly (may_relate relation (meant value))) }
+{
+    match relation {
+        Relation::Equal => stored_value(value),
+        _ => None,
     }
 }
 
@@ -57,7 +74,7 @@ pub struct Side {
 
 // Whether what follows for the side's variable is a clash.
 fn is_clash<V: View>(plan: &Plan, view: &V, side: Side) -> bool
-    requires { atom_count plan.now < 2 ^ 32 }
+    requires { GrainsFit plan.now }
     ensures { result ≡ is_clash (side_given plan.now (V.seen view.now) side) }
 {
     match (side.var, side.value) {
@@ -74,7 +91,7 @@ fn is_clash<V: View>(plan: &Plan, view: &V, side: Side) -> bool
 
 // Says what follows for the side's variable from the other side's value.
 fn say_side<V: View>(plan: &Plan, view: &V, side: Side, out: &mut Yield)
-    requires { atom_count plan.now < 2 ^ 32 }
+    requires { GrainsFit plan.now }
     ensures { out.new ≡ taken out.old (side_said plan.now (V.seen view.now) side) }
 {
     if let (Some(var), Some(value)) = (side.var, side.value) {
@@ -88,7 +105,7 @@ fn say_side<V: View>(plan: &Plan, view: &V, side: Side, out: &mut Yield)
 
 // Says what follows for both sides: where one clashes, that clash alone.
 fn say_sides<V: View>(plan: &Plan, view: &V, first: Side, second: Side, out: &mut Yield)
-    requires { atom_count plan.now < 2 ^ 32 }
+    requires { GrainsFit plan.now }
     ensures { out.new ≡ taken out.old (together
         (side_said plan.now (V.seen view.now) first) (side_said plan.now (V.seen view.now) second)) }
 {
@@ -125,7 +142,7 @@ pub fn say_compare<V: View>(
 )
     requires fit { TermsFit plan.now }
     requires values { LiesInGrains plan.now (V.seen view.now) }
-    requires grains { atom_count plan.now < 2 ^ 32 }
+    requires grains { GrainsFit plan.now }
     ensures { out.new ≡ taken out.old (compare_said plan.now (V.seen view.now) rule.now relation left right) }
 {
     let first = term_value(plan, view, left);

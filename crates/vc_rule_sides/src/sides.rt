@@ -1,12 +1,12 @@
 //! The sides of a comparison: what they read, which variable one is, and what is said of it from the other.
 
-ghost use Rattle.std.specs.Prelude.{◌≡◌, ◌^◌, ◌<◌, ◌++◌};
+ghost use Rattle.std.specs.Prelude.{◌≡◌, ◌++◌};
 ghost use Rattle.vc_base.specs.Rounds.{is_clash};
-ghost use Rattle.vc_plan.specs.Domains.{atom_count};
 ghost use Rattle.vc_plan.specs.Restrictions.{confined, lone, lone_inferred};
 ghost use Rattle.vc_rule_premises.specs.Citing.{cited_all};
 ghost use Rattle.vc_rule_premises.specs.Saying.{said_from, taken};
 ghost use Rattle.vc_rule_grains.specs.Confining.{why_confined};
+ghost use Rattle.vc_rule_grains.specs.Finding.{GrainsFit};
 ghost use Rattle.vc_rule_sides.specs.Comparing.{values_in};
 
 use vc_plan::{Plan, Rule, Term, View};
@@ -49,7 +49,7 @@ pub fn lone_inferred(plan: &Plan, rule: &Rule, term: u32) -> Option<u32>
 
 /// Whether no grain that passes the test is left of the variable, where it isn't restrictable.
 pub fn is_ruled_out<V: View, T: Test>(plan: &Plan, view: &V, var: u32, test: &T) -> bool
-    requires { atom_count plan.now < 2 ^ 32 }
+    requires { GrainsFit plan.now }
     ensures { result ≡ is_clash (confined plan.now (V.seen view.now) var (T.passes test.now)) }
 {
     if is_restrictable(plan, var) {
@@ -72,7 +72,7 @@ pub fn confine_by<V: View, T: Test>(
     other: u32,
     out: &mut Yield,
 )
-    requires { atom_count plan.now < 2 ^ 32 }
+    requires { GrainsFit plan.now }
     ensures { out.new ≡ taken out.old (said_from (V.seen view.now)
         (values_in plan.now (V.seen view.now) other ++ why_confined plan.now (V.seen view.now) var (T.passes test.now))
         (confined plan.now (V.seen view.now) var (T.passes test.now))) }

@@ -1,11 +1,11 @@
 //! What narrowing rules say of two variables of three texts, of which the second is restrictable.
 
-ghost use Rattle.std.specs.Prelude.{◌≡◌, ◌^◌, ◌<◌, true, false, [], ◌∷◌, length};
+ghost use Rattle.std.specs.Prelude.{◌≡◌, true, false, [], ◌∷◌, length};
 ghost use Rattle.vc_value.specs.declared.table_header.Domain.TheVariants.{Texts};
 ghost use Rattle.vc_value.specs.declared.value.Value.TheVariants.{Text};
-ghost use Rattle.vc_plan.specs.Domains.{atom_count};
 ghost use Rattle.vc_plan.specs.declared.terms.Term.TheVariants.{Literal, Read};
 ghost use Rattle.vc_rule_terms.specs.Computing.{TermsFit};
+ghost use Rattle.vc_rule_grains.specs.Finding.{GrainsFit};
 
 use std::alloc::Global;
 use std::process::Abort;
@@ -132,7 +132,7 @@ fn terms<R: Abort>(rt: &R, alloc: Global) -> Listed<Term>
 
 fn plan_of_two<R: Abort>(rt: &R, alloc: Global) -> Plan
     ensures fit { TermsFit result }
-    ensures few { atom_count result < 2 ^ 32 }
+    ensures grains { GrainsFit result }
 {
     Plan {
         name: Word::from_bytes(alloc, b"LAMP").expect(rt, "memory"),
@@ -180,14 +180,14 @@ fn among(
     out: &mut Yield,
 )
     requires fit { TermsFit plan.now }
-    requires few { atom_count plan.now < 2 ^ 32 }
+    requires grains { GrainsFit plan.now }
 {
     out.clear();
     say_among(plan, view, rule, var, restriction, out);
 }
 
 fn last(plan: &Plan, view: &Facts, var: u32, out: &mut Yield)
-    requires { atom_count plan.now < 2 ^ 32 }
+    requires { GrainsFit plan.now }
 {
     out.clear();
     say_last(plan, view, var, out);
@@ -203,7 +203,7 @@ fn equate(plan: &Plan, view: &Facts, rule: &Rule, left: u32, right: u32, out: &m
 
 fn compare(plan: &Plan, view: &Facts, rule: &Rule, relation: Relation, right: u32, out: &mut Yield)
     requires fit { TermsFit plan.now }
-    requires few { atom_count plan.now < 2 ^ 32 }
+    requires grains { GrainsFit plan.now }
     requires unknown { view.now.is_known ≡ false }
 {
     out.clear();
@@ -233,7 +233,7 @@ fn one_of_two<R: Abort>(rt: &R, alloc: Global) -> Restriction {
 // A restrictable variable loses the grains that aren't allowed, but for those that are out already.
 fn narrows(plan: &Plan, rule: &Rule, out: &mut Yield) -> bool
     requires fit { TermsFit plan.now }
-    requires few { atom_count plan.now < 2 ^ 32 }
+    requires grains { GrainsFit plan.now }
 {
     let second = Restriction::Against(Relation::Equal, Value::Text(1));
     among(plan, &unknown(1), rule, 1, &second, out);
@@ -244,7 +244,7 @@ fn narrows(plan: &Plan, rule: &Rule, out: &mut Yield) -> bool
 // One that isn't has the last value that is left and allowed, and none where two are.
 fn gives_what_is_left(plan: &Plan, rule: &Rule, out: &mut Yield) -> bool
     requires fit { TermsFit plan.now }
-    requires few { atom_count plan.now < 2 ^ 32 }
+    requires grains { GrainsFit plan.now }
 {
     let not_the_third = Restriction::Against(Relation::Unequal, Value::Text(2));
     among(plan, &unknown(1), rule, 0, &not_the_third, out);
@@ -256,7 +256,7 @@ fn gives_what_is_left(plan: &Plan, rule: &Rule, out: &mut Yield) -> bool
 
 fn clashes_with_the_value(plan: &Plan, rule: &Rule, allowed: &Restriction, out: &mut Yield) -> bool
     requires fit { TermsFit plan.now }
-    requires few { atom_count plan.now < 2 ^ 32 }
+    requires grains { GrainsFit plan.now }
 {
     among(plan, &third_text(), rule, 0, allowed, out);
     clashes(out, &[Atom::Is(0, Value::Text(2))])
@@ -264,7 +264,7 @@ fn clashes_with_the_value(plan: &Plan, rule: &Rule, allowed: &Restriction, out: 
 
 // The last grain that isn't out is the value. That the root is here is never cited.
 fn gives_the_last_grain(plan: &Plan, out: &mut Yield) -> bool
-    requires { atom_count plan.now < 2 ^ 32 }
+    requires { GrainsFit plan.now }
 {
     last(plan, &unknown(2), 1, out);
     let premises = [Atom::Out(1, 0), Atom::Out(1, 1)];
@@ -284,7 +284,7 @@ fn gives_the_other_sides_value(plan: &Plan, rule: &Rule, out: &mut Yield) -> boo
 // The second variable isn't to be the second text; where the other side has no value nothing follows.
 fn leaves_out_the_other_sides_value(plan: &Plan, rule: &Rule, out: &mut Yield) -> bool
     requires fit { TermsFit plan.now }
-    requires few { atom_count plan.now < 2 ^ 32 }
+    requires grains { GrainsFit plan.now }
 {
     compare(plan, &unknown(0), rule, Relation::Unequal, 2, out);
     let left_out = says(out, Atom::Out(1, 1), &[]);

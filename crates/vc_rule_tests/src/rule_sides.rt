@@ -1,8 +1,8 @@
 //! A variable of three texts, restricted against a literal.
 
-ghost use Rattle.std.specs.Prelude.{◌≡◌, ◌^◌, ◌<◌, true, [], ◌∷◌, IfOk};
+ghost use Rattle.std.specs.Prelude.{◌≡◌, true, [], ◌∷◌, IfOk};
 ghost use Rattle.vc_value.specs.declared.table_header.Domain.TheVariants.{Texts};
-ghost use Rattle.vc_plan.specs.Domains.{atom_count};
+ghost use Rattle.vc_rule_grains.specs.Finding.{GrainsFit};
 
 use std::alloc::Global;
 use std::process::Abort;
@@ -77,7 +77,7 @@ fn variables<R: Abort>(rt: &R, alloc: Global) -> Listed<Var>
 }
 
 fn plan_of_two<R: Abort>(rt: &R, alloc: Global) -> Plan
-    ensures { atom_count result < 2 ^ 32 }
+    ensures { GrainsFit result }
 {
     let mut terms = Listed::new(alloc);
     terms.push(Term::Read(0)).expect(rt, "memory");

@@ -1,29 +1,22 @@
--- The grain at hand is cited, or isn't.
-use Rattle.std.proofs.Common.{ℕ, cond, ◌&&◌, ◌∙◌, ap, arith}
+-- What is cited holds the value that the test passes alone.
+use Rattle.std.proofs.Common.{ℕ, ◌&&◌, ◌∙◌, ap, map}
+use Rattle.std.proofs.lemmas.Bool.{and_parts}
+use Rattle.std.specs.Prelude.{slice_get}
 use Rattle.vc_plan.specs.declared.atoms.Atom.TheVariants.{Out}
-use Rattle.vc_plan.specs.Domains.{numbers_below, is_grain_with}
-use Rattle.vc_rule_yield.specs.Yielding.{cited}
-use Rattle.vc_rule_grains.proofs.SayLemmas.{cite_step, cites_walked}
-use Rattle.vc_rule_grains.proofs.Walking.{walked, walk_on, walk_done}
+use Rattle.vc_plan.specs.Domains.{count_of, grains_of, is_grain_with}
+use Rattle.vc_rule_premises.specs.Citing.{cited_all}
+use Rattle.vc_rule_grains.proofs.FindingLemmas.{only_there, passes_only}
 use Rattle.vc_rule_grains.proofs.confining.cite_outs.Goals as goal
 
-pub loop-grain-preserved : goal.loop-grain-preserved
-loop-grain-preserved g c =
-    let p
-    = λ (n : ℕ). (g.V.View.seen c.args.view.now).out c.args.var n
-    && is_grain_with c.args.plan.now c.args.var (g.T.Test.passes c.args.test.now) n in
-    let now = c.loop-grain.out in
-    walk_on (cite_step p c.args.var) c.args.out.now now c.cite_if.new.out c.loop-grain.grain c.grain_count-count.result
-    c.loop-grain.invariant (omega arith)
-    (c.cite_if.ensures ∙ ap (λ b. cond b (cited now (Out c.args.var c.loop-grain.grain)) now)
-    c.is_out_with-cites.ensures)
-
-pub returns : goal.returns
-returns g c =
-    let p
-    = λ (n : ℕ). (g.V.View.seen c.args.view.now).out c.args.var n
-    && is_grain_with c.args.plan.now c.args.var (g.T.Test.passes c.args.test.now) n in
-    walk_done (cite_step p c.args.var) c.args.out.now c.loop-grain.out c.loop-grain.grain c.grain_count-count.result
-    c.loop-grain.invariant (omega arith)
-    ∙ (ap (λ n. walked (cite_step p c.args.var) c.args.out.now (numbers_below n)) c.grain_count-count.ensures
-    ∙ cites_walked p c.args.var c.args.out.now (numbers_below _))
+pub returns-in-Some : goal.returns-in-Some
+returns-in-Some g c =
+    let plan = c.args.plan.now in
+    let seen = g.V.View.seen c.args.view.now in
+    let v = c.args.var in
+    let test = g.T.Test.passes c.args.test.now in
+    let p = λ (n : ℕ). seen.out v n && is_grain_with plan v test n in
+    c.cite_out_at.ensures
+    ∙ ap (λ gs. cited_all c.args.out.now (map (Out v) gs))
+    (only_there plan v c.in-Some.value p (count_of plan v) c.grain_of.result c.requires.proper
+    (λ n h. passes_only test c.in-Some.value c.in-Some.ensures (slice_get (grains_of plan v) n)
+    (and_parts (seen.out v n) (is_grain_with plan v test n) h).1) c.grain_of.ensures)

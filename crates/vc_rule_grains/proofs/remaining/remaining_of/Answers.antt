@@ -1,28 +1,36 @@
--- The grain at hand is counted, or isn't.
-use Rattle.std.proofs.Common.{ℕ, cond, ◌&&◌, ◌∙◌, ap, arith}
-use Rattle.vc_plan.specs.Domains.{numbers_below, is_grain_with}
+-- What is left holds the value that the variable has, or that the test passes alone.
+use Rattle.std.proofs.Common.{ℕ, ◌&&◌, ◌∙◌, ap, sym}
+use Rattle.std.proofs.lemmas.Bool.{and_parts}
+use Rattle.std.specs.Prelude.{None, Some, slice_get}
+use Rattle.vc_plan.specs.Domains.{count_of, grains_of, is_grain_with}
 use Rattle.vc_plan.specs.Seen.{is_left_by}
-use Rattle.vc_rule_grains.specs.Remaining.{with_one}
-use Rattle.vc_rule_grains.specs.declared.remaining.Remaining.TheVariants.{Nothing}
-use Rattle.vc_rule_grains.proofs.SayLemmas.{count_step, remaining_walked}
-use Rattle.vc_rule_grains.proofs.Walking.{walked, walk_on, walk_done}
+use Rattle.vc_rule_grains.specs.Remaining.{left_by, remaining_of}
+use Rattle.vc_rule_grains.proofs.FindingLemmas.{only_there, passes_only}
 use Rattle.vc_rule_grains.proofs.remaining.remaining_of.Goals as goal
 
-pub loop-grain-preserved : goal.loop-grain-preserved
-loop-grain-preserved g c =
-    let p = λ (n : ℕ). is_left_by c.args.plan.now (g.V.View.seen c.args.view.now) c.args.var n c.args.value
-    && is_grain_with c.args.plan.now c.args.var (g.T.Test.passes c.args.test.now) n in
-    let now = c.loop-grain.remaining in
-    walk_on (count_step p) Nothing now c.count_if-remaining.result c.loop-grain.grain c.grain_count-count.result
-    c.loop-grain.invariant (omega arith)
-    (c.count_if-remaining.ensures
-    ∙ ap (λ b. cond b (with_one now c.loop-grain.grain) now) c.is_left_with-counts.ensures)
+pub returns-in-Some : goal.returns-in-Some
+returns-in-Some g c =
+    let plan = c.args.plan.now in
+    let seen = g.V.View.seen c.args.view.now in
+    let v = c.args.var in
+    let test = g.T.Test.passes c.args.test.now in
+    let own = c.in-Some.own in
+    let p = λ (n : ℕ). is_left_by plan seen v n (Some own) && is_grain_with plan v test n in
+    c.remaining_at.ensures
+    ∙ (ap remaining_of (only_there plan v own p (count_of plan v) c.grain_of.result c.requires.proper
+    (λ n h. (and_parts (is_left_by plan seen v n (Some own)) (is_grain_with plan v test n) h).0) c.grain_of.ensures)
+    ∙ ap (λ o. remaining_of (left_by plan seen v o test)) (sym c.in-Some.is))
 
-pub returns : goal.returns
-returns g c =
-    let p = λ (n : ℕ). is_left_by c.args.plan.now (g.V.View.seen c.args.view.now) c.args.var n c.args.value
-    && is_grain_with c.args.plan.now c.args.var (g.T.Test.passes c.args.test.now) n in
-    walk_done (count_step p) Nothing c.loop-grain.remaining c.loop-grain.grain c.grain_count-count.result
-    c.loop-grain.invariant (omega arith)
-    ∙ (ap (λ n. walked (count_step p) Nothing (numbers_below n)) c.grain_count-count.ensures
-    ∙ remaining_walked p (numbers_below _))
+pub returns-in-Some-only : goal.returns-in-Some-only
+returns-in-Some-only g c =
+    let plan = c.args.plan.now in
+    let seen = g.V.View.seen c.args.view.now in
+    let v = c.args.var in
+    let test = g.T.Test.passes c.args.test.now in
+    let only = c.in-Some-only.only in
+    let p = λ (n : ℕ). is_left_by plan seen v n None && is_grain_with plan v test n in
+    c.remaining_at-in-Some-only.ensures
+    ∙ (ap remaining_of (only_there plan v only p (count_of plan v) c.grain_of-in-Some-only.result c.requires.proper
+    (λ n h. passes_only test only c.in-Some-only.ensures (slice_get (grains_of plan v) n)
+    (and_parts (is_left_by plan seen v n None) (is_grain_with plan v test n) h).1) c.grain_of-in-Some-only.ensures)
+    ∙ ap (λ o. remaining_of (left_by plan seen v o test)) (sym c.in-None.is))

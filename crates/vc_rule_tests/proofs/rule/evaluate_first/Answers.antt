@@ -45,7 +45,7 @@ small_fits plan = record {
         refl;
     terms_small = refl;
   };
-  grains = omega arith;
+  grains = record { few = omega arith; proper = refl };
 }
 
 pub evaluate-requires-clause-room : goal.evaluate-requires-clause-room

@@ -3,7 +3,7 @@ use Rattle.std.proofs.Common.{◌&&◌, ◌-◌}
 use Rattle.vc_plan.specs.Domains.{is_grain_with}
 use Rattle.vc_rule_grains.proofs.SayLemmas.{cite_step}
 use Rattle.vc_rule_grains.proofs.Walking.{Walks}
-use Rattle.vc_rule_grains.proofs.confining.cite_outs.Given as goal
+use Rattle.vc_rule_grains.proofs.confining.cite_outs_among.Given as goal
 
 abbrev pub invariant-loop-grain : goal.invariant-loop-grain
 invariant-loop-grain g l =

@@ -6,8 +6,8 @@ use Rattle.vc_value.specs.declared.value.Value.TheVariants.{Text}
 use Rattle.vc_plan.specs.declared.conditions.Piece.TheVariants.{OneText}
 use Rattle.vc_plan.specs.Domains.{passes}
 use Rattle.vc_plan.specs.Pieces.{lies_in}
-use Rattle.vc_net_readers.specs.Waiting.{grain_in}
-use Rattle.vc_net_readers.proofs.triggers.grain_of_text.Given as goal
+use Rattle.vc_rule_grains.specs.Finding.{grain_in}
+use Rattle.vc_rule_grains.proofs.finding.first_grain.Given as goal
 
 abbrev pub invariant-loop-grain : goal.invariant-loop-grain
 invariant-loop-grain l =

@@ -1,0 +1,8 @@
+-- A variable's domain is one of the plan's.
+use Rattle.vc_rule_grains.proofs.FindingLemmas.{domain_proper}
+use Rattle.vc_rule_grains.proofs.finding.grain_of.Goals as goal
+
+pub grain_in-requires-clause-proper : goal.grain_in-requires-clause-proper
+grain_in-requires-clause-proper c =
+    domain_proper c.args.plan.now c.in-Some.x.now.domain c.in-Some-element.domain.now c.as_slice-in-Some.result.now
+    c.requires.proper c.as_slice-in-Some.ensures c.in-Some-element.ensures.some
