@@ -15,7 +15,7 @@ use crate::turn::Turn;
 use crate::work::Work;
 use std::sync::ledger::Ledger;
 use vc_net_agenda::Giver;
-use vc_net_sources::{ask, culprit_of};
+use vc_net_sources::{ask, culprit_of, tells_nothing};
 use vc_plan::Plan;
 use vc_plan_sources::Sources;
 use vc_rule_yield::Yield;
@@ -52,7 +52,7 @@ pub fn settle<L: Ledger>(
     }
 }
 
-// Asks the giver, and concludes what it says.
+// Asks the giver, unless it has nothing to tell, and concludes what it says.
 fn turn<L: Ledger>(
     plan: &Plan,
     sources: &Sources,
@@ -69,6 +69,9 @@ fn turn<L: Ledger>(
     ensures counted { steps.new ≡ steps.old + evaluations (meant giver) }
     ensures ends { Ends plan.now sources.now (meant giver) work.old work.new result }
 {
+    if tells_nothing(sources, giver) {
+        return Turn::Done;
+    }
     ask(plan, &work.log, sources, giver, out, steps);
     match out.clash() {
         Some(premises) => {

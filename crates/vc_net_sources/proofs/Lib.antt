@@ -1,2 +1,3 @@
 pub mod GiverLaws
 pub mod RoomLaws
+pub mod SilenceLaws

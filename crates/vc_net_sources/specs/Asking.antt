@@ -1,5 +1,5 @@
 -- What any giver says at what is seen, with what it follows from.
-use Rattle.std.specs.Prelude.{ℕ, List, [], ◌∷◌, Option, None, Some}
+use Rattle.std.specs.Prelude.{ℕ, Bool, false, List, [], ◌∷◌, Option, None, Some, is_none}
 use Rattle.vc_base.specs.Rounds.{Given, clash, atoms}
 use Rattle.vc_plan.specs.declared.atoms.Atom.{Atom}
 use Rattle.vc_plan.specs.declared.atoms.Atom.TheVariants.{Is}
@@ -9,7 +9,7 @@ use Rattle.vc_plan.specs.declared.plans.Plan.{Plan}
 use Rattle.vc_plan.specs.Answers.{nothing}
 use Rattle.vc_plan.specs.Gives.{Giver, by_rule, by_user, by_entry, giver_says, if_here}
 use Rattle.vc_plan.specs.Seen.{Seen}
-use Rattle.vc_plan.specs.Sources.{Sources, Entry, entry_of}
+use Rattle.vc_plan.specs.Sources.{Sources, Entry, entry_of, user_of}
 use Rattle.vc_rule_premises.specs.Cited.{cited_once}
 use Rattle.vc_rule_premises.specs.Saying.{Said, said_from}
 use Rattle.vc_rule_grains.specs.Kinds.{slot_of}
@@ -33,6 +33,12 @@ found_from plan sources seen (by_user v) =
     said_from seen (why_there plan v) (giver_says plan sources (by_user v) seen)
 found_from plan sources seen (by_entry v) =
     said_from seen (why_there plan v) (giver_says plan sources (by_entry v) seen)
+
+-- whether it is a source that tells nothing: the variable has no value of the user's, or nothing is written to it
+abbrev pub tells_nothing : Sources → Giver → Bool
+tells_nothing sources (by_rule r) = false
+tells_nothing sources (by_user v) = is_none (user_of sources v)
+tells_nothing sources (by_entry v) = is_none (entry_of sources v)
 
 -- the origin of what a giver concludes. An entry that isn't there concludes nothing
 abbrev pub origin_by : Option Entry → Origin

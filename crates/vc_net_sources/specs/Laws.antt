@@ -19,13 +19,13 @@ use Rattle.vc_plan_blame.specs.Blame.{clash_by, culprit_giving}
 use Rattle.vc_plan_blame.specs.Laws.{Blames}
 use Rattle.vc_rule_terms.specs.Computing.{LiesInGrains}
 use Rattle.vc_rule_yield.specs.Yielding.{Conclusion}
-use Rattle.vc_rule_premises.specs.Saying.{clashing, concluding, given_of, HasRoomFor}
+use Rattle.vc_rule_premises.specs.Saying.{clashing, concluding, given_of, silent, HasRoomFor}
 use Rattle.vc_rule_premises.specs.Sufficing.{each_premise}
 use Rattle.vc_rule.specs.Rooms.{rooms_of}
 use Rattle.vc_rule_laws.specs.Following.{IsNext}
 use Rattle.vc_net_places.specs.Cells.{own_bound}
 use Rattle.vc_net_places.specs.Places.{place_for}
-use Rattle.vc_net_sources.specs.Asking.{found_from, origin_of}
+use Rattle.vc_net_sources.specs.Asking.{evaluations, found_from, origin_of, tells_nothing}
 
 -- without what it follows from it is what the giver gives
 abbrev pub FoundIsGiven : Type 0
@@ -91,3 +91,12 @@ RoomsSuffice = (plan : Plan) (sources : Sources) (seen : Seen) (giver : Giver) �
 abbrev pub GrainsFitPlaces : Type 0
 GrainsFitPlaces = (plan : Plan) (v : ℕ) → IsValid plan → v < length plan.vars
     → count_of plan v ≤ place_bound plan (is_at v)
+
+-- a source that tells nothing finds nothing, whatever stands, and to ask it is no evaluation of a rule
+abbrev pub SilentSourcesFindNothing : Type 0
+SilentSourcesFindNothing = (plan : Plan) (sources : Sources) (seen : Seen) (giver : Giver)
+    → tells_nothing sources giver ≡ true → found_from plan sources seen giver ≡ silent
+
+abbrev pub SilentSourcesCostNothing : Type 0
+SilentSourcesCostNothing = (sources : Sources) (giver : Giver) → tells_nothing sources giver ≡ true
+    → evaluations giver ≡ 0

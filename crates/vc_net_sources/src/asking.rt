@@ -10,7 +10,7 @@ ghost use Rattle.vc_rule_premises.specs.Saying.{held, said_from, taken, HasRoomF
 ghost use Rattle.vc_rule_grains.specs.Kinds.{slot_of};
 ghost use Rattle.vc_rule.specs.Evaluating.{RulesFit};
 ghost use Rattle.vc_net_agenda.specs.Agendas.{meant};
-ghost use Rattle.vc_net_sources.specs.Asking.{evaluations, found_from, given_by, source_said};
+ghost use Rattle.vc_net_sources.specs.Asking.{evaluations, found_from, given_by, source_said, tells_nothing};
 
 use crate::telling::{Telling, told_by_entry, told_by_user};
 use std::sync::ledger::Ledger;
@@ -51,6 +51,18 @@ pub fn ask<V: View, L: Ledger>(
             told_by_entry(var, sources.written(var)),
             out,
         ),
+    }
+}
+
+/// Whether the giver is a source that tells nothing: then nothing is found by it, whatever stands, as
+/// `silent_sources_find_nothing` says.
+pub fn tells_nothing(sources: &Sources, giver: Giver) -> bool
+    ensures { result ≡ tells_nothing sources.now (meant giver) }
+{
+    match giver {
+        Giver::Rule(_) => false,
+        Giver::User(var) => sources.user(var).is_none(),
+        Giver::Entry(var) => sources.written(var).is_none(),
     }
 }
 

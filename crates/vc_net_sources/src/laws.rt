@@ -2,6 +2,7 @@
 
 ghost use Rattle.vc_net_sources.specs.Laws.{ClashFitsCells, FoundFitsCells, FoundIsConcluded, FoundIsGiven};
 ghost use Rattle.vc_net_sources.specs.Laws.{FoundIsNew, FoundIsNext, FoundRefutes, GrainsFitPlaces, RoomsSuffice};
+ghost use Rattle.vc_net_sources.specs.Laws.{SilentSourcesCostNothing, SilentSourcesFindNothing};
 
 /// What is found, without what it follows from, is what the giver gives. Each premise is of the set at which it is
 /// asked, beside that the root is here, and no conclusion stands there.
@@ -36,4 +37,10 @@ pub fn rooms_suffice()
 /// A variable of a valid plan has no more grains than its value may have premises: it has the rule of its last grain.
 pub fn grains_fit_places()
     ensures { GrainsFitPlaces }
+{}
+
+/// A source that tells nothing finds nothing, whatever stands, and to ask it is no evaluation of a rule.
+pub fn silent_sources_find_nothing()
+    ensures found { SilentSourcesFindNothing }
+    ensures cost { SilentSourcesCostNothing }
 {}

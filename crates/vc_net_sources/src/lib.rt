@@ -6,5 +6,5 @@ pub mod laws;
 pub mod naming;
 pub mod telling;
 
-pub use asking::ask;
+pub use asking::{ask, tells_nothing};
 pub use naming::{culprit_of, origin_of};

@@ -1,16 +1,36 @@
--- What a giver says fits the room; a clash breaks the net.
-use Rattle.std.proofs.Common.{sym, ◌∙◌, ap, subst}
+-- A source that tells nothing changes nothing. What another giver says fits the room; a clash breaks the net.
+use Rattle.std.proofs.Common.{◌≡◌, ◌+◌, [], sym, ◌∙◌, ap, subst, arith}
 use Rattle.vc_rule_laws.proofs.BoundLaws.{clear_lies_in_grains}
 use Rattle.vc_rule_premises.specs.Saying.{HasRoomFor}
 use Rattle.vc_net_agenda.specs.Agendas.{meant}
 use Rattle.vc_net_log.specs.Logs.{seen_by, set_of}
-use Rattle.vc_net_sources.specs.Asking.{found_from}
+use Rattle.vc_net_sources.specs.Asking.{evaluations, found_from, tells_nothing}
 use Rattle.vc_net_sources.proofs.RoomLaws.{rooms_suffice}
+use Rattle.vc_net_sources.proofs.SilenceLaws.{silent_sources_cost_nothing, silent_sources_find_nothing}
 use Rattle.vc_net.specs.Breaking.{clashed}
 use Rattle.vc_net.specs.Going.{IsBrokenOff}
 use Rattle.vc_net.specs.Working.{with_breaker}
 use Rattle.vc_net.proofs.BreakLaws.{clash_breaks_off, clash_found}
+use Rattle.vc_net.proofs.EndLaws.{turn_begins, turn_ends}
 use Rattle.vc_net.proofs.settling.turn.Goals as goal
+
+pub returns-then-tells_nothing-clause-counted : goal.returns-then-tells_nothing-clause-counted
+returns-then-tells_nothing-clause-counted g c =
+    let none : evaluations (meant c.args.giver) ≡ 0 =
+    silent_sources_cost_nothing c.args.sources.now (meant c.args.giver)
+    (sym c.tells_nothing.ensures ∙ c.if-tells_nothing.true) in
+    omega (arith, none)
+
+pub returns-then-tells_nothing-clause-ends : goal.returns-then-tells_nothing-clause-ends
+returns-then-tells_nothing-clause-ends g c =
+    let plan = c.args.plan.now in
+    let sources = c.args.sources.now in
+    let work = c.args.work.now in
+    let giver = meant c.args.giver in
+    turn_ends plan sources giver work work []
+    (silent_sources_find_nothing plan sources (seen_by work.log) giver
+    (sym c.tells_nothing.ensures ∙ c.if-tells_nothing.true))
+    (turn_begins plan sources giver work c.requires.going)
 
 pub ask-requires-clause-values : goal.ask-requires-clause-values
 ask-requires-clause-values g c =
