@@ -1,10 +1,13 @@
 -- How much room a yield needs for what the rules of a plan say.
-use Rattle.std.specs.Prelude.{ℕ, ◌+◌, ◌*◌, max, List, [], ◌∷◌, length, slice_get, Option, None, Some}
+use Rattle.std.specs.Prelude.{ℕ, ◌+◌, ◌*◌, ◌==◌, if◌then◌else◌, max, List, [], ◌∷◌, length, slice_get, Option, None}
+use Rattle.std.specs.Prelude.{Some}
+use Rattle.vc_value.specs.declared.table_header.Domain.{Domain}
 use Rattle.vc_plan.specs.declared.plans.Plan.{Plan}
+use Rattle.vc_plan.specs.declared.plans.Table.{Table}
 use Rattle.vc_plan.specs.declared.rules.Kind.{Kind}
 use Rattle.vc_plan.specs.declared.rules.Kind.TheVariants.{Among, Compare, Equate, ByTable, Never, Last, Line}
 use Rattle.vc_plan.specs.declared.rules.Rule.{Rule}
-use Rattle.vc_plan.specs.Domains.{count_of}
+use Rattle.vc_plan.specs.Domains.{count_of, grains_in}
 use Rattle.vc_plan.specs.Reads.{vars_of_condition, vars_of_term}
 use Rattle.vc_plan.specs.Restrictions.{lone_inferred}
 use Rattle.vc_plan.specs.TableRows.{rows_of}
@@ -70,3 +73,16 @@ rooms_of_rules plan (rule ∷ rules) = greater (room_of_kind plan rule rule.kind
 
 abbrev pub rooms_of : Plan → Rooms
 rooms_of plan = rooms_of_rules plan plan.rules
+
+-- the most rows of a table, and the most grains of a domain, with what is the most before
+abbrev pub most_rows : ℕ → List Table → ℕ
+most_rows most [] = most
+most_rows most (table ∷ tables) = most_rows (max most (length table.rows)) tables
+
+abbrev pub most_grains : ℕ → List Domain → ℕ
+most_grains most [] = most
+most_grains most (domain ∷ domains) = most_grains (max most (length (grains_in (Some domain)))) domains
+
+-- as many keys as there are texts, or grains of a domain, if there is a table
+abbrev pub keys_for : Plan → ℕ
+keys_for plan = if length plan.tables == 0 then 0 else max (length plan.texts) (most_grains 0 plan.domains)

@@ -4,15 +4,19 @@ ghost use Rattle.std.specs.Prelude.{◌≡◌, length, slice_get, IfOk, IfSome};
 ghost use Rattle.vc_plan.specs.Reads.{vars_in, vars_of_condition, vars_of_term, vars_read};
 ghost use Rattle.vc_plan.specs.Restrictions.{lone_inferred};
 ghost use Rattle.vc_plan.specs.TableRows.{rows_of};
+ghost use Rattle.vc_rule_yield.specs.Scratches.{has_rooms};
 ghost use Rattle.vc_rule_yield.specs.Yielding.{nothing_in};
-ghost use Rattle.vc_rule.specs.Rooms.{acting_reads, comparison_room, grains_in_all, greater, lone_grains, room_by};
-ghost use Rattle.vc_rule.specs.Rooms.{room_in, room_of_kind, rooms_of, sides_reads, table_room};
+ghost use Rattle.vc_rule.specs.Rooms.{acting_reads, comparison_room, grains_in_all, greater, keys_for, lone_grains};
+ghost use Rattle.vc_rule.specs.Rooms.{most_grains};
+ghost use Rattle.vc_rule.specs.Rooms.{most_rows, room_by, room_in, room_of_kind, rooms_of, sides_reads, table_room};
 
 use std::alloc::{AllocError, Global};
-use vc_plan::{Condition, Kind, Plan, Rule, Term, count_of};
+use vc_plan::{Condition, Kind, Plan, Rule, Table, Term, count_of};
 use vc_rule_sides::sides::lone_inferred;
+use vc_rule_table::cells::grain_count;
 use vc_rule_terms::elements::element;
-use vc_rule_yield::Yield;
+use vc_rule_yield::{Scratch, Yield};
+use vc_value::Domain;
 
 /// How many premises are cited for one conclusion, how many conclusions there are, and how many premises all of them
 /// have, at most.
@@ -29,8 +33,54 @@ pub fn new_yield(alloc: Global, plan: &Plan) -> Result<Yield, AllocError>
     ensures { IfOk result (λ out. out ≡ nothing_in (rooms_of plan.now)) }
 {
     match room_of(plan) {
-        Some(room) => Yield::new(alloc, room.cites, room.atoms, room.premises),
+        Some(room) => {
+            let mut out = Yield::new(alloc, room.cites, room.atoms, room.premises)?;
+            out.put_scratch(new_scratch(alloc, plan)?);
+            Ok(out)
+        }
         None => Err(AllocError),
+    }
+}
+
+// Scratch for the rows of any table, and for the texts and grains of any domain.
+fn new_scratch(alloc: Global, plan: &Plan) -> Result<Scratch, AllocError>
+    ensures { IfOk result (λ scratch. has_rooms (most_rows 0 plan.now.tables) (keys_for plan.now) scratch) }
+{
+    Scratch::new(alloc, most_rows(plan.tables.as_slice()), keys_for(plan))
+}
+
+fn most_rows(tables: &[Table]) -> usize
+    ensures { result ≡ most_rows 0 tables.now }
+{
+    let mut most: usize = 0;
+    let mut rest = tables;
+    while let [table, more @ ..] = rest {
+        most = most.max(table.rows.len());
+        rest = more;
+    }
+    most
+}
+
+fn most_grains(domains: &[Domain]) -> usize
+    ensures { result ≡ most_grains 0 domains.now }
+{
+    let mut most: usize = 0;
+    let mut rest = domains;
+    while let [domain, more @ ..] = rest {
+        most = most.max(grain_count(domain));
+        rest = more;
+    }
+    most
+}
+
+// None is needed where there are no tables.
+fn keys_for(plan: &Plan) -> usize
+    ensures { result ≡ keys_for plan.now }
+{
+    if plan.tables.is_empty() {
+        0
+    } else {
+        plan.texts.len().max(most_grains(plan.domains.as_slice()))
     }
 }
 

@@ -68,7 +68,7 @@ pub element_after : {A : Type 0} (before after : List A) (x : A)
 element_after [] after x = refl
 element_after (y ∷ before) after x = element_after before after x
 
-any_after : (test : Piece → Bool) (before after : List Piece)
+pub any_after : (test : Piece → Bool) (before after : List Piece)
     → list_any (λ g. passes test (slice_get (before ++ after) g)) (range_with_len (length before) (length after))
     ≡ list_any test after
 any_after test before [] = refl

@@ -1,9 +1,9 @@
 -- What is said has at most one premise a row: of the grains of a valid plan's variable one alone holds a cell.
 use Rattle.std.proofs.Common.{◌≡◌, ℕ, suc, ◌+◌, ◌≤◌, Bool, true, false, cond, not, ◌&&◌, List, [], ◌∷◌, ◌++◌, length}
-use Rattle.std.proofs.Common.{map, refl, sym, ◌∙◌, ap, subst, arith, append_assoc, length-append}
+use Rattle.std.proofs.Common.{map, refl, sym, ◌∙◌, ap, arith, append_assoc, length-append}
 use Rattle.std.specs.Prelude.{◌==◌, flat_map, slice_get, Option, None, Some}
 use Rattle.std.specs.List.{filter, find, list_any, list_all, range_with_len, AllByRecursion}
-use Rattle.std.specs.Int.Signed.{lt_z, le_z}
+use Rattle.std.specs.Int.Signed.{lt_z}
 use Rattle.std.proofs.lemmas.Bool.{and_parts, or_parts, not-true, eqb-true, eq-eqb}
 use Rattle.std.proofs.lemmas.Int.{ints}
 use Rattle.std.proofs.lemmas.List.{length-map}
@@ -15,7 +15,6 @@ use Rattle.vc_value.specs.declared.table_header.Domain.{Domain}
 use Rattle.vc_value.specs.declared.table_header.Domain.TheVariants.{Texts, Nums}
 use Rattle.vc_value.specs.declared.value.Value.{Value}
 use Rattle.vc_value.specs.declared.value.Value.TheVariants.{Text, Num}
-use Rattle.vc_plan.specs.declared.atoms.Atom.{Atom}
 use Rattle.vc_plan.specs.declared.atoms.Atom.TheVariants.{Out, Is}
 use Rattle.vc_plan.specs.declared.conditions.Piece.{Piece}
 use Rattle.vc_plan.specs.declared.conditions.Piece.TheVariants.{OneText, Stretch}
@@ -24,9 +23,7 @@ use Rattle.vc_plan.specs.declared.plans.Var.{Var}
 use Rattle.vc_plan.specs.declared.rules.Binding.{Binding}
 use Rattle.vc_plan.specs.declared.rules.Operand.{Operand}
 use Rattle.vc_plan.specs.declared.rules.Operand.TheVariants.{Constant, Variable}
-use Rattle.vc_plan.specs.declared.rules.Rule.{Rule}
 use Rattle.vc_plan.specs.Alike.{is_proper}
-use Rattle.vc_plan.specs.Answers.{value_atoms}
 use Rattle.vc_plan.specs.Domains.{numbers_below, grains_in, domain_of, grains_of, count_of, passes, is_restrictable}
 use Rattle.vc_plan.specs.Domains.{is_grain_with}
 use Rattle.vc_plan.specs.Orders.{are_apart}

@@ -5,9 +5,9 @@ use Rattle.std.proofs.Common.{◌≡◌, ℕ, Bool, true, false, cond, not, ◌&
 use Rattle.std.proofs.Common.{◌∙◌, ap, subst, inl, inr}
 use Rattle.std.specs.Prelude.{flat_map, slice_get, nat_eq, Option, None, Some}
 use Rattle.std.specs.List.{filter, find, list_any, list_all, AllByRecursion}
-use Rattle.std.proofs.lemmas.Bool.{and_parts, and_from, not-true, not-false, not_from_false, false_from_ne_true}
+use Rattle.std.proofs.lemmas.Bool.{and_parts, and_from, not-true, not_from_false, false_from_ne_true}
 use Rattle.std.proofs.lemmas.List.Folds.{list_all-append}
-use Rattle.vc_base.specs.Rounds.{Given, clash, atoms, is_clash, atoms_of}
+use Rattle.vc_base.specs.Rounds.{atoms, is_clash, atoms_of}
 use Rattle.vc_base.specs.Sets.{has}
 use Rattle.vc_base.proofs.ListLaws.{number_exact, number_itself}
 use Rattle.vc_base.proofs.SetLaws.{both, has_cases, has_first, has_more, has_front, has_back}
@@ -24,7 +24,7 @@ use Rattle.vc_plan.specs.Domains.{numbers_below, count_of, is_restrictable, is_g
 use Rattle.vc_plan.specs.Pieces.{lies_in}
 use Rattle.vc_plan.specs.Seen.{Seen, same_atom, says, is_left_by, is_left}
 use Rattle.vc_plan.specs.TableRows.{rows_of, cell_passes, fits, has_left, is_possible, is_possible_in, columns_of}
-use Rattle.vc_plan.specs.TableRows.{other_columns, has_grain, missing_grains, agreed, for_variable, narrowed, by_table}
+use Rattle.vc_plan.specs.TableRows.{other_columns, has_grain, agreed, for_variable, narrowed, by_table}
 use Rattle.vc_plan.proofs.PlanLaws.Atoms.{atom_exact, atom_itself}
 use Rattle.vc_plan.proofs.PlanLaws.Lists.{any_grows, all_grows}
 use Rattle.vc_rule_yield.specs.Yielding.{Conclusion}
@@ -33,9 +33,9 @@ use Rattle.vc_rule_premises.specs.Sufficing.{IsPartOf, SaysAll, Follows, EachFol
 use Rattle.vc_rule_premises.proofs.SufficingLaws.{value_said}
 use Rattle.vc_rule_table.specs.Cells.{is_missing}
 use Rattle.vc_rule_table.specs.Laws.{ValuesAreLeft, TableFollows}
-use Rattle.vc_rule_table.specs.Reasons.{cell_reasons, operand_reasons, column_reasons, misfit_reasons, row_reasons}
+use Rattle.vc_rule_table.specs.Reasons.{cell_reasons, operand_reasons, misfit_reasons, row_reasons}
 use Rattle.vc_rule_table.specs.Reasons.{rows_reasons}
-use Rattle.vc_rule_table.specs.TableSaid.{grain_out, cell_agreed, concluded_for, new_conclusions, concluded_newly}
+use Rattle.vc_rule_table.specs.TableSaid.{grain_out, cell_agreed, concluded_for, concluded_newly}
 use Rattle.vc_rule_table.proofs.SaidLaws.{given_for, gathered_atoms}
 
 -- a grain that is left stays left at a part

@@ -1,9 +1,11 @@
 pub mod AgreedLemmas
 pub mod CellLemmas
+pub mod ChangingLemmas
 pub mod CitingSteps
-pub mod ConcludingSteps
 pub mod FewLaws
+pub mod FittingLemmas
 pub mod FollowingLaws
+pub mod NotingLemmas
 pub mod ReadLaws
 pub mod SaidLaws
 pub mod StandingLaws

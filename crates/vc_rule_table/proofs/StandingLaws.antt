@@ -1,11 +1,10 @@
 -- What each premise of what is said passes; that each stands, and is of a variable that the call is given.
-use Rattle.std.proofs.Common.{◌≡◌, ℕ, Bool, true, false, cond, not, ◌&&◌, ◌||◌, List, [], ◌∷◌, ◌++◌, map, refl, sym}
+use Rattle.std.proofs.Common.{◌≡◌, ℕ, Bool, true, false, cond, not, ◌&&◌, List, [], ◌∷◌, map, refl, sym}
 use Rattle.std.proofs.Common.{◌∙◌, ap, subst}
 use Rattle.std.specs.Prelude.{flat_map, slice_get, Option, None, Some}
 use Rattle.std.specs.List.{filter, find, list_any, list_all}
-use Rattle.std.proofs.lemmas.Bool.{and_parts, and_from, or_parts}
+use Rattle.std.proofs.lemmas.Bool.{and_from, or_parts}
 use Rattle.std.proofs.lemmas.List.Folds.{list_all-append}
-use Rattle.vc_base.specs.Sets.{has}
 use Rattle.vc_value.specs.declared.value.Value.{Value}
 use Rattle.vc_plan.specs.declared.atoms.Atom.{Atom}
 use Rattle.vc_plan.specs.declared.atoms.Atom.TheVariants.{Out, Is}
@@ -17,18 +16,18 @@ use Rattle.vc_plan.specs.declared.rules.Rule.{Rule}
 use Rattle.vc_plan.specs.Domains.{numbers_below, count_of, is_restrictable, is_grain_with}
 use Rattle.vc_plan.specs.Pieces.{lies_in}
 use Rattle.vc_plan.specs.Seen.{Seen, says, is_left_by}
-use Rattle.vc_plan.specs.TableRows.{rows_of, cell_passes, fits, has_left, is_possible, is_possible_in, is_column_of}
+use Rattle.vc_plan.specs.TableRows.{rows_of, cell_passes, fits, has_left, is_possible, is_possible_in}
 use Rattle.vc_plan.specs.TableRows.{columns_of, other_columns, has_grain, missing_grains, agreed, narrowed}
 use Rattle.vc_plan.proofs.PlanLaws.Lists.{all_filter}
 use Rattle.vc_rule_yield.specs.Yielding.{Conclusion}
-use Rattle.vc_rule_premises.specs.Saying.{concluding, clash_when, conclusion_from}
+use Rattle.vc_rule_premises.specs.Saying.{concluding, clash_when}
 use Rattle.vc_rule_premises.specs.Sufficing.{SaysAll, each_premise}
 use Rattle.vc_rule_premises.proofs.SufficingLaws.{value_says}
 use Rattle.vc_rule_table.specs.Laws.{TableStands}
-use Rattle.vc_rule_table.specs.Reasons.{cell_reasons, operand_reasons, column_reasons, misfit_reasons, row_reasons}
+use Rattle.vc_rule_table.specs.Reasons.{cell_reasons, operand_reasons, misfit_reasons, row_reasons}
 use Rattle.vc_rule_table.specs.Reasons.{rows_reasons}
-use Rattle.vc_rule_table.specs.TableSaid.{grain_out, cell_agreed, concluded_for, new_conclusions, concluded_newly}
-use Rattle.vc_rule_table.specs.TableSaid.{rows_said, table_said}
+use Rattle.vc_rule_table.specs.TableSaid.{grain_out, cell_agreed, concluded_for, concluded_newly}
+use Rattle.vc_rule_table.specs.TableSaid.{table_said}
 
 -- what all of each list pass, all of the lists together pass
 pub all_flat : {X A : Type 0} (test : A → Bool) (f : X → List A) → ((x : X) → list_all test (f x) ≡ true)

@@ -1,4 +1,6 @@
 pub mod Cells
+pub mod Fitting
 pub mod Laws
+pub mod Noting
 pub mod Reasons
 pub mod TableSaid

@@ -103,7 +103,8 @@ fn holds_left<V: View>(
     grain_holds(domain, grain, value) && is_left(view, domain, var, known, grain)
 }
 
-fn has_left_among<V: View>(
+/// Whether a grain that holds the value is left where the variable has this value, or none.
+pub fn has_left_among<V: View>(
     view: &V,
     domain: &Domain,
     var: u32,

@@ -1,11 +1,9 @@
-//! What a table call of a constraint says, with the rows that it follows from.
+//! What a table call of a constraint says, with the rows that it follows from, and what is noted of rows.
 #![tactic(auto)]
 
-pub mod agreed;
 pub mod cells;
+pub mod fitting;
 pub mod grains;
 pub mod laws;
+pub mod notes;
 pub mod rows;
-pub mod tables;
-
-pub use tables::say_table;

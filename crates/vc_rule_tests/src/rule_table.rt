@@ -8,7 +8,7 @@ use std::alloc::Global;
 use std::process::Abort;
 use std::test::Fail;
 use vc_plan::{Atom, Binding, Kind, Operand, Plan, Rule, Table, Var, View};
-use vc_rule_table::say_table;
+use vc_rule_table_saying::say_table;
 use vc_rule_yield::Yield;
 use vc_value::{Domain, Listed, Value, Word};
 

@@ -3,8 +3,10 @@
 
 pub mod atoms;
 pub mod bounded;
+pub mod scratch;
 pub mod yields;
 
 pub use atoms::{has_atom, same_atom};
 pub use bounded::Bounded;
+pub use scratch::Scratch;
 pub use yields::Yield;

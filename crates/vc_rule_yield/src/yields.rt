@@ -4,6 +4,7 @@ ghost use Rattle.vc_rule_yield.specs.Yielding.{nothing_in, cited, with_cites, co
 
 use crate::Bounded;
 use crate::atoms::{has_atom, same_atom};
+use crate::scratch::Scratch;
 use std::alloc::{AllocError, Global};
 use std::marker::Model;
 use vc_plan::Atom;
@@ -17,13 +18,15 @@ pub struct Found {
 }
 
 /// The atoms that an evaluation gives, each with its premises, or a clash with its premises. It
-/// takes all memory at `new`; where its room is too small nothing is added.
+/// takes all memory at `new`; where its room is too small nothing is added. What it lends to rules
+/// as scratch is no part of what it yields.
 #[derive(Drop)]
 pub struct Yield {
     found: Bounded<Found>,
     cells: Bounded<Atom>,
     cites: Bounded<Atom>,
     clashes: bool,
+    scratch: Scratch,
 }
 
 impl Model for Yield {
@@ -56,7 +59,28 @@ impl Yield {
             cells: Bounded::new(alloc, premises)?,
             cites: Bounded::new(alloc, cites)?,
             clashes: false,
+            scratch: Scratch {
+                notes: None,
+                marks: None,
+            },
         })
+    }
+
+    /// Lends what there is of scratch.
+    pub fn take_scratch(&mut self) -> Scratch
+        ensures { self.new ≡ self.old }
+    {
+        Scratch {
+            notes: self.scratch.notes.take(),
+            marks: self.scratch.marks.take(),
+        }
+    }
+
+    /// Takes scratch to be lent from now on.
+    pub fn put_scratch(&mut self, scratch: Scratch)
+        ensures { self.new ≡ self.old }
+    {
+        self.scratch = scratch;
     }
 
     /// How many atoms are concluded.

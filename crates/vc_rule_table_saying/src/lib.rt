@@ -1,0 +1,12 @@
+//! What a table call of a constraint says, put into a yield in one pass over the rows.
+#![tactic(auto)]
+
+pub mod agreed;
+pub mod chains;
+pub mod grains;
+pub mod keys;
+pub mod marks;
+pub mod misfits;
+pub mod tables;
+
+pub use tables::say_table;
