@@ -17,7 +17,7 @@ use vc_wire_replies::reply_text;
 use vc_wire_requests::read_line;
 
 // Requests, one after another, and what is answered to each.
-const ROWS: [(&str, &str); 25] = [
+const ROWS: [(&str, &str); 28] = [
     ("open a", "ok complete\n"),
     ("open a", "refused 14 NameTaken\n"),
     ("set b 0 COL B", "refused 1 NoSession\n"),
@@ -49,6 +49,9 @@ const ROWS: [(&str, &str); 25] = [
     ("forget x", "refused 8 NothingSaved\n"),
     ("close a", "ok closed\n"),
     ("close a", "refused 1 NoSession\n"),
+    ("open a", "ok complete\n"),
+    ("open b", "ok complete\n"),
+    ("set b 0 COL A", "ok complete\n"),
 ];
 
 // Whether this is answered to the line.

@@ -1,5 +1,5 @@
 -- A desk of a plan, and what it keeps.
-use Rattle.std.specs.Prelude.{◌≡◌, ◌≤◌, ℕ, List, Option, map, Vec, IfSome, Result, Ok, Err}
+use Rattle.std.specs.Prelude.{◌≡◌, ◌≤◌, ℕ, List, Option, Some, map, Vec, IfSome, Result, Ok, Err}
 use Rattle.std.specs.FinMap.{entries, from_entries, get, insert, len}
 use Rattle.vc_outside.specs.Keepers.{Texts}
 use Rattle.vc_plan.specs.declared.plans.Plan.{Plan}
@@ -7,6 +7,8 @@ use Rattle.vc_plan.specs.declared.shown.Status.{Status}
 use Rattle.vc_plan.specs.Valid.{IsValid}
 use Rattle.vc_plan_reasons.specs.Blaming.{IsStatus}
 use Rattle.vc_plan_users.specs.Choosing.{Chosen, none_chosen, users_of}
+use Rattle.vc_proc_look_ups.specs.declared.look_ups.LookUps.{LookUps}
+use Rattle.vc_session_evaluation.specs.Sharing.{AreAllLookUpsOf}
 use Rattle.vc_session.specs.Costing.{HasStarted}
 use Rattle.vc_session.specs.Sessions.{IsSessionOf, Opened}
 use Rattle.vc_wire_replies.specs.declared.reply.Refusal.{Refusal}
@@ -15,9 +17,10 @@ use Rattle.vc_wire_replies.specs.declared.reply.Reply.TheVariants.{Done, Refused
 use Rattle.vc_desk.specs.States.{ByName, OpenSessions, State, kept}
 use Rattle.vc_desk.specs.declared.sessions.TheConstants.{SESSION_LIMIT}
 
--- a plan, and the open sessions
+-- a plan, the orders of its tables that sessions share, once there are some, and the open sessions
 pub record Kept : Type 0 where
   pub plan : Plan
+  pub look_ups : Option LookUps
   pub sessions : ByName Opened
 
 -- an entry by the bytes of its key
@@ -40,8 +43,13 @@ pub record AreSessionsOf (plan : Plan) (sessions : ByName Opened) : Type 0 where
   pub each : (name : List ℕ) → IfSome (get sessions name) (IsSessionOf plan)
   pub few : len sessions ≤ SESSION_LIMIT
 
+-- orders that are there stay
+abbrev pub KeepsLookUps : Option LookUps → Option LookUps → Type 0
+KeepsLookUps old new = (there : LookUps) → old ≡ Some there → new ≡ Some there
+
 pub record IsDesk (desk : Kept) : Type 0 where
   pub valid : IsValid desk.plan
+  pub look_ups : IfSome desk.look_ups (AreAllLookUpsOf desk.plan)
   pub sessions : AreSessionsOf desk.plan desk.sessions
 
 -- what an edit of a session did: what is chosen is what the edit makes of it, or it is refused and nothing changes

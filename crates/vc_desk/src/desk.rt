@@ -1,10 +1,11 @@
 //! The desk of a plan.
 
-ghost use Rattle.std.specs.Prelude.{◌≡◌, IsSome};
+ghost use Rattle.std.specs.Prelude.{◌≡◌, IfSome, IsSome};
 ghost use Rattle.vc_plan.specs.Valid.{IsValid};
+ghost use Rattle.vc_session_evaluation.specs.Sharing.{AreAllLookUpsOf};
 ghost use Rattle.vc_desk.specs.Answers.{Apply};
 ghost use Rattle.vc_desk.specs.Costing.{AnswerSpends};
-ghost use Rattle.vc_desk.specs.Desks.{AreSessionsOf, state_of};
+ghost use Rattle.vc_desk.specs.Desks.{AreSessionsOf, KeepsLookUps, state_of};
 
 use crate::edits::Edit;
 use crate::reasons::Question;
@@ -16,14 +17,17 @@ use std::marker::Model;
 use std::sync::ledger::Ledger;
 use vc_outside::Keeper;
 use vc_plan::Plan;
+use vc_session_evaluation::SharedLookUps;
 use vc_value_steps::Steps;
 use vc_wire_replies::Reply;
 use vc_wire_requests::Request;
 
-/// A plan with the sessions that are open. What is saved is with a keeper.
+/// A plan with the sessions that are open, and the orders by which they look rows up, made when the first is opened.
+/// What is saved is with a keeper.
 #[derive(Drop)]
 pub struct Desk {
     plan: Plan,
+    look_ups: Option<SharedLookUps>,
     sessions: Sessions,
 }
 
@@ -39,13 +43,14 @@ impl Model for Desk {
     // Conditions and terms hold themselves, so their codes are told.
     ghost coded = { Prim.hlevel (codes, code, condition.the_row.coded, term.the_row.coded) };
 
-    ghost view = { λ d. record { plan = d.plan; sessions = d.sessions } };
+    ghost view = { λ d. record { plan = d.plan; look_ups = d.look_ups; sessions = d.sessions } };
 }
 
 // What is answered to a request about the open sessions of a plan, and about those that are saved.
 fn answer_with<K: Keeper, L: Ledger>(
     alloc: Global,
     plan: &Plan,
+    look_ups: &mut Option<SharedLookUps>,
     sessions: &mut Sessions,
     keeper: &mut K,
     request: &Request,
@@ -53,15 +58,18 @@ fn answer_with<K: Keeper, L: Ledger>(
 ) -> Reply
     requires valid { IsValid plan.now }
     requires of { AreSessionsOf plan.now sessions.old }
+    requires orders { IfSome look_ups.old (AreAllLookUpsOf plan.now) }
     requires begun { IsSome (K.begun keeper.old) }
     ensures applies { Apply plan.now (state_of sessions.old (K.texts keeper.old) (K.faults keeper.old)) request.now
         result (state_of sessions.new (K.texts keeper.new) (K.faults keeper.new)) }
     ensures of { AreSessionsOf plan.now sessions.new }
+    ensures orders { IfSome look_ups.new (AreAllLookUpsOf plan.now) }
+    ensures keeps { KeepsLookUps look_ups.old look_ups.new }
     ensures spends { AnswerSpends plan.now sessions.old request.now result sessions.new steps.old steps.new }
     ensures begun { K.begun keeper.new ≡ K.begun keeper.old }
 {
     match request {
-        Request::Start { session } => sessions.open(alloc, plan, session),
+        Request::Start { session } => sessions.open(alloc, plan, look_ups, session),
         Request::Close { session } => sessions.close(plan, session),
         Request::Set {
             session,
@@ -168,7 +176,7 @@ impl Desk {
     ghost use Rattle.vc_plan.specs.Valid.{IsValid};
     ghost use Rattle.vc_desk.specs.Answers.{Apply};
     ghost use Rattle.vc_desk.specs.Costing.{AnswerSpends};
-    ghost use Rattle.vc_desk.specs.Desks.{IsDesk, open_of, state_of};
+    ghost use Rattle.vc_desk.specs.Desks.{IsDesk, KeepsLookUps, open_of, state_of};
 
     /// A desk of the plan at which no session is open.
     pub fn new(alloc: Global, plan: Plan) -> Desk
@@ -179,6 +187,7 @@ impl Desk {
     {
         Desk {
             plan,
+            look_ups: None,
             sessions: Sessions::new(alloc),
         }
     }
@@ -191,8 +200,9 @@ impl Desk {
     }
 
     /// Answers a request. Close, Set, Add, Retract and Drop take no memory, and Save, Load and Forget alone call the
-    /// keeper, once. Rules are evaluated by an edit or a Load that is done alone, within the works of its session's
-    /// nets, and all other sessions stay as they are.
+    /// keeper, once. Orders of the plan's tables are made once, when a session is opened. Rules are evaluated by an
+    /// edit or a Load that is done alone, within the works of its session's nets, and all other sessions stay as they
+    /// are.
     pub fn answer<K: Keeper, L: Ledger>(
         &mut self,
         alloc: Global,
@@ -207,6 +217,7 @@ impl Desk {
             (state_of self.new.sessions (K.texts keeper.new) (K.faults keeper.new)) }
         ensures is { IsDesk self.new }
         ensures plan { self.new.plan ≡ self.old.plan }
+        ensures keeps { KeepsLookUps self.old.look_ups self.new.look_ups }
         ensures spends { AnswerSpends self.old.plan self.old.sessions request.now result self.new.sessions
             steps.old steps.new }
         ensures begun { K.begun keeper.new ≡ K.begun keeper.old }
@@ -214,6 +225,7 @@ impl Desk {
         answer_with(
             alloc,
             &self.plan,
+            &mut self.look_ups,
             &mut self.sessions,
             keeper,
             request,

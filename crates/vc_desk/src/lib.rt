@@ -6,6 +6,7 @@ pub mod edits;
 pub mod reasons;
 pub mod saved;
 pub mod sessions;
+pub mod sharing;
 pub mod telling;
 pub mod words;
 

@@ -13,6 +13,7 @@ ghost use Rattle.vc_desk.specs.Telling.{text_told, told_as};
 
 use crate::edits::{Edit, apply};
 use crate::reasons::{Question, answer};
+use crate::sharing::shared;
 use crate::telling::{Told, tell};
 use std::alloc::{AllocError, Global};
 use std::collections::BTreeMap;
@@ -21,6 +22,7 @@ use std::sync::ledger::Ledger;
 use vc_desk_shown::status;
 use vc_plan::{Plan, Status};
 use vc_session::Session;
+use vc_session_evaluation::SharedLookUps;
 use vc_value::Word;
 use vc_value_steps::Steps;
 use vc_wire_replies::{Refusal, Reply};
@@ -77,13 +79,14 @@ fn reply_to_edit(plan: &Plan, session: &Session, edited: Result<(), Refusal>) ->
 }
 
 impl Sessions {
-    ghost use Rattle.std.specs.Prelude.{◌≡◌, ◌≤◌, ◌<◌, nat_lt, not, IfOk, OnErr, IfSome};
+    ghost use Rattle.std.specs.Prelude.{◌≡◌, ◌≤◌, ◌<◌, nat_lt, not, IfOk, IsSome, OnErr, IfSome};
     ghost use Rattle.std.specs.FinMap.{empty, get, len, remove};
     ghost use Rattle.std.specs.Option.{option_copied};
     ghost use Rattle.vc_plan.specs.Valid.{IsValid};
+    ghost use Rattle.vc_session_evaluation.specs.Sharing.{AreAllLookUpsOf};
     ghost use Rattle.vc_desk.specs.Costing.{OpensOne, SpendsOnEdit};
     ghost use Rattle.vc_desk.specs.Answers.{Closes, EditsSession, Starts, TellsSession};
-    ghost use Rattle.vc_desk.specs.Desks.{AreSessionsOf, Opens, open_of};
+    ghost use Rattle.vc_desk.specs.Desks.{AreSessionsOf, KeepsLookUps, Opens, open_of};
     ghost use Rattle.vc_desk.specs.Edits.{MayEdit, after_edit};
     ghost use Rattle.vc_desk.specs.Reasons.{AsksSession, asked_by};
     ghost use Rattle.vc_desk.specs.States.{chosen_in};
@@ -110,26 +113,47 @@ impl Sessions {
         self.by_name.get(name.bytes())
     }
 
-    // A session of this name with nothing chosen, and how it stands. Without memory there is none.
-    fn begin(&mut self, alloc: Global, plan: &Plan, name: &Word) -> Result<Status, AllocError>
-        requires { IsValid plan.now }
+    // A session of this name with nothing chosen, and how it stands. Without memory there is none. It shares the orders
+    // that are there, or new ones, which are there for the next.
+    fn begin(
+        &mut self,
+        alloc: Global,
+        plan: &Plan,
+        look_ups: &mut Option<SharedLookUps>,
+        name: &Word,
+    ) -> Result<Status, AllocError>
+        requires valid { IsValid plan.now }
+        requires orders { IfSome look_ups.old (AreAllLookUpsOf plan.now) }
         ensures opened { IfOk result (Opens plan.now self.old name.now self.new) }
         ensures as_before { OnErr result (self.new ≡ self.old) }
+        ensures orders { IfSome look_ups.new (AreAllLookUpsOf plan.now) }
+        ensures shared { IfOk result (λ status. IsSome look_ups.new) }
+        ensures keeps { KeepsLookUps look_ups.old look_ups.new }
     {
         let key = Vec::from_slice(alloc, name.bytes())?;
-        let session = Session::start(alloc, plan)?;
+        let orders = shared(alloc, plan, look_ups)?;
+        let session = Session::start_with(alloc, plan, orders)?;
         let status = status(plan, &session);
         self.by_name.insert(key, session)?;
         Ok(status)
     }
 
-    /// Opens a session of this name.
-    pub fn open(&mut self, alloc: Global, plan: &Plan, name: &Word) -> Reply
+    /// Opens a session of this name, which shares the orders that are there, or new ones.
+    pub fn open(
+        &mut self,
+        alloc: Global,
+        plan: &Plan,
+        look_ups: &mut Option<SharedLookUps>,
+        name: &Word,
+    ) -> Reply
         requires valid { IsValid plan.now }
         requires of { AreSessionsOf plan.now self.old }
+        requires orders { IfSome look_ups.old (AreAllLookUpsOf plan.now) }
         ensures starts { Starts plan.now (open_of self.old) name.now result (open_of self.new) }
         ensures opens { OpensOne plan.now name.now self.old self.new }
         ensures of { AreSessionsOf plan.now self.new }
+        ensures orders { IfSome look_ups.new (AreAllLookUpsOf plan.now) }
+        ensures keeps { KeepsLookUps look_ups.old look_ups.new }
     {
         if self.find(name).is_some() {
             return refused(Refusal::NameTaken);
@@ -137,7 +161,7 @@ impl Sessions {
         if self.count() >= SESSION_LIMIT {
             return refused(Refusal::TooManySessions);
         }
-        match self.begin(alloc, plan, name) {
+        match self.begin(alloc, plan, look_ups, name) {
             Ok(status) => Reply::Done { status },
             Err(_) => refused(Refusal::OutOfMemory),
         }

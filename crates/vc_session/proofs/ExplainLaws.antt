@@ -1,6 +1,6 @@
 -- What a session tells explains what stands, or what contradicts.
 use Rattle.std.proofs.Common.{◌≡◌, ℕ, not, ◌&&◌, List, length, refl, sym, ◌∙◌, ap, subst}
-use Rattle.std.specs.Prelude.{Option, None, Some, Result, IfOk, option_map, pred, slice_get}
+use Rattle.std.specs.Prelude.{Option, None, Some, Result, IfOk, option_map, slice_get}
 use Rattle.std.proofs.lemmas.Result.{IfOk-weaker}
 use Rattle.vc_base.specs.Rounds.{settled}
 use Rattle.vc_base.specs.Sets.{has}
@@ -13,7 +13,6 @@ use Rattle.vc_plan.specs.Evaluate.{Users, last_set, sources_of}
 use Rattle.vc_plan.specs.Seen.{same_atom}
 use Rattle.vc_plan.specs.Sources.{Sources}
 use Rattle.vc_plan.specs.Valid.{IsValid}
-use Rattle.vc_plan.specs.Writes.{last_stage}
 use Rattle.vc_plan_reasons.specs.Trimming.{trimmed_clash}
 use Rattle.vc_net_chains.specs.Explaining.{ExplainsAll, ExplainsAtom, ExplainsBreak, IsClash, IsClashAfter, IsLog}
 use Rattle.vc_net_chains.specs.Explaining.{IsLogAfter, IsWhy, IsWhyAfter}
@@ -44,10 +43,7 @@ explains_alike plan sources set other atom (Some steps) same e =
 module _ (plan : Plan) (users : Users) (stages : Stages) (valid : IsValid plan) (of : AreStagesOf plan stages)
     (ended : HasEnded plan users stages) where
   its_net : settled_by stages.nets.items None ≡ Some ended.net
-  its_net =
-      let many = of.many in
-      let at : pred (length stages.nets.items) ≡ last_stage plan = ap pred many in
-      ap (slice_get stages.nets.items) at ∙ ended.its
+  its_net = ended.its
 
   sources : Sources
   sources = sources_of users stages.overlay

@@ -3,6 +3,7 @@
 ghost use Rattle.std.specs.Prelude.{◌≡◌, ◌<◌, IfOk};
 ghost use Rattle.vc_plan.specs.Valid.{IsValid};
 ghost use Rattle.vc_plan_users.specs.Choosing.{none_chosen};
+ghost use Rattle.vc_proc_look_ups.specs.LookUps.{AreLookUpsOf};
 ghost use Rattle.vc_session.specs.Costing.{HasStarted};
 ghost use Rattle.vc_session.specs.Sessions.{IsSessionOf};
 
@@ -17,7 +18,7 @@ use vc_net::Net;
 use vc_plan::{Atom, Clash, Named, Outcome, Plan, Reading, Step, View};
 use vc_plan_users::UserValues;
 use vc_proc::Overlay;
-use vc_session_evaluation::Stages;
+use vc_session_evaluation::{SharedLookUps, Stages};
 use vc_show::asking::marked_vars;
 use vc_show::naming::slot_of_named;
 use vc_value::{Listed, Value};
@@ -57,6 +58,7 @@ impl Session {
     ghost use Rattle.std.specs.Prelude.{◌≡◌, ◌<◌, false, length, slice_index_or, IfOk, None};
     ghost use Rattle.vc_plan.specs.Valid.{IsValid};
     ghost use Rattle.vc_plan_users.specs.Choosing.{none_chosen, users_of};
+    ghost use Rattle.vc_proc_look_ups.specs.LookUps.{AreLookUpsOf};
     ghost use Rattle.vc_session_evaluation.specs.Costing.{EvaluationCosts};
     ghost use Rattle.vc_session.specs.Costing.{EditCosts, HasStarted};
     ghost use Rattle.vc_session.specs.Edits as edits;
@@ -69,7 +71,23 @@ impl Session {
         ensures none { IfOk result (λ session. session.users ≡ none_chosen plan.now) }
         ensures behind { IfOk result (λ session. HasStarted plan.now session) }
     {
-        begun::<Brand>(alloc, plan, Blank::new(1))
+        let look_ups = SharedLookUps::new(alloc, plan)?;
+        Session::start_with(alloc, plan, look_ups)
+    }
+
+    /// The same with orders of the plan's tables that other sessions of it may share.
+    pub fn start_with(
+        alloc: Global,
+        plan: &Plan,
+        look_ups: SharedLookUps,
+    ) -> Result<Session, AllocError>
+        requires valid { IsValid plan.now }
+        requires look_ups { AreLookUpsOf plan.now look_ups }
+        ensures of { IfOk result (λ session. IsSessionOf plan.now session) }
+        ensures none { IfOk result (λ session. session.users ≡ none_chosen plan.now) }
+        ensures behind { IfOk result (λ session. HasStarted plan.now session) }
+    {
+        begun::<Brand>(alloc, plan, look_ups, Blank::new(1))
     }
 
     /// Gives it the value, a set this alone.
@@ -363,8 +381,14 @@ impl Reading for Session {
 }
 
 // A session with nothing chosen, evaluated on a counter of its own.
-fn begun<L: Ledger>(alloc: Global, plan: &Plan, blank: Blank) -> Result<Session, AllocError>
+fn begun<L: Ledger>(
+    alloc: Global,
+    plan: &Plan,
+    look_ups: SharedLookUps,
+    blank: Blank,
+) -> Result<Session, AllocError>
     requires valid { IsValid plan.now }
+    requires look_ups { AreLookUpsOf plan.now look_ups }
     requires name { blank.name ≡ L.name }
     requires parts { blank.parts ≡ L.parts }
     requires some { 0 < blank.parts }
@@ -373,7 +397,7 @@ fn begun<L: Ledger>(alloc: Global, plan: &Plan, blank: Blank) -> Result<Session,
     ensures behind { IfOk result (λ session. HasStarted plan.now session) }
 {
     let users = UserValues::new(alloc, plan)?;
-    let mut stages = Stages::new(alloc, plan)?;
+    let mut stages = Stages::new(alloc, plan, look_ups)?;
     let marked = marked_vars(alloc, plan)?;
     let mut steps: Steps<L> = Steps::new(blank);
     stages.evaluate(plan, &users, &mut steps);

@@ -12,7 +12,7 @@ use Rattle.vc_session_evaluation.specs.declared.stages.Stages.{Stages}
 use Rattle.vc_session_evaluation.proofs.GoingLaws.{IsAt, count}
 
 -- one net more goes on
-net_next : (plan : Plan) (users : Users) (k s : ℕ) (olds nets : List Netted) (was net : Netted)
+pub net_next : (plan : Plan) (users : Users) (k s : ℕ) (olds nets : List Netted) (was net : Netted)
     (before between after : ℕ) → GoOn plan users k s olds nets before between → slice_get nets s ≡ Some was
     → AreOfStage plan users (k + s) net.sources → HasSynced plan net.sources was net between after
     → GoOn plan users k (suc s) olds (slice_set nets s net) before after
@@ -45,7 +45,8 @@ pub stage_next : (plan : Plan) (users : Users) (k : ℕ) (olds : List Netted) (o
     → GoOn plan users 0 (suc k) olds new.nets.items before after
 stage_next plan users k olds old new before between after below at so_far s =
     let comes : ComesTo plan users k at.settled.sets old.overlay
-    = subst (λ n. ComesTo plan users n at.settled.sets old.overlay) (count plan old k at.of below) at.settled.comes in
+    = subst (λ n. ComesTo plan users n at.settled.sets old.overlay)
+    (count plan users old k at below) at.settled.comes in
     let number : k ≡ 0 + k = omega arith in
     subst (λ nets. GoOn plan users 0 (suc k) olds nets before after) (sym s.nets)
     (net_next plan users 0 k olds old.nets.items s.was s.net before between after so_far s.there

@@ -2,8 +2,8 @@
 use Rattle.std.proofs.Common.{◌≡◌, ℕ, zero, suc, ◌+◌, ◌-◌, ◌<◌, ◌≤◌, Bool, true, false, not, ◌&&◌, List, [], ◌∷◌, ◌++◌}
 use Rattle.std.proofs.Common.{length, map, take, replicate, refl, sym, ap, ◌∙◌, subst, arith}
 use Rattle.std.specs.Prelude.{Option, None, Some, ◌==◌, if◌then◌else◌, nat_eq, option_map, slice_get, slice_index_or}
-use Rattle.std.specs.Prelude.{slice_set}
-use Rattle.std.specs.List.{AllByRecursion}
+use Rattle.std.specs.Prelude.{slice_set, pred}
+use Rattle.std.specs.List.{AllByRecursion, flat_map}
 use Rattle.std.proofs.lemmas.Bool.{eq-eqb, eqb-true, eqb-false}
 use Rattle.std.proofs.lemmas.List.FromFn.{length-map-range_with_len}
 use Rattle.std.proofs.lemmas.List.{length-map, length-replicate, length-set, length-take, map-append, take_all}
@@ -47,7 +47,7 @@ use Rattle.vc_session_stages.specs.Stages.{HaveAllSettled, HaveSettled, is_late_
 use Rattle.vc_session_stages.proofs.StageLaws.{sets_say_the_same, stages_begin, stages_break, stages_go_on}
 use Rattle.vc_session_stages.proofs.StageLaws.{stages_settle, was_is}
 use Rattle.vc_session_evaluation.specs.Evaluating.{AreStagesOf, HasBroken, HasEnded, HasSettled, IsCalm}
-use Rattle.vc_session_evaluation.specs.Evaluating.{IsRefuted, said_by}
+use Rattle.vc_session_evaluation.specs.Evaluating.{IsRefuted, said_by, stages_said, writes_nothing}
 use Rattle.vc_session_evaluation.specs.Writing.{IsBlankBeside}
 use Rattle.vc_session_evaluation.specs.Going.{FlagsLateOnes, LiesAt, SettlesAt, WritesAfter, flags_before, with_late}
 use Rattle.vc_session_evaluation.specs.declared.stages.Stages.{Stages}
@@ -62,9 +62,22 @@ clash_of_culprit net culprit =
 -- before a stage of this number: those before it have settled, and what is written fits
 pub record IsAt (plan : Plan) (users : Users) (stages : Stages) (k : ℕ) : Type 0 where
   pub of : AreStagesOf plan stages
+  pub some : writes_nothing plan ≡ false
   pub settled : HaveSettled plan users (map said_by (take k stages.nets.items)) stages.overlay
   pub fits : sources_fit plan (sources_of users stages.overlay) ≡ true
   pub lie : EntriesLie plan stages.overlay
+
+-- where there are procedures, each stage has a net
+pub nets_apart : (plan : Plan) (stages : Stages) → AreStagesOf plan stages → writes_nothing plan ≡ false
+    → length stages.nets.items ≡ suc (last_stage plan)
+nets_apart plan stages of some = of.many ∙ ap (λ b. if b then 1 else suc (last_stage plan)) some
+
+-- and each says what its net says
+pub each_says : (plan : Plan) (nets : List Netted) → writes_nothing plan ≡ false
+    → stages_said plan nets ≡ map said_by nets
+each_says plan nets some =
+    ap (λ b. if b then flat_map
+    (λ net. replicate (suc (last_stage plan)) (said_by net)) nets else map said_by nets) some
 
 -- a valid plan has a slot, and no slot is deeper than the deepest
 pub some_slot : (plan : Plan) → IsValid plan → 0 < length plan.slots
@@ -74,7 +87,7 @@ some_slot plan valid = by plan.slots valid.root
     by [] e = absurd (cc e)
     by (slot ∷ slots) e = omega arith
 
-deepest : (slots : List Slot) (i : ℕ) → depth_in (slice_get slots i) ≤ greatest_depth slots
+pub deepest : (slots : List Slot) (i : ℕ) → depth_in (slice_get slots i) ≤ greatest_depth slots
 deepest [] i = omega arith
 deepest (slot ∷ slots) zero = omega arith
 deepest (slot ∷ slots) (suc i) = omega (arith, deepest slots i)
@@ -174,17 +187,18 @@ settled_at plan users k old new net whole of values its nets sources fits done o
 
 -- an evaluation begins with nothing written
 pub begins : (plan : Plan) (users : Users) (old new : Stages) → IsValid plan → users_fit plan users ≡ true
-    → AreStagesOf plan old
+    → AreStagesOf plan old → writes_nothing plan ≡ false
     → new.nets.items ≡ old.nets.items → new.sources ≡ old.sources → new.written ≡ old.written
     → new.look_ups ≡ old.look_ups → new.late ≡ old.late
     → new.overlay ≡ old.overlay → old.overlay ≡ replicate (length plan.vars) None → IsAt plan users new 0
-begins plan users old new valid fit of nets sources written orders late overlay cleared =
+begins plan users old new valid fit of some nets sources written orders late overlay cleared =
     let nothing : new.overlay ≡ no_entries plan = overlay ∙ cleared ∙ sym (none_are_replicas plan) in
     record {
       of = stages_are plan old new of (subst (AllByRecursion (IsNetOf plan)) (sym nets) of.nets) (ap length nets)
           (ap length overlay)
           (subst (AreFor plan) (sym sources) of.sources) written orders (blank_stays old new sources of.blank)
           (ap length late);
+      some = some;
       settled = subst (HaveSettled plan users []) (sym nothing) (stages_begin plan users);
       fits = ap (λ entries. sources_fit plan (sources_of users entries)) nothing
           ∙ (stages_fit plan users valid.own_writes fit).first;
@@ -192,10 +206,11 @@ begins plan users old new valid fit of nets sources written orders late overlay 
     }
 
 -- as many stages so far
-pub count : (plan : Plan) (stages : Stages) (k : ℕ) → AreStagesOf plan stages → k ≤ last_stage plan
+pub count : (plan : Plan) (users : Users) (stages : Stages) (k : ℕ) → IsAt plan users stages k → k ≤ last_stage plan
     → length (map said_by (take k stages.nets.items)) ≡ k
-count plan stages k of h =
-    length-map (take k stages.nets.items) said_by ∙ length-take k stages.nets.items ∙ omega (arith, of.many)
+count plan users stages k at h =
+    length-map (take k stages.nets.items) said_by ∙ length-take k stages.nets.items
+    ∙ omega (arith, nets_apart plan stages at.of at.some)
 
 -- the stages with the one that settles
 with_next : (plan : Plan) (users : Users) (k : ℕ) (old new : Stages) (net : Netted) (set : List Atom)
@@ -248,7 +263,7 @@ written plan users k old mid new at below there s w =
     sets = at.settled.sets
 
     many : length sets ≡ k
-    many = sym (length-map sets seen_of) ∙ ap length at.settled.seen ∙ count plan old k at.of (omega (arith, below))
+    many = sym (length-map sets seen_of) ∙ ap length at.settled.seen ∙ count plan users old k at (omega (arith, below))
 
     by : (b : Bool) → (suc k == last_stage plan) ≡ b
         → stage_written plan (holds users) (suc k) new.late (seen_of s.settled.0) old.overlay
@@ -274,9 +289,9 @@ pub goes_on : (plan : Plan) (users : Users) (k : ℕ) (old mid new : Stages) →
     → IsAt plan users new (k + 1)
 goes_on plan users k old mid new valid fit below at s w =
     let set = s.settled.0 in
-    let there : k < length old.nets.items = omega (arith, at.of.many, below) in
+    let there : k < length old.nets.items = omega (arith, nets_apart plan old at.of at.some, below) in
     let later : ℕ = last_stage plan - suc k in
-    let long = count plan old k at.of (omega (arith, below)) in
+    let long = count plan users old k at (omega (arith, below)) in
     let is = written plan users k old mid new at below there s w in
     let next : suc k ≡ k + 1 = omega arith in
     let views : map said_by (take (k + 1) new.nets.items) ≡ map said_by (take k old.nets.items) ++ seen_of set ∷ [] =
@@ -287,6 +302,7 @@ goes_on plan users k old mid new valid fit below at s w =
     (omega (arith, long, below)) s.settled.1 in
     record {
       of = w.of;
+      some = at.some;
       settled = subst (λ entries. HaveSettled plan users (map said_by (take (k + 1) new.nets.items)) entries) (sym is)
           (subst (λ views. HaveSettled plan users views (between plan users later at.settled.sets set old.overlay))
           (sym views) so_far);
@@ -300,8 +316,8 @@ pub breaks : (plan : Plan) (users : Users) (k : ℕ) (old mid new : Stages) → 
     → SettlesAt plan users k old mid false → new.nets.items ≡ mid.nets.items → new.overlay ≡ mid.overlay
     → HasBroken plan users new k
 breaks plan users k old mid new below at s nets overlay =
-    let long = count plan old k at.of below in
-    let there : k < length old.nets.items = omega (arith, at.of.many, below) in
+    let long = count plan users old k at below in
+    let there : k < length old.nets.items = omega (arith, nets_apart plan old at.of at.some, below) in
     let same : new.overlay ≡ old.overlay = overlay ∙ s.overlay in
     record {
       breaks =
@@ -318,24 +334,25 @@ pub ends : (plan : Plan) (users : Users) (k : ℕ) (old mid new : Stages) → k 
     → SettlesAt plan users k old mid true → FlagsLateOnes plan mid new → HasEnded plan users new
 ends plan users k old mid new last at s flagged =
     let set = s.settled.0 in
-    let long = count plan old k at.of (omega (arith, last)) in
-    let there : k < length old.nets.items = omega (arith, at.of.many, last) in
+    let long = count plan users old k at (omega (arith, last)) in
+    let there : k < length old.nets.items = omega (arith, nets_apart plan old at.of at.some, last) in
     let same : new.overlay ≡ old.overlay = flagged.overlay ∙ s.overlay in
     let nets = flagged.nets ∙ s.nets in
     let size : length new.nets.items ≡ suc k
-    = ap length nets ∙ length-set old.nets.items k s.net ∙ omega (arith, at.of.many, last) in
-    let views : map said_by new.nets.items ≡ map said_by (take k old.nets.items) ++ seen_of set ∷ [] =
-    ap (map said_by) (sym (take_all (suc k) new.nets.items (omega (arith, size))))
+    = ap length nets ∙ length-set old.nets.items k s.net ∙ omega (arith, nets_apart plan old at.of at.some, last) in
+    let each : stages_said plan new.nets.items ≡ map said_by new.nets.items = each_says plan new.nets.items at.some in
+    let views : stages_said plan new.nets.items ≡ map said_by (take k old.nets.items) ++ seen_of set ∷ [] =
+    each ∙ ap (map said_by) (sym (take_all (suc k) new.nets.items (omega (arith, size))))
     ∙ with_next plan users k old new s.net set there nets s.settled.2 in
     record {
-      settled = subst (HaveAllSettled plan users (map said_by new.nets.items)) (sym same)
+      settled = subst (HaveAllSettled plan users (stages_said plan new.nets.items)) (sym same)
           (subst (λ all. HaveAllSettled plan users all old.overlay) (sym views)
           (stages_settle plan users (map said_by (take k old.nets.items)) old.overlay set at.settled (long ∙ last)
           s.settled.1));
       late = flagged.late ∙ ap (λ all. map (is_late_seen plan (map said_by all)) (numbers_below (length plan.slots)))
-          (sym flagged.nets);
+          (sym flagged.nets) ∙ ap (λ said. map (is_late_seen plan said) (numbers_below (length plan.slots))) (sym each);
       net = s.net;
-      its = ap (λ n. slice_get new.nets.items n) (sym last) ∙ ap (λ all. slice_get all k) nets
+      its = ap (λ n. slice_get new.nets.items (pred n)) size ∙ ap (λ all. slice_get all k) nets
           ∙ set_there old.nets.items k s.net there;
       calm = subst (λ entries. IsCalm plan (sources_of users entries) s.net) (sym same) s.settled.3;
     }

@@ -3,6 +3,7 @@ pub mod FillLemmas
 pub mod FollowLaws
 pub mod GoingLaws
 pub mod ListLemmas
+pub mod OnceLaws
 pub mod RowLimits
 pub mod CostLaws
 pub mod StartLaws

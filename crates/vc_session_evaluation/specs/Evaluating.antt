@@ -1,6 +1,7 @@
 -- What an evaluation works on, and how it ends.
-use Rattle.std.specs.Prelude.{◌≡◌, ℕ, suc, Bool, true, false, List, length, map, slice_get, Option, None, Some}
-use Rattle.std.specs.List.{AllByRecursion}
+use Rattle.std.specs.Prelude.{◌≡◌, ◌==◌, ℕ, suc, pred, Bool, true, false, if◌then◌else◌, List, length, map, replicate}
+use Rattle.std.specs.Prelude.{slice_get, Option, None, Some}
+use Rattle.std.specs.List.{AllByRecursion, flat_map}
 use Rattle.vc_base.specs.Rounds.{broken, settled}
 use Rattle.vc_plan.specs.declared.atoms.Atom.{Atom}
 use Rattle.vc_plan.specs.declared.atoms.Clash.{Clash}
@@ -43,11 +44,25 @@ HasSettled plan sources net true = (set : List Atom) × (settlement_of plan sour
     × (said_by net ≡ seen_of set) × IsCalm plan sources net
 HasSettled plan sources net false = (settlement_of plan sources ≡ broken) × IsRefuted plan sources net
 
--- a net for each stage of the plan, and room for what is written and for who is late; all that statements write is
+-- whether nothing is ever written between stages: the plan has no procedures. Then all have the same sources
+abbrev pub writes_nothing : Plan → Bool
+writes_nothing plan = length plan.procedures == 0
+
+-- how many nets a plan's stages have: one for each, or one for all where they can't differ
+abbrev pub net_count : Plan → ℕ
+net_count plan = if writes_nothing plan then 1 else suc (last_stage plan)
+
+-- what the stages say: each what its net says
+abbrev pub stages_said : Plan → List Netted → List Seen
+stages_said plan nets =
+    if writes_nothing plan then flat_map (λ net. replicate (suc (last_stage plan)) (said_by net)) nets
+    else map said_by nets
+
+-- the nets of the plan's stages, and room for what is written and for who is late; all that statements write is
 -- known, and the sources have nothing written elsewhere; orders of the plan's tables, by which statements look up
 pub record AreStagesOf (plan : Plan) (stages : Stages) : Type 0 where
   pub nets : AllByRecursion (IsNetOf plan) stages.nets.items
-  pub many : length stages.nets.items ≡ suc (last_stage plan)
+  pub many : length stages.nets.items ≡ net_count plan
   pub overlay : length stages.overlay ≡ length plan.vars
   pub sources : AreFor plan stages.sources
   pub late : length stages.late ≡ length plan.slots
@@ -58,10 +73,11 @@ pub record AreStagesOf (plan : Plan) (stages : Stages) : Type 0 where
 -- how an evaluation of the user's values ended: all stages settled at what the nets say, the last with all that was
 -- written, and who is late is flagged; or one is broken, and what contradicts in its net refutes its sources
 pub record HasEnded (plan : Plan) (users : Users) (stages : Stages) : Type 0 where
-  pub settled : HaveAllSettled plan users (map said_by stages.nets.items) stages.overlay
-  pub late : stages.late ≡ map (is_late_seen plan (map said_by stages.nets.items)) (numbers_below (length plan.slots))
+  pub settled : HaveAllSettled plan users (stages_said plan stages.nets.items) stages.overlay
+  pub late : stages.late
+      ≡ map (is_late_seen plan (stages_said plan stages.nets.items)) (numbers_below (length plan.slots))
   pub net : Netted
-  pub its : slice_get stages.nets.items (last_stage plan) ≡ Some net
+  pub its : slice_get stages.nets.items (pred (length stages.nets.items)) ≡ Some net
   pub calm : IsCalm plan (sources_of users stages.overlay) net
 
 pub record HasBroken (plan : Plan) (users : Users) (stages : Stages) (k : ℕ) : Type 0 where

@@ -1,6 +1,6 @@
 //! Which instances came too late for their own procedures.
 
-ghost use Rattle.std.specs.Prelude.{◌≡◌, ◌^◌, ◌<◌, ◌&&◌, not, length, map};
+ghost use Rattle.std.specs.Prelude.{◌≡◌, ◌^◌, ◌<◌, ◌&&◌, false, not, length, map, replicate};
 ghost use Rattle.vc_plan.specs.Domains.{numbers_below};
 ghost use Rattle.vc_plan.specs.Writes.{depth_of};
 ghost use Rattle.vc_session_stages.specs.Stages.{is_late_seen, was_seen};
@@ -31,6 +31,15 @@ pub fn flag_late(plan: &Plan, nets: &[Net], last: &Net, late: &mut Listed<bool>)
 {
     for slot in 0..plan.slots.len() {
         late.set(slot, is_late(plan, nets, last, slot as u32));
+    }
+}
+
+/// Flags no slot.
+pub fn flag_none(late: &mut Listed<bool>)
+    ensures { late.new ≡ replicate (length late.old) false }
+{
+    for slot in 0..late.len() {
+        late.set(slot, false);
     }
 }
 

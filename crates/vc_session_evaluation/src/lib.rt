@@ -6,7 +6,9 @@ pub mod filling;
 pub mod lateness;
 pub mod laws;
 pub mod settling;
+pub mod sharing;
 pub mod stages;
 pub mod writing;
 
+pub use sharing::SharedLookUps;
 pub use stages::Stages;

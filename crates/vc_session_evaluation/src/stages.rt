@@ -1,16 +1,17 @@
 //! What an evaluation works on, and how it goes from stage to stage.
 
-ghost use Rattle.std.specs.Prelude.{◌≡◌, suc, false, length, replicate, IfOk};
+ghost use Rattle.std.specs.Prelude.{◌≡◌, false, length, replicate, IfOk};
 ghost use Rattle.std.specs.List.{AllByRecursion};
 ghost use Rattle.vc_plan.specs.Valid.{IsValid};
-ghost use Rattle.vc_plan.specs.Writes.{last_stage};
 ghost use Rattle.vc_net.specs.Nets.{IsNetOf};
 ghost use Rattle.vc_session_evaluation.specs.Costing.{HasAllBehind};
+ghost use Rattle.vc_session_evaluation.specs.Evaluating.{net_count, writes_nothing};
 
 use crate::clearing::clear_at;
 use crate::filling::{fill_entries_at, fill_users, fill_users_at};
-use crate::lateness::{flag_late, flag_missing};
+use crate::lateness::{flag_late, flag_missing, flag_none};
 use crate::settling::settle;
+use crate::sharing::SharedLookUps;
 use crate::writing::all_written;
 use std::alloc::{AllocError, Global};
 use std::sync::ledger::Ledger;
@@ -19,26 +20,26 @@ use vc_plan::{Plan, stages};
 use vc_plan_sources::Sources;
 use vc_plan_users::UserValues;
 use vc_proc::{Overlay, run_stage};
-use vc_proc_look_ups::LookUps;
 use vc_value::Listed;
 use vc_value_steps::Steps;
 
-/// For each stage of a plan a net; what procedures wrote; the sources of the last stage that was settled; which
-/// variables statements write; the orders by which they look rows up; which instances are late; and the first stage
-/// that is broken, if one is. All memory is taken at `new`.
+/// For each stage of a plan a net, or one for all where nothing is written between them; what procedures wrote; the
+/// sources of the last stage that was settled; which variables statements write; the orders by which they look rows up,
+/// which others of the plan may share; which instances are late; and the first stage that is broken, if one is. All
+/// memory is taken at `new`.
 #[derive(Drop)]
 pub struct Stages {
     pub nets: Vec<Net>,
     pub overlay: Overlay,
     pub sources: Sources,
     pub written: Listed<u32>,
-    pub look_ups: LookUps,
+    pub look_ups: SharedLookUps,
     pub late: Listed<bool>,
     pub broken: Option<u32>,
 }
 
 impl Stages {
-    ghost use Rattle.std.specs.Prelude.{◌≡◌, ◌+◌, ◌<◌, true, None, length, replicate, IfOk};
+    ghost use Rattle.std.specs.Prelude.{◌≡◌, ◌+◌, ◌<◌, true, false, None, length, replicate, IfOk};
     ghost use Rattle.vc_plan.specs.Evaluate.{holds, sources_of};
     ghost use Rattle.vc_plan.specs.Fitting.{users_fit};
     ghost use Rattle.vc_plan.specs.Valid.{IsValid};
@@ -46,26 +47,27 @@ impl Stages {
     ghost use Rattle.vc_plan_reasons.specs.Fitting.{sources_fit};
     ghost use Rattle.vc_plan_users.specs.Choosing.{users_of};
     ghost use Rattle.vc_proc.specs.Overlays.{EntriesLie};
+    ghost use Rattle.vc_proc_look_ups.specs.LookUps.{AreLookUpsOf};
     ghost use Rattle.std.specs.List.{AllByRecursion};
     ghost use Rattle.vc_session_evaluation.specs.Costing.{EvaluationCosts, HasAllBehind, SyncsAt, nets_asked};
-    ghost use Rattle.vc_session_evaluation.specs.Evaluating.{AreStagesOf, IsEvaluated};
+    ghost use Rattle.vc_session_evaluation.specs.Evaluating.{AreStagesOf, IsEvaluated, writes_nothing};
     ghost use Rattle.vc_session_evaluation.specs.Following.{DifferAt, FollowBeside, FollowsBeside, HaveTaken};
     ghost use Rattle.vc_session_evaluation.specs.Going.{FlagsLateOnes, LiesAt, SettlesAt, WritesAfter};
     ghost use Rattle.vc_session_evaluation.specs.Going.{flags_before, with_late};
     ghost use Rattle.vc_session_evaluation.specs.Writing.{IsBlankBeside};
 
-    /// Nets that haven't settled, each with all things behind, and nothing written.
-    #[tactic(auto, using(crate::proofs::RowLimits::rows_fit))]
-    pub fn new(alloc: Global, plan: &Plan) -> Result<Stages, AllocError>
+    /// Nets that haven't settled, each with all things behind, and nothing written; with these orders.
+    pub fn new(alloc: Global, plan: &Plan, look_ups: SharedLookUps) -> Result<Stages, AllocError>
         requires valid { IsValid plan.now }
+        requires look_ups { AreLookUpsOf plan.now look_ups }
         ensures of { IfOk result (λ stages. AreStagesOf plan.now stages) }
         ensures behind { IfOk result (λ stages. AllByRecursion (HasAllBehind plan.now) stages.nets.items) }
+        ensures shared { IfOk result (λ stages. stages.look_ups ≡ look_ups) }
     {
         let nets = new_nets(alloc, plan)?;
         let overlay = Overlay::new(alloc, plan)?;
         let sources = Sources::new(alloc, plan)?;
         let written = all_written(alloc, plan)?;
-        let look_ups = LookUps::new(alloc, plan)?;
         let late = no_flags(alloc, plan)?;
         Ok(Stages {
             nets,
@@ -154,6 +156,68 @@ impl Stages {
         ensures blank { IsBlankBeside self.new.written self.new.overlay }
     {
         self.broken = None;
+        if writes_nothing(plan) {
+            self.go_once(plan, users, following, touched, steps);
+        } else {
+            self.go_on(plan, users, following, touched, steps);
+        }
+    }
+
+    // The same where nothing is written between stages: the one net settles for all of them, and nobody is late.
+    fn go_once<L: Ledger>(
+        &mut self,
+        plan: &Plan,
+        users: &UserValues,
+        following: usize,
+        touched: &[u32],
+        steps: &mut Steps<L>,
+    )
+        requires valid { IsValid plan.now }
+        requires of { AreStagesOf plan.now self.old }
+        requires users { length users.now.values ≡ length plan.now.vars }
+        requires fit { users_fit plan.now (users_of users.now) ≡ true }
+        requires cleared { self.old.overlay ≡ replicate (length plan.now.vars) None }
+        requires none { writes_nothing plan.now ≡ true }
+        requires calm { self.old.broken ≡ None }
+        requires taken { self.old.sources.user ≡ users.now.values }
+        requires follow { FollowBeside touched.now users.now.values following self.old.nets.items }
+        ensures of { AreStagesOf plan.now self.new }
+        ensures evaluated { IsEvaluated plan.now (users_of users.now) self.new }
+        ensures cost { EvaluationCosts plan.now (users_of users.now) self.old.nets.items self.new steps.old steps.new }
+        ensures taken { self.new.sources.user ≡ users.now.values }
+        ensures blank { IsBlankBeside self.new.written self.new.overlay }
+    {
+        if self.settle(plan, users, 0, following, touched, steps) {
+            flag_none(&mut self.late);
+        } else {
+            self.broken = Some(0);
+        }
+    }
+
+    // The same where there are procedures: each stage has a net of its own.
+    fn go_on<L: Ledger>(
+        &mut self,
+        plan: &Plan,
+        users: &UserValues,
+        following: usize,
+        touched: &[u32],
+        steps: &mut Steps<L>,
+    )
+        requires valid { IsValid plan.now }
+        requires of { AreStagesOf plan.now self.old }
+        requires users { length users.now.values ≡ length plan.now.vars }
+        requires fit { users_fit plan.now (users_of users.now) ≡ true }
+        requires cleared { self.old.overlay ≡ replicate (length plan.now.vars) None }
+        requires some { writes_nothing plan.now ≡ false }
+        requires calm { self.old.broken ≡ None }
+        requires taken { self.old.sources.user ≡ users.now.values }
+        requires follow { FollowBeside touched.now users.now.values following self.old.nets.items }
+        ensures of { AreStagesOf plan.now self.new }
+        ensures evaluated { IsEvaluated plan.now (users_of users.now) self.new }
+        ensures cost { EvaluationCosts plan.now (users_of users.now) self.old.nets.items self.new steps.old steps.new }
+        ensures taken { self.new.sources.user ≡ users.now.values }
+        ensures blank { IsBlankBeside self.new.written self.new.overlay }
+    {
         let last = stages(plan) - 1;
         for stage in 0..last {
             if !self.settle(plan, users, stage, following, touched, steps) {
@@ -208,6 +272,7 @@ impl Stages {
         requires of { AreStagesOf plan.now self.old }
         requires last { last ≡ last_stage plan.now }
         requires there { stage < last }
+        requires some { writes_nothing plan.now ≡ false }
         requires lies { LiesAt plan.now self.old.nets.items stage }
         requires entries { EntriesLie plan.now self.old.overlay }
         ensures { WritesAfter plan.now (users_of users.now) stage self.old self.new }
@@ -215,7 +280,7 @@ impl Stages {
         self.flag_before(plan, stage, last);
         run_stage(
             plan,
-            &self.look_ups,
+            self.look_ups.orders(),
             stage + 1,
             &self.nets[stage as usize],
             self.late.as_slice(),
@@ -241,6 +306,7 @@ impl Stages {
     fn mark_late(&mut self, plan: &Plan, last: u32)
         requires valid { IsValid plan.now }
         requires of { AreStagesOf plan.now self.old }
+        requires some { writes_nothing plan.now ≡ false }
         requires last { last ≡ last_stage plan.now }
         ensures { FlagsLateOnes plan.now self.old self.new }
     {
@@ -253,15 +319,34 @@ impl Stages {
     }
 }
 
-// A net for each stage.
+// Whether nothing is ever written between stages.
+fn writes_nothing(plan: &Plan) -> bool
+    ensures { result ≡ writes_nothing plan.now }
+{
+    plan.procedures.len() == 0
+}
+
+// How many nets the stages have.
+fn net_count(plan: &Plan) -> u32
+    requires { IsValid plan.now }
+    ensures { result ≡ net_count plan.now }
+{
+    if writes_nothing(plan) {
+        1
+    } else {
+        stages(plan)
+    }
+}
+
+// A net for each stage, or one for all where they can't differ.
 fn new_nets(alloc: Global, plan: &Plan) -> Result<Vec<Net>, AllocError>
     requires valid { IsValid plan.now }
     ensures nets { IfOk result (λ nets. AllByRecursion (IsNetOf plan.now) nets.items) }
     ensures behind { IfOk result (λ nets. AllByRecursion (HasAllBehind plan.now) nets.items) }
-    ensures many { IfOk result (λ nets. length nets.items ≡ suc (last_stage plan.now)) }
+    ensures many { IfOk result (λ nets. length nets.items ≡ net_count plan.now) }
 {
     let mut nets = Vec::new(alloc);
-    for stage in 0..stages(plan) {
+    for stage in 0..net_count(plan) {
         nets.push(Net::new(alloc, plan)?)?;
     }
     Ok(nets)

@@ -1,8 +1,9 @@
 //! A session of a lamp of two colours, of which a constraint allows the first alone.
 
-ghost use Rattle.std.specs.Prelude.{◌≡◌, ◌<◌};
+ghost use Rattle.std.specs.Prelude.{◌≡◌, ◌<◌, IfOk};
 ghost use Rattle.vc_plan.specs.Valid.{IsValid};
 ghost use Rattle.vc_plan_lamp.specs.Lamp.{lamp};
+ghost use Rattle.vc_proc_look_ups.specs.LookUps.{AreLookUpsOf};
 ghost use Rattle.vc_session.specs.Sessions.{IsSessionOf};
 
 use std::alloc::{AllocError, Global};
@@ -12,6 +13,7 @@ use std::test::Fail;
 use vc_plan::{Atom, Clash, Culprit, Named, Outcome, Plan, Reading, Step, View};
 use vc_plan_lamp::lamp;
 use vc_session::Session;
+use vc_session_evaluation::SharedLookUps;
 use vc_value::{Listed, Value};
 use vc_value_steps::Steps;
 
@@ -72,6 +74,44 @@ fn session_of<L: Ledger>(alloc: Global, plan: &Plan, blank: Blank) -> Result<boo
 fn evaluates_after_each_edit(rt: HostRuntime) -> Result<(), Fail> {
     let plan = lamp(rt.alloc())?;
     let done = session_of::<Brand>(rt.alloc(), &plan, Blank::new(1));
+    drop(plan);
+    assert!(rt; done?);
+    Ok(())
+}
+
+// A session of the lamp with these orders.
+fn session_with(alloc: Global, plan: &Plan, look_ups: SharedLookUps) -> Result<Session, AllocError>
+    requires plan { plan.now ≡ lamp }
+    requires look_ups { AreLookUpsOf plan.now look_ups }
+    ensures { IfOk result (λ session. IsSessionOf plan.now session) }
+{
+    let session = Session::start_with(alloc, plan, look_ups)?;
+    Ok(session)
+}
+
+// Whether each of two sessions that share orders answers its edits as one alone does, the other being edited or not.
+fn sessions_sharing<L: Ledger>(alloc: Global, plan: &Plan, blank: Blank) -> Result<bool, AllocError>
+    requires name { blank.name ≡ L.name }
+    requires parts { blank.parts ≡ L.parts }
+    requires some { 0 < blank.parts }
+    requires plan { plan.now ≡ lamp }
+{
+    let look_ups = SharedLookUps::new(alloc, plan)?;
+    let shared = look_ups.share()?;
+    let mut session = session_with(alloc, plan, look_ups)?;
+    let mut other = session_with(alloc, plan, shared)?;
+    let mut steps: Steps<L> = Steps::new(blank);
+    let done = edits(plan, &mut session, &mut steps);
+    let done_too = edits(plan, &mut other, &mut steps);
+    drop(session);
+    drop(other);
+    Ok(done && done_too)
+}
+
+#[test]
+fn shares_orders(rt: HostRuntime) -> Result<(), Fail> {
+    let plan = lamp(rt.alloc())?;
+    let done = sessions_sharing::<Brand>(rt.alloc(), &plan, Blank::new(1));
     drop(plan);
     assert!(rt; done?);
     Ok(())

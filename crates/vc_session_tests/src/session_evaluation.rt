@@ -1,7 +1,9 @@
 //! Evaluations of a lamp of two colours, of which a constraint allows the first alone.
 
-ghost use Rattle.std.specs.Prelude.{◌≡◌, ◌<◌};
+ghost use Rattle.std.specs.Prelude.{◌≡◌, ◌<◌, IfOk};
 ghost use Rattle.vc_plan_lamp.specs.Lamp.{lamp};
+ghost use Rattle.vc_proc_look_ups.specs.LookUps.{AreLookUpsOf};
+ghost use Rattle.vc_session_evaluation.specs.Evaluating.{AreStagesOf};
 
 use std::alloc::{AllocError, Global};
 use std::marker::Brand;
@@ -10,12 +12,12 @@ use std::test::Fail;
 use vc_plan::{Plan, View};
 use vc_plan_lamp::lamp;
 use vc_plan_users::UserValues;
-use vc_session_evaluation::Stages;
 use vc_session_evaluation::laws::{nets_cost_their_works, nets_start_behind};
+use vc_session_evaluation::{SharedLookUps, Stages};
 use vc_value::Value;
 use vc_value_steps::Steps;
 
-// How many stages say that the first colour follows.
+// How many nets say that the first colour follows.
 fn agreed(stages: &Stages) -> usize {
     let mut count: usize = 0;
     for net in stages.nets.as_slice() {
@@ -26,9 +28,19 @@ fn agreed(stages: &Stages) -> usize {
     count
 }
 
-// Whether the colour follows in each of three stages, and nobody is late.
+// Whether the colour follows in the one net that serves a plan without procedures, and nobody is late.
 fn are_settled(stages: &Stages) -> bool {
-    agreed(stages) == 3 && stages.broken == None && stages.late.as_slice().get(0) == Some(&false)
+    agreed(stages) == 1 && stages.broken == None && stages.late.as_slice().get(0) == Some(&false)
+}
+
+// Stages of the lamp with these orders.
+fn stages_with(alloc: Global, plan: &Plan, look_ups: SharedLookUps) -> Result<Stages, AllocError>
+    requires plan { plan.now ≡ lamp }
+    requires look_ups { AreLookUpsOf plan.now look_ups }
+    ensures { IfOk result (λ stages. AreStagesOf plan.now stages) }
+{
+    let stages = Stages::new(alloc, plan, look_ups)?;
+    Ok(stages)
 }
 
 fn evaluated<L: Ledger>(alloc: Global, plan: &Plan, blank: Blank) -> Result<bool, AllocError>
@@ -38,7 +50,8 @@ fn evaluated<L: Ledger>(alloc: Global, plan: &Plan, blank: Blank) -> Result<bool
     requires plan { plan.now ≡ lamp }
 {
     let users = UserValues::new(alloc, plan)?;
-    let mut stages = Stages::new(alloc, plan)?;
+    let look_ups = SharedLookUps::new(alloc, plan)?;
+    let mut stages = stages_with(alloc, plan, look_ups)?;
     let mut steps: Steps<L> = Steps::new(blank);
     stages.evaluate(plan, &users, &mut steps);
     stages.evaluate_at(plan, &users, &[], &mut steps);

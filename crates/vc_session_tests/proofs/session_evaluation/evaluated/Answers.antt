@@ -6,7 +6,7 @@ use Rattle.vc_plan_users.specs.Choosing.{none_chosen, users_of}
 use Rattle.vc_session_tests.proofs.session_evaluation.evaluated.Goals as goal
 
 pub new-requires-2 : goal.new-requires-2
-new-requires-2 g c = record { valid = lamp_is_valid c.args.plan.now c.requires.plan }
+new-requires-2 g c = lamp_is_valid c.args.plan.now c.requires.plan
 
 pub evaluate-requires-clause-valid : goal.evaluate-requires-clause-valid
 evaluate-requires-clause-valid g c = lamp_is_valid c.args.plan.now c.requires.plan

@@ -10,5 +10,6 @@ returns-clause-none c = ap open_of c.new.ensures ∙ none_open
 pub returns-clause-is : goal.returns-clause-is
 returns-clause-is c = record {
   valid = c.requires;
+  look_ups = tt;
   sessions = subst (AreSessionsOf c.args.plan) (sym c.new.ensures) (no_sessions c.args.plan);
 }

@@ -4,7 +4,7 @@ use Rattle.vc_plan_users.specs.Choosing.{users_of}
 use Rattle.vc_session_evaluation.specs.Costing.{GoOn}
 use Rattle.vc_session_evaluation.proofs.GoingLaws.{IsAt}
 use Rattle.vc_session_evaluation.proofs.ListLemmas.{StayFrom}
-use Rattle.vc_session_evaluation.proofs.stages.Stages.go_through.Given as goal
+use Rattle.vc_session_evaluation.proofs.stages.Stages.go_on.Given as goal
 
 abbrev pub invariant-loop-stage : goal.invariant-loop-stage
 invariant-loop-stage g l = record {
