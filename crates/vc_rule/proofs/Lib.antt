@@ -1,7 +1,9 @@
 pub mod FoundLaws
 pub mod FoundLemmas
 pub mod FoundRows
+pub mod GivingLaws
 pub mod PassingLemmas
 pub mod ReadingLaws
+pub mod RestingLaws
 pub mod RoomLemmas
 pub mod StandingLaws

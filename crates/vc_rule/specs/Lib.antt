@@ -1,3 +1,5 @@
 pub mod Evaluating
+pub mod Giving
 pub mod Laws
+pub mod Resting
 pub mod Rooms

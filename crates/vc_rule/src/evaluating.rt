@@ -6,9 +6,11 @@ ghost use Rattle.vc_rule_terms.specs.Computing.{TermsFit, LiesInGrains};
 ghost use Rattle.vc_rule_premises.specs.Saying.{held, taken, HasRoomFor};
 ghost use Rattle.vc_rule.specs.Evaluating.{kind_said, found_at, taken_from, RulesFit};
 
+use crate::giving::say_among_or_text;
+use crate::resting::rests;
 use std::sync::ledger::Ledger;
 use vc_plan::{Kind, Plan, Rule, View};
-use vc_rule_grains::{say_among, say_last, say_line, say_never};
+use vc_rule_grains::{say_last, say_line, say_never};
 use vc_rule_premises::{acts, cite_why_it_acts};
 use vc_rule_sides::{say_compare, say_equate};
 use vc_rule_table_saying::say_table;
@@ -36,7 +38,9 @@ pub fn evaluate<V: View, L: Ledger>(
     steps.tick();
     out.clear();
     if let Some(rule) = element(plan.rules.as_slice(), rule) {
-        say_if_it_acts(plan, view, rule, out);
+        if !rests(plan, view, &rule.kind) {
+            say_if_it_acts(plan, view, rule, out);
+        }
     }
 }
 
@@ -57,7 +61,14 @@ fn say_kind<V: View>(plan: &Plan, view: &V, rule: &Rule, out: &mut Yield)
     ensures { out.new ≡ taken out.old (kind_said plan.now (V.seen view.now) rule.now rule.now.kind) }
 {
     match &rule.kind {
-        Kind::Among(var, restriction) => say_among(plan, view, rule, *var, restriction, out),
+        Kind::Among(var, restriction) => say_among_or_text(
+            plan,
+            view,
+            rule,
+            *var,
+            restriction,
+            out,
+        ),
         Kind::Compare {
             relation,
             left,

@@ -2,7 +2,9 @@
 #![tactic(auto)]
 
 pub mod evaluating;
+pub mod giving;
 pub mod laws;
+pub mod resting;
 pub mod rooms;
 
 pub use evaluating::evaluate;
