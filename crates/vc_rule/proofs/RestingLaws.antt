@@ -1,8 +1,8 @@
--- A rule that gives its variable the text that this has finds nothing: what is left and allowed is there, and if it is one
--- alone its value stands.
-use Rattle.std.proofs.Common.{◌≡◌, ℕ, suc, ◌+◌, add-zero, Bool, true, false, cond, not, ◌&&◌, ◌||◌, List, [], ◌∷◌}
+-- A rule that gives its variable the text that this has finds nothing: what is left and allowed is there, and if it is
+-- one alone its value stands. Nor does that of a last grain where two are left.
+use Rattle.std.proofs.Common.{◌≡◌, ℕ, zero, suc, ◌+◌, add-zero, Bool, true, false, cond, not, ◌&&◌, ◌||◌, List, [], ◌∷◌}
 use Rattle.std.proofs.Common.{length, map, refl, sym, ◌∙◌, ap, subst, arith}
-use Rattle.std.specs.Prelude.{◌==◌, Option, None, Some, slice_get}
+use Rattle.std.specs.Prelude.{◌==◌, nat_lt, Option, None, Some, slice_get}
 use Rattle.std.specs.List.{filter, list_all, list_any, range_with_len}
 use Rattle.std.proofs.lemmas.Bool.{and_parts, and_from}
 use Rattle.vc_base.specs.Rounds.{Given, atoms}
@@ -25,13 +25,13 @@ use Rattle.vc_plan.specs.Domains.{count_of, grains_of, is_restrictable, numbers_
 use Rattle.vc_plan.specs.Gives.{acts}
 use Rattle.vc_plan.specs.Pieces.{is_inside, lies_in}
 use Rattle.vc_plan.specs.Restrictions.{allows, failing, is_inferred, left_with}
-use Rattle.vc_plan.specs.Seen.{Seen, is_left, is_left_by, is_value, says}
+use Rattle.vc_plan.specs.Seen.{Seen, is_here, is_left, is_left_by, is_value, says}
 use Rattle.vc_rule_terms.specs.Computing.{LiesInGrains}
 use Rattle.vc_rule_premises.specs.Citing.{why_it_acts}
 use Rattle.vc_rule_premises.specs.Saying.{concluding, conclusion_from, said_from, said_with, silent}
-use Rattle.vc_rule_grains.specs.Kinds.{among_said, why_among}
+use Rattle.vc_rule_grains.specs.Kinds.{among_said, last_said, why_among, why_last}
 use Rattle.vc_rule.specs.Evaluating.{found_at, found_by, kind_said}
-use Rattle.vc_rule.specs.Resting.{asks_for, is_text, rests}
+use Rattle.vc_rule.specs.Resting.{are_two_left, asks_for, is_text, rests}
 
 -- what some piece passes is passed at one of the numbers
 passed_from : (p : Piece → Bool) (pieces : List Piece) (f : ℕ → Bool) (a : ℕ)
@@ -160,6 +160,33 @@ among_rests plan seen rule v (Against Equal a) fits e fixed = by a (seen.value v
         subst (λ n. among_said plan seen rule v (Against Equal (Text n)) ≡ silent) (sym (number_exact s t e))
         (text_rests plan seen rule v t fits is fixed)
 
+-- where two grains are left none is the last
+last_rests : (plan : Plan) (seen : Seen) (v : ℕ) → are_two_left (seen.out v) (count_of plan v) ≡ true
+    → last_said plan seen v ≡ silent
+last_rests plan seen v e =
+    ap (λ given. said_from seen (why_last plan seen v) (atoms (cond (is_here plan seen v) given []))) (two (count_of plan v) e)
+    ∙ by (is_here plan seen v)
+  where
+    nothing_of : List Atom
+    nothing_of = []
+
+    two : (count : ℕ) → are_two_left (seen.out v) count ≡ true
+        → last_atoms plan v (filter (λ g. not (seen.out v g)) (numbers_below count)) ≡ []
+    two zero e = absurd (cc e)
+    two (suc zero) e = absurd (cc e)
+    two (suc (suc n)) e =
+        let parts : (not (seen.out v 0) ≡ true) × (not (seen.out v 1) ≡ true) =
+        and_parts (not (seen.out v 0)) (not (seen.out v 1))
+        (and_parts (nat_lt 1 (suc (suc n))) (not (seen.out v 0) && not (seen.out v 1)) e).1 in
+        ap (λ b. last_atoms plan v (cond b (0 ∷ filter (λ g. not (seen.out v g)) (range_with_len 1 (suc n)))
+        (filter (λ g. not (seen.out v g)) (range_with_len 1 (suc n))))) parts.0
+        ∙ ap (λ b. last_atoms plan v (0 ∷ cond b (1 ∷ filter (λ g. not (seen.out v g)) (range_with_len 2 n))
+        (filter (λ g. not (seen.out v g)) (range_with_len 2 n)))) parts.1
+
+    by : (b : Bool) → said_from seen (why_last plan seen v) (atoms (cond b nothing_of nothing_of)) ≡ silent
+    by true = refl
+    by false = refl
+
 kind_rests : (plan : Plan) (seen : Seen) (rule : Rule) (kind : Kind) → LiesInGrains plan seen
     → rests plan seen kind ≡ true → kind_said plan seen rule kind ≡ silent
 kind_rests plan seen rule (Among v restriction) fits e =
@@ -174,7 +201,7 @@ kind_rests plan seen rule (Compare r a b) fits e = absurd (cc e)
 kind_rests plan seen rule (Equate a b) fits e = absurd (cc e)
 kind_rests plan seen rule (ByTable table columns) fits e = absurd (cc e)
 kind_rests plan seen rule Never fits e = absurd (cc e)
-kind_rests plan seen rule (Last v) fits e = absurd (cc e)
+kind_rests plan seen rule (Last v) fits e = last_rests plan seen v e
 kind_rests plan seen rule (Line i) fits e = absurd (cc e)
 
 pub resting_find_nothing : (plan : Plan) (seen : Seen) (r : ℕ) (rule : Rule) → LiesInGrains plan seen

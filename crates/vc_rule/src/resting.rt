@@ -1,14 +1,16 @@
 //! Rules of which it is told at a glance that they say nothing new.
 
 ghost use Rattle.std.specs.Prelude.{◌≡◌};
-ghost use Rattle.vc_rule.specs.Resting.{asks_for, asks_for_text, is_text, rests};
+ghost use Rattle.vc_plan.specs.Domains.{count_of};
+ghost use Rattle.vc_rule.specs.Resting.{are_two_left, asks_for, asks_for_text, is_text, rests};
 
-use vc_plan::{Kind, Plan, Relation, Restriction, View};
+use vc_plan::{Kind, Plan, Relation, Restriction, View, count_of};
 use vc_rule_grains::grains::is_restrictable;
 use vc_value::Value;
 
-/// Whether it gives a variable that isn't restrictable the text that this has. Each atom wakes the rule that gave it, so
-/// half of all turns may end here.
+/// Whether it gives a variable that isn't restrictable the text that this has, or is the rule of a variable's last grain
+/// and two are left. Each atom wakes the rule that gave it, and that of its variable's last grain, so most turns may end
+/// here.
 pub(crate) fn rests<V: View>(plan: &Plan, view: &V, kind: &Kind) -> bool
     ensures { result ≡ rests plan.now (V.seen view.now) kind.now }
 {
@@ -16,8 +18,16 @@ pub(crate) fn rests<V: View>(plan: &Plan, view: &V, kind: &Kind) -> bool
         Kind::Among(var, restriction) => {
             asks_for(restriction, view.value(*var)) && !is_restrictable(plan, *var)
         }
+        Kind::Last(var) => are_two_left(plan, view, *var),
         _ => false,
     }
+}
+
+// Whether the variable's first two grains aren't out.
+fn are_two_left<V: View>(plan: &Plan, view: &V, var: u32) -> bool
+    ensures { result ≡ are_two_left ((V.seen view.now).out var) (count_of plan.now var) }
+{
+    count_of(plan, var) > 1 && !view.out(var, 0) && !view.out(var, 1)
 }
 
 fn asks_for(restriction: &Restriction, value: Option<Value>) -> bool
