@@ -5,3 +5,4 @@ pub mod ReaderRows
 pub mod RisingLemmas
 pub mod TouchedLemmas
 pub mod WaiterLemmas
+pub mod TriggerLemmas

@@ -1,7 +1,7 @@
 -- Worked rows of readers, by computing: PUMP's, and those of a rule that waits for a value. Beside what is so stands
 -- what would be so by a likely slip, and isn't.
 use Rattle.std.proofs.Common.{◌≡◌, ℕ, [], ◌∷◌, refl}
-use Rattle.std.specs.Prelude.{◌≢◌}
+use Rattle.std.specs.Prelude.{◌≢◌, Option, None, Some}
 use Rattle.vc_plan.specs.declared.atoms.Atom.TheVariants.{Is}
 use Rattle.vc_plan.specs.declared.conditions.Condition.TheVariants.{Always, Compared}
 use Rattle.vc_plan.specs.declared.conditions.Relation.TheVariants.{Equal}
@@ -11,9 +11,10 @@ use Rattle.vc_plan.specs.declared.terms.Term.TheVariants.{Literal, Read}
 use Rattle.vc_plan.proofs.PlanRows.Models.{last, open_pair, own_rule, pump, whole}
 use Rattle.vc_plan.specs.Seen.{Seen, seen_of}
 use Rattle.vc_plan_reasons.specs.Things.{slot_at, var_at}
+use Rattle.vc_net_laws.specs.declared.triggers.Trigger.{Trigger}
 use Rattle.vc_net_readers.specs.Filing.{filed_at_all}
 use Rattle.vc_net_readers.specs.Laws.{asked}
-use Rattle.vc_net_readers.specs.Readers.{readers_of}
+use Rattle.vc_net_readers.specs.Readers.{readers_of, trigger_at}
 
 -- the table's rule reads the root, the size and the motor; each variable's last grain is read with its slot
 by_things : readers_of pump ≡ record {
@@ -22,6 +23,7 @@ by_things : readers_of pump ≡ record {
   free = (0 ∷ 1 ∷ []) ∷ (0 ∷ 2 ∷ []) ∷ (3 ∷ []) ∷ [];
   awaited = [] ∷ [] ∷ [] ∷ [];
   by_place = [] ∷ [] ∷ [] ∷ [] ∷ [] ∷ [] ∷ [] ∷ [] ∷ [] ∷ [] ∷ [] ∷ [];
+  triggers = None ∷ None ∷ None ∷ None ∷ [];
 }
 by_things = refl
 
@@ -38,6 +40,7 @@ by_value : readers_of awaiting ≡ record {
   free = (1 ∷ []) ∷ [] ∷ [];
   awaited = (0 ∷ []) ∷ (0 ∷ []) ∷ [];
   by_place = [] ∷ [] ∷ [] ∷ (0 ∷ []) ∷ [] ∷ [] ∷ [] ∷ [] ∷ [] ∷ [];
+  triggers = Some (record { var = 0; value = whole 2 }) ∷ None ∷ [];
 }
 by_value = refl
 
@@ -47,6 +50,16 @@ free_anyway e = cc
 
 itself_left_out : (readers_of awaiting).awaited ≢ [] ∷ (0 ∷ []) ∷ []
 itself_left_out e = cc
+
+-- what is kept of the first, of the second, and of a rule that isn't there
+abbrev kept_of : ℕ → Option Trigger
+kept_of r = trigger_at (readers_of awaiting).triggers r
+
+its_trigger : kept_of 0 ≡ Some (record { var = 0; value = whole 2 })
+its_trigger = refl
+
+no_trigger : (kept_of 1 ≡ None) × (kept_of 2 ≡ None)
+no_trigger = (refl, refl)
 
 -- it is asked when an atom of either comes, where the first has a value in its grain, and nowhere else
 abbrev with_first : ℕ → Seen

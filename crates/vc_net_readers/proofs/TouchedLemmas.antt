@@ -34,6 +34,17 @@ any_one v w = or_false (v == w)
 
 pub ruleset any_of_parts = (any_both, any_one)
 
+-- the same, the second asked first
+pub any_turned : (v : ℕ) (xs ys : List ℕ)
+    → list_any (nat_eq v) (xs ++ ys) ≡ (list_any (nat_eq v) ys || list_any (nat_eq v) xs)
+any_turned v xs ys = any_both v xs ys ∙ or_comm (list_any (nat_eq v) xs) (list_any (nat_eq v) ys)
+  where
+    or_comm : (a b : Bool) → (a || b) ≡ (b || a)
+    or_comm true true = refl
+    or_comm true false = refl
+    or_comm false true = refl
+    or_comm false false = refl
+
 -- what is there already adds nothing
 absorbed : (a b : Bool) → (b ≡ true → a ≡ true) → a ≡ (a || b)
 absorbed true b follows = refl

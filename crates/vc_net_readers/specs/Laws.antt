@@ -9,10 +9,11 @@ use Rattle.vc_plan.specs.declared.plans.Plan.{Plan}
 use Rattle.vc_plan.specs.Gives.{by_rule}
 use Rattle.vc_plan.specs.Seen.{Seen, same_atom}
 use Rattle.vc_plan_reasons.specs.Things.{Thing, slot_at, thing_of, var_at}
+use Rattle.vc_net_laws.specs.Triggers.{trigger_by}
 use Rattle.vc_net_laws.specs.Waking.{giver_touches, is_woken}
 use Rattle.vc_net_places.specs.Places.{index_of}
 use Rattle.vc_net_readers.specs.Filing.{list_at}
-use Rattle.vc_net_readers.specs.Readers.{Index, is_reader, readers_of}
+use Rattle.vc_net_readers.specs.Readers.{Index, is_reader, readers_of, trigger_at}
 use Rattle.vc_net_readers.specs.Waiting.{grain_held, grain_with, place_in_grain}
 
 -- the rules that wait at a place, if there is one
@@ -53,3 +54,7 @@ WokenAreAsked = (plan : Plan) (set : List Atom) (atom : Atom) (seen : Seen) (r :
 abbrev pub AskedTouch : Type 0
 AskedTouch = (plan : Plan) (seen : Seen) (thing : Thing) (r : ℕ) → has nat_eq (asked plan seen thing) r ≡ true
     → giver_touches plan (by_rule r) thing ≡ true
+
+-- the trigger that is kept of a rule is the rule's, of whatever number
+abbrev pub TriggersAreKept : Type 0
+TriggersAreKept = (plan : Plan) (r : ℕ) → trigger_at (readers_of plan).triggers r ≡ trigger_by plan (by_rule r)

@@ -1,10 +1,11 @@
 -- Which rules touch a slot or a variable.
-use Rattle.std.specs.Prelude.{ℕ, Bool, ◌&&◌, nat_eq, List, length, map}
+use Rattle.std.specs.Prelude.{ℕ, Bool, ◌&&◌, nat_eq, List, length, map, slice_get, Option, None, Some}
 use Rattle.std.specs.List.{filter, flat_map, list_any}
 use Rattle.vc_plan.specs.declared.plans.Plan.{Plan}
 use Rattle.vc_plan.specs.Domains.{numbers_below}
 use Rattle.vc_plan.specs.Gives.{by_rule}
 use Rattle.vc_plan_reasons.specs.Things.{Thing, slot_at, var_at}
+use Rattle.vc_net_laws.specs.declared.triggers.Trigger.{Trigger}
 use Rattle.vc_net_laws.specs.Triggers.{trigger_by}
 use Rattle.vc_net_laws.specs.Waking.{giver_touches}
 use Rattle.vc_net_places.specs.Places.{index_of}
@@ -18,6 +19,7 @@ pub record Index : Type 0 where
   pub free : List (List ℕ)
   pub awaited : List (List ℕ)
   pub by_place : List (List ℕ)
+  pub triggers : List (Option Trigger)
 
 -- the rules that touch a thing, in their order
 abbrev pub is_reader : Plan → Thing → ℕ → Bool
@@ -71,6 +73,17 @@ abbrev pub place_lists : Plan → List (List ℕ)
 place_lists plan = map (λ place. filter (waits_at plan place) (numbers_below (length plan.rules)))
     (numbers_below (length (index_of plan).things))
 
+-- of each rule its trigger; that of a number: a rule that isn't there has none
+abbrev pub triggers_of : Plan → List (Option Trigger)
+triggers_of plan = map (λ r. trigger_by plan (by_rule r)) (numbers_below (length plan.rules))
+
+abbrev pub trigger_or_none : Option (Option Trigger) → Option Trigger
+trigger_or_none None = None
+trigger_or_none (Some trigger) = trigger
+
+abbrev pub trigger_at : List (Option Trigger) → ℕ → Option Trigger
+trigger_at triggers r = trigger_or_none (slice_get triggers r)
+
 abbrev pub readers_of : Plan → Index
 readers_of plan = record {
   by_slot = slot_lists plan;
@@ -78,4 +91,5 @@ readers_of plan = record {
   free = free_lists plan;
   awaited = awaited_lists plan;
   by_place = place_lists plan;
+  triggers = triggers_of plan;
 }

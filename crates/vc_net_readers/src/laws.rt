@@ -1,9 +1,14 @@
 //! Laws of readers, each the contract of a function that does nothing.
 
-ghost use Rattle.vc_net_readers.specs.Laws.{AskedTouch, WokenAreAsked};
+ghost use Rattle.vc_net_readers.specs.Laws.{AskedTouch, TriggersAreKept, WokenAreAsked};
 
 /// Each rule that an atom wakes is asked, and each that is asked touches the atom's thing.
 pub fn woken_are_asked()
     ensures all { WokenAreAsked }
     ensures touch { AskedTouch }
+{}
+
+/// The trigger that readers tell of a rule is the one by which the rule wakes.
+pub fn triggers_are_kept()
+    ensures { TriggersAreKept }
 {}

@@ -3,7 +3,7 @@
 ghost use Rattle.std.specs.Prelude.{◌≡◌, ◌^◌, ◌<◌, length, map, slice_get, IfOk, OnOk};
 ghost use Rattle.vc_net_readers.specs.Filing.{filed_at_all, filed_at_each, list_at};
 ghost use Rattle.vc_net_readers.specs.Readers.{awaited_lists, free_lists, place_lists, slot_lists, var_lists};
-ghost use Rattle.vc_net_readers.specs.Readers.{waiter_lists};
+ghost use Rattle.vc_net_readers.specs.Readers.{trigger_at, triggers_of, waiter_lists};
 ghost use Rattle.vc_net_readers.specs.Touched.{slots_by, vars_by};
 ghost use Rattle.vc_net_readers.specs.Waiting.{awaited_by, free_by, waits_by};
 ghost use Rattle.vc_rule_grains.specs.Finding.{GrainsFit};
@@ -14,6 +14,7 @@ use crate::touched::{touched_slots, touched_vars};
 use crate::triggers::{place_of_trigger, trigger_by};
 use std::alloc::{AllocError, Global};
 use std::marker::Model;
+use vc_net_laws::Trigger;
 use vc_net_places::Places;
 use vc_plan::Plan;
 use vc_rule_terms::elements::element;
@@ -27,6 +28,7 @@ pub struct Readers {
     free: Vec<Listed<u32>>,
     awaited: Vec<Listed<u32>>,
     by_place: Vec<Listed<u32>>,
+    triggers: Listed<Option<Trigger>>,
 }
 
 impl Model for Readers {
@@ -40,6 +42,7 @@ impl Model for Readers {
       free = r.free.items;
       awaited = r.awaited.items;
       by_place = r.by_place.items;
+      triggers = r.triggers;
     } };
 }
 
@@ -48,7 +51,7 @@ impl Readers {
     ghost use Rattle.vc_rule_grains.specs.Finding.{GrainsFit};
     ghost use Rattle.vc_net_places.specs.Places.{index_of};
     ghost use Rattle.vc_net_readers.specs.Filing.{list_at};
-    ghost use Rattle.vc_net_readers.specs.Readers.{readers_of};
+    ghost use Rattle.vc_net_readers.specs.Readers.{readers_of, trigger_at};
 
     /// The rules of the plan.
     pub fn new(alloc: Global, plan: &Plan, index: &Places) -> Result<Readers, AllocError>
@@ -63,12 +66,14 @@ impl Readers {
         let free = free_lists(alloc, plan)?;
         let awaited = awaited_lists(alloc, plan)?;
         let by_place = place_lists(alloc, plan, index)?;
+        let triggers = triggers_of(alloc, plan)?;
         Ok(Readers {
             by_slot,
             by_var,
             free,
             awaited,
             by_place,
+            triggers,
         })
     }
 
@@ -108,6 +113,16 @@ impl Readers {
         match self.by_place.as_slice().get(place) {
             Some(rules) => rules.as_slice(),
             None => &[],
+        }
+    }
+
+    /// The value without which the rule says nothing, if there is one; none where there is no such rule.
+    pub fn trigger(&self, rule: u32) -> Option<Trigger>
+        ensures { result ≡ trigger_at self.now.triggers rule }
+    {
+        match element(self.triggers.as_slice(), rule) {
+            Some(trigger) => *trigger,
+            None => None,
         }
     }
 }
@@ -315,4 +330,17 @@ fn place_lists(alloc: Global, plan: &Plan, index: &Places) -> Result<Vec<Listed<
         file_at_grain(plan, index, rule as u32, &mut lists)?;
     }
     Ok(lists)
+}
+
+// The trigger of each rule.
+#[tactic(auto, using(vc_net_places::proofs::PlaceLaws::Things::mapped_next))]
+fn triggers_of(alloc: Global, plan: &Plan) -> Result<Listed<Option<Trigger>>, AllocError>
+    requires { length plan.now.rules < 2 ^ 32 }
+    ensures { IfOk result (λ triggers. triggers ≡ triggers_of plan.now) }
+{
+    let mut triggers = Listed::new(alloc);
+    for rule in 0..plan.rules.len() {
+        triggers.push(trigger_by(plan, rule as u32))?;
+    }
+    Ok(triggers)
 }

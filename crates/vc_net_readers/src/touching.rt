@@ -3,10 +3,14 @@
 ghost use Rattle.std.specs.Prelude.{◌≡◌, nat_eq, slice_get};
 ghost use Rattle.std.specs.List.{flat_map, list_any};
 ghost use Rattle.vc_plan.specs.Reads.{vars_in, vars_of_condition, vars_of_term, vars_read};
+ghost use Rattle.vc_plan.specs.Gives.{by_rule};
 ghost use Rattle.vc_plan_reasons.specs.Things.{var_at, vars_of_column, vars_of_kind, vars_of_sides};
+ghost use Rattle.vc_net_laws.specs.Triggers.{trigger_by};
 ghost use Rattle.vc_net_readers.specs.Readers.{is_reader};
 ghost use Rattle.vc_net_readers.specs.Touched.{touched_vars};
+ghost use Rattle.vc_net_readers.specs.Waiting.{is_own};
 
+use vc_net_laws::Trigger;
 use vc_plan::{Binding, Condition, Kind, Operand, Plan, Rule, Term};
 use vc_rule_terms::elements::element;
 
@@ -105,11 +109,12 @@ fn is_in_kind(plan: &Plan, kind: &Kind, var: u32) -> bool
     }
 }
 
-#[tactic(auto, using(crate::proofs::TouchedLemmas::any_of_parts))]
+// What a rule says is asked first: it is mostly of one variable, and its condition a tree.
+#[tactic(auto, using(crate::proofs::TouchedLemmas::any_turned))]
 fn is_touched(plan: &Plan, rule: &Rule, var: u32) -> bool
     ensures { result ≡ list_any (nat_eq var) (touched_vars plan.now rule.now) }
 {
-    is_in_condition(plan, rule.condition, var) || is_in_kind(plan, &rule.kind, var)
+    is_in_kind(plan, &rule.kind, var) || is_in_condition(plan, rule.condition, var)
 }
 
 /// Whether the rule of this number reads or writes the variable.
@@ -119,6 +124,28 @@ pub fn touches(plan: &Plan, rule: u32, var: u32) -> bool
 {
     match element(plan.rules.as_slice(), rule) {
         Some(rule) => is_touched(plan, rule, var),
+        None => false,
+    }
+}
+
+/// The same, where the rule's trigger is known: its variable is one that the rule reads.
+pub fn touches_by(plan: &Plan, rule: u32, trigger: Option<Trigger>, var: u32) -> bool
+    requires { trigger ≡ trigger_by plan.now (by_rule rule) }
+    ensures { result ≡ is_reader plan.now (var_at var) rule }
+{
+    if is_trigger_of(trigger, var) {
+        true
+    } else {
+        touches(plan, rule, var)
+    }
+}
+
+// Whether it is a value of the variable.
+fn is_trigger_of(trigger: Option<Trigger>, var: u32) -> bool
+    ensures { result ≡ is_own var trigger }
+{
+    match trigger {
+        Some(trigger) => var == trigger.var,
         None => false,
     }
 }
