@@ -2,29 +2,35 @@
 use Rattle.std.proofs.Common.{◌≡◌, ℕ, ◌+◌, add-one, Bool, true, false, cond, not, ◌&&◌, List, [], ◌∷◌, ◌++◌}
 use Rattle.std.proofs.Common.{map, refl, sym, ◌∙◌, ap, subst, inl, inr, arith, length, ◌≤◌, ◌<◌, ◌-◌, drop, get_or}
 use Rattle.std.proofs.Common.{take}
-use Rattle.std.specs.Prelude.{if◌then◌else◌, nat_eq, nat_lt}
+use Rattle.std.specs.Prelude.{Option, None, Some, if◌then◌else◌, nat_eq, nat_lt}
 use Rattle.std.specs.List.{filter, flat_map}
 use Rattle.std.proofs.lemmas.List.{map-append, take_all}
 use Rattle.std.proofs.lemmas.List.Elements.{filter-append}
 use Rattle.vc_base.specs.Sets.{has}
 use Rattle.vc_base.proofs.SetLaws.{has_cases}
+use Rattle.vc_value.specs.declared.value.Value.{Value}
 use Rattle.vc_plan.specs.declared.plans.Plan.{Plan}
+use Rattle.vc_plan.specs.Domains.{numbers_below}
 use Rattle.vc_plan.specs.Gives.{Giver, by_entry, by_rule, by_user, givers_of}
 use Rattle.vc_plan.specs.Seen.{Seen}
 use Rattle.vc_plan_reasons.specs.Things.{var_at}
+use Rattle.vc_net_laws.specs.declared.triggers.Trigger.{Trigger}
 use Rattle.vc_net_laws.specs.Triggers.{trigger_by}
 use Rattle.vc_net_laws.specs.Working.{same_giver}
 use Rattle.vc_net_laws.proofs.NetLaws.Working.{giver_exact, giver_itself}
 use Rattle.vc_net_agenda.specs.Agendas.{Awaited, added, is_of, with_next}
 use Rattle.vc_net_agenda.proofs.AgendaLaws.{givers_are_there, others_still_wait, who_comes_waits}
-use Rattle.vc_net_readers.specs.Laws.{waiting_on}
+use Rattle.vc_net_places.specs.Places.{index_of}
+use Rattle.vc_net_readers.specs.Laws.{waiting_in, waiting_on}
 use Rattle.vc_net_readers.specs.Filing.{list_at}
 use Rattle.vc_net_readers.specs.Readers.{is_reader, readers_of}
-use Rattle.vc_net_readers.specs.Waiting.{is_free}
+use Rattle.vc_net_readers.specs.Waiting.{grain_held, is_free, place_in_grain}
 use Rattle.vc_net_readers.proofs.AskedLaws.{common_there}
+use Rattle.vc_net_readers.proofs.TriggerLemmas.{free_are}
 use Rattle.vc_net_waking.specs.Beginning.{all_sources, untriggered_below}
 use Rattle.vc_net_waking.specs.Laws.{IsAgendaOf, OthersWaitOn, SizesStay}
-use Rattle.vc_net_waking.specs.Waking.{is_met, is_var_of, met_rules, sources_in_slot, sources_of, with_givers}
+use Rattle.vc_net_waking.specs.Waking.{is_met, is_var_of, met_rules, rules_in, sources_in_slot}
+use Rattle.vc_net_waking.specs.Waking.{sources_of, with_givers}
 
 -- two lists of givers one after another
 pub both_parts : (agenda : Awaited) (xs ys : List Giver)
@@ -66,6 +72,32 @@ met_passing plan seen test xs ys =
 
 pub ruleset parts = (both_parts, met_both, met_passing)
 
+-- of the rules that touch a variable and wait for nothing each is met
+met_free : (seen : Seen) (o : Option Trigger) → is_free o ≡ true → is_met seen o ≡ true
+met_free seen None e = refl
+met_free seen (Some trigger) e = absurd (cc)
+
+all_pass : (p q : ℕ → Bool) → ((r : ℕ) → p r ≡ true → q r ≡ true) → (xs : List ℕ)
+    → filter q (filter p xs) ≡ filter p xs
+all_pass p q follows [] = refl
+all_pass p q follows (x ∷ xs) = by (p x) refl (all_pass p q follows xs)
+  where
+    by : (b : Bool) → p x ≡ b → filter q (filter p xs) ≡ filter p xs
+        → filter q (cond b (x ∷ filter p xs) (filter p xs)) ≡ cond b (x ∷ filter p xs) (filter p xs)
+    by true e later =
+        ap (λ t. cond t (x ∷ filter q (filter p xs)) (filter q (filter p xs))) (follows x e) ∙ ap (λ ys. x ∷ ys) later
+    by false e later = later
+
+pub free_met : (plan : Plan) (seen : Seen) (v : ℕ)
+    → met_rules plan seen (list_at (readers_of plan).free v) ≡ rules_in (list_at (readers_of plan).free v)
+free_met plan seen v =
+    let own = free_are plan v in
+    let rules = numbers_below (length plan.rules) in
+    let met : ℕ → Bool = λ r. is_met seen (trigger_by plan (by_rule r)) in
+    ap (met_rules plan seen) own.1
+    ∙ (ap rules_in (all_pass own.0 met (λ r e. met_free seen (trigger_by plan (by_rule r)) (own.2 r e)) rules)
+    ∙ ap rules_in (sym own.1))
+
 -- a variable's readers that wait for a value of another are those of the waiting that touch it
 pub common_at : (plan : Plan) (seen : Seen) (v u : ℕ) (rules readers : List ℕ) → v < length plan.vars
     → rules ≡ waiting_on plan seen u → readers ≡ list_at (readers_of plan).by_var v
@@ -74,6 +106,19 @@ common_at plan seen v u rules readers below waits reads =
     ap (λ xs. filter (has nat_eq rules) xs) reads
     ∙ (ap (λ xs. filter (has nat_eq xs) (list_at (readers_of plan).by_var v)) waits
     ∙ (common_there plan seen v u below ∙ ap (filter (is_reader plan (var_at v))) (sym waits)))
+
+-- the rules that wait for a variable's value, where this is known
+pub waiting_with : (plan : Plan) (seen : Seen) (u : ℕ) (o : Option Value) (rules : List ℕ) → o ≡ seen.value u
+    → rules ≡ waiting_in (readers_of plan) (place_in_grain (index_of plan) u (grain_held plan u o))
+    → rules ≡ waiting_on plan seen u
+waiting_with plan seen u o rules is waits =
+    waits ∙ ap (λ p. waiting_in (readers_of plan) (place_in_grain (index_of plan) u (grain_held plan u p))) is
+
+pub come_with : (plan : Plan) (seen : Seen) (v : ℕ) (rules others : List ℕ) (old new : Awaited) → rules ≡ others
+    → new ≡ with_givers old (met_rules plan seen (filter (is_reader plan (var_at v)) rules))
+    → new ≡ with_givers old (met_rules plan seen (filter (is_reader plan (var_at v)) others))
+come_with plan seen v rules others old new same come =
+    come ∙ ap (λ rs. with_givers old (met_rules plan seen (filter (is_reader plan (var_at v)) rs))) same
 
 -- those that wait for a value of the first of some variables come, then those for the rest
 pub awaiting_rest : (plan : Plan) (seen : Seen) (v : ℕ) (rest : List ℕ) (d : ℕ) (old new : Awaited) → 1 ≤ length rest

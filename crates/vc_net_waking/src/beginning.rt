@@ -2,9 +2,9 @@
 
 ghost use Rattle.std.specs.Prelude.{◌≡◌, ◌^◌, ◌<◌, length, IfOk};
 ghost use Rattle.vc_net_waking.specs.Beginning.{all_sources, begun, untriggered, untriggered_below};
-ghost use Rattle.vc_net_waking.specs.Waking.{rules_in, with_givers};
+ghost use Rattle.vc_net_waking.specs.Waking.{with_givers};
 
-use crate::waking::push_sources;
+use crate::waking::{push_rules, push_sources};
 use std::alloc::{AllocError, Global};
 use vc_net_agenda::{Agenda, Giver};
 use vc_net_readers::triggers::trigger_by;
@@ -36,16 +36,6 @@ pub fn begin(plan: &Plan, rules: &[u32], agenda: &mut Agenda)
     agenda.clear();
     push_rules(rules, agenda);
     push_all_sources(plan, agenda);
-}
-
-fn push_rules(rules: &[u32], agenda: &mut Agenda)
-    ensures { agenda.new ≡ with_givers agenda.old (rules_in rules.now) }
-{
-    let mut rest = rules;
-    while let [rule, more @ ..] = rest {
-        agenda.push(Giver::Rule(*rule));
-        rest = more;
-    }
 }
 
 #[tactic(auto, using(crate::proofs::GiverLaws::sources_next))]

@@ -4,13 +4,17 @@ ghost use Rattle.std.specs.Prelude.{◌≡◌, ◌^◌, ◌<◌, length, nat_eq}
 ghost use Rattle.std.specs.List.{filter, flat_map};
 ghost use Rattle.vc_base.specs.Sets.{has};
 ghost use Rattle.vc_rule_grains.specs.Finding.{GrainsFit};
+ghost use Rattle.vc_plan.specs.Gives.{by_rule};
 ghost use Rattle.vc_plan.specs.Seen.{is_value};
 ghost use Rattle.vc_plan_reasons.specs.Things.{slot_at, thing_of, var_at};
 ghost use Rattle.vc_net_places.specs.Places.{index_of};
-ghost use Rattle.vc_net_readers.specs.Laws.{waiting_on};
+ghost use Rattle.vc_net_laws.specs.Triggers.{trigger_by};
+ghost use Rattle.vc_net_readers.specs.Filing.{list_at};
+ghost use Rattle.vc_net_readers.specs.Laws.{waiting_in, waiting_on};
 ghost use Rattle.vc_net_readers.specs.Readers.{is_reader, readers_of};
 ghost use Rattle.vc_net_readers.specs.Rising.{IsRising};
-ghost use Rattle.vc_net_waking.specs.Waking.{is_met, is_var_of, met_rules, sources_of, sources_in_slot};
+ghost use Rattle.vc_net_readers.specs.Waiting.{grain_held, place_in_grain};
+ghost use Rattle.vc_net_waking.specs.Waking.{is_met, is_var_of, met_rules, rules_in, sources_of, sources_in_slot};
 ghost use Rattle.vc_net_waking.specs.Waking.{waking, with_givers};
 
 use vc_net_agenda::{Agenda, Giver};
@@ -18,12 +22,19 @@ use vc_net_laws::Trigger;
 use vc_net_places::Places;
 use vc_net_readers::Readers;
 use vc_net_readers::halves::is_among;
-use vc_net_readers::touching::touches;
-use vc_net_readers::triggers::{grain_held, trigger_by};
+use vc_net_readers::touching::touches_by;
+use vc_net_readers::triggers::grain_held;
 use vc_plan::{Atom, Plan, View};
 use vc_rule_terms::elements::element;
 use vc_rule_yield::atoms::same_value;
 use vc_value::Value;
+
+/// A variable with the value that it has, if it has one, so that it is looked up once.
+#[derive(Clone, Copy)]
+struct Held {
+    var: u32,
+    value: Option<Value>,
+}
 
 /// Lets all wait whom the atom wakes, which stands in the view: the rules and sources that touch its thing, but of the
 /// rules only those that wait for no value, or for one that stands.
@@ -54,7 +65,7 @@ fn wake_at_slot<V: View>(plan: &Plan, readers: &Readers, view: &V, slot: u32, ag
     requires readers { readers.now ≡ readers_of plan.now }
     ensures { agenda.new ≡ with_givers agenda.old (waking plan.now (V.seen view.now) (slot_at slot)) }
 {
-    push_met(plan, view, readers.of_slot(slot), agenda);
+    push_met(plan, readers, view, readers.of_slot(slot), agenda);
     push_sources_in(plan, slot, agenda);
 }
 
@@ -72,12 +83,32 @@ fn wake_at_var<V: View>(
     requires readers { readers.now ≡ readers_of plan.now }
     ensures { agenda.new ≡ with_givers agenda.old (waking plan.now (V.seen view.now) (var_at var)) }
 {
-    push_met(plan, view, readers.free(var), agenda);
+    push_free(plan, readers, view, var, agenda);
     if (var as usize) < plan.vars.len() {
         let awaited = readers.awaited(var);
         push_awaiting(plan, readers, index, view, awaited, var, agenda);
     }
     push_sources(var, agenda);
+}
+
+// Lets the rules wait that touch the variable and wait for no value: of these none is to be asked what it waits for.
+fn push_free<V: View>(plan: &Plan, readers: &Readers, view: &V, var: u32, agenda: &mut Agenda)
+    requires readers { readers.now ≡ readers_of plan.now }
+    ensures { agenda.new ≡ with_givers agenda.old
+        (met_rules plan.now (V.seen view.now) (list_at (readers_of plan.now).free var)) }
+{
+    push_rules(readers.free(var), agenda);
+}
+
+/// Lets the rules of these numbers wait.
+pub fn push_rules(rules: &[u32], agenda: &mut Agenda)
+    ensures { agenda.new ≡ with_givers agenda.old (rules_in rules.now) }
+{
+    let mut rest = rules;
+    while let [rule, more @ ..] = rest {
+        agenda.push(Giver::Rule(*rule));
+        rest = more;
+    }
 }
 
 // Lets those of the rules wait that touch the variable, and wait for a value of one of these that stands.
@@ -98,78 +129,138 @@ fn push_awaiting<V: View>(
     ensures { agenda.new ≡ with_givers agenda.old (met_rules plan.now (V.seen view.now)
         (filter (is_reader plan.now (var_at var)) (flat_map (waiting_on plan.now (V.seen view.now)) awaited.now))) }
 {
-    let readers_of_var = readers.of_var(var);
     let mut rest = awaited;
     while let [other, more @ ..] = rest {
-        let rules = waiting(plan, readers, index, view, *other);
-        push_common(plan, view, readers_of_var, rules, var, agenda);
+        push_waiting(plan, readers, index, view, *other, var, agenda);
         rest = more;
     }
 }
 
-// Lets those of the rules wait that touch the variable, where its readers are known: the shorter list is gone through.
+// Lets those of the rules wait that touch the variable, and wait for the value that the other one has.
+fn push_waiting<V: View>(
+    plan: &Plan,
+    readers: &Readers,
+    index: &Places,
+    view: &V,
+    other: u32,
+    var: u32,
+    agenda: &mut Agenda,
+)
+    requires grains { GrainsFit plan.now }
+    requires there { var < length plan.now.vars }
+    requires index { index.now ≡ index_of plan.now }
+    requires readers { readers.now ≡ readers_of plan.now }
+    ensures { agenda.new ≡ with_givers agenda.old (met_rules plan.now (V.seen view.now)
+        (filter (is_reader plan.now (var_at var)) (waiting_on plan.now (V.seen view.now) other))) }
+{
+    let held = view.value(other);
+    let rules = waiting(plan, readers, index, other, held);
+    push_common(
+        plan,
+        readers,
+        view,
+        Held {
+            var: other,
+            value: held,
+        },
+        rules,
+        var,
+        agenda,
+    );
+}
+
+// Lets those of the rules wait that touch the variable: the shorter of the rules' list and its readers' is gone
+// through.
 fn push_common<V: View>(
     plan: &Plan,
+    readers: &Readers,
     view: &V,
-    readers: &[u32],
+    held: Held,
     rules: &[u32],
     var: u32,
     agenda: &mut Agenda,
 )
+    requires readers { readers.now ≡ readers_of plan.now }
+    requires held { (V.seen view.now).value held.var ≡ held.value }
     requires rising { IsRising rules.now }
-    requires common { filter (has nat_eq rules.now) readers.now ≡ filter (is_reader plan.now (var_at var)) rules.now }
+    requires common { filter (has nat_eq rules.now) (list_at readers.now.by_var var)
+        ≡ filter (is_reader plan.now (var_at var)) rules.now }
     ensures { agenda.new ≡ with_givers agenda.old
         (met_rules plan.now (V.seen view.now) (filter (is_reader plan.now (var_at var)) rules.now)) }
 {
-    if rules.len() <= readers.len() {
-        push_touching(plan, view, rules, var, agenda);
+    let of_var = readers.of_var(var);
+    if rules.len() <= of_var.len() {
+        push_touching(plan, readers, view, held, rules, var, agenda);
     } else {
-        push_among(plan, view, readers, rules, agenda);
+        push_among(plan, readers, view, held, of_var, rules, agenda);
     }
 }
 
-// Lets those of the readers wait that are among the rules.
-fn push_among<V: View>(plan: &Plan, view: &V, readers: &[u32], rules: &[u32], agenda: &mut Agenda)
-    requires { IsRising rules.now }
+// Lets those of the variable's readers wait that are among the rules.
+fn push_among<V: View>(
+    plan: &Plan,
+    readers: &Readers,
+    view: &V,
+    held: Held,
+    of_var: &[u32],
+    rules: &[u32],
+    agenda: &mut Agenda,
+)
+    requires readers { readers.now ≡ readers_of plan.now }
+    requires held { (V.seen view.now).value held.var ≡ held.value }
+    requires rising { IsRising rules.now }
     ensures { agenda.new ≡ with_givers agenda.old
-        (met_rules plan.now (V.seen view.now) (filter (has nat_eq rules.now) readers.now)) }
+        (met_rules plan.now (V.seen view.now) (filter (has nat_eq rules.now) of_var.now)) }
 {
-    let mut rest = readers;
+    let mut rest = of_var;
     while let [rule, more @ ..] = rest {
-        if is_among(rules, *rule) && is_met(view, trigger_by(plan, *rule)) {
+        let trigger = trigger_of(plan, readers, *rule);
+        if is_met_beside(view, held, trigger) && is_among(rules, *rule) {
             agenda.push(Giver::Rule(*rule));
         }
         rest = more;
     }
 }
 
-// The rules that wait in the grain of the value that the variable has, if it has one.
-fn waiting<'a, V: View>(
+// The rules that wait in the grain of this value of the variable, if there is one.
+fn waiting<'a>(
     plan: &Plan,
     readers: &'a Readers,
     index: &Places,
-    view: &V,
     var: u32,
+    held: Option<Value>,
 ) -> &'a [u32]
     requires grains { GrainsFit plan.now }
     requires index { index.now ≡ index_of plan.now }
     requires readers { readers.now ≡ readers_of plan.now }
-    ensures { result.now ≡ waiting_on plan.now (V.seen view.now) var }
+    ensures { result.now ≡ waiting_in (readers_of plan.now)
+        (place_in_grain (index_of plan.now) var (grain_held plan.now var held)) }
 {
-    match grain_held(plan, var, view.value(var)) {
+    match grain_held(plan, var, held) {
         Some(grain) => readers.waiting(index.place_of(Atom::Out(var, grain))),
         None => &[],
     }
 }
 
 // Lets those of the rules wait that touch the variable and wait for no value, or for one that stands.
-fn push_touching<V: View>(plan: &Plan, view: &V, rules: &[u32], var: u32, agenda: &mut Agenda)
+fn push_touching<V: View>(
+    plan: &Plan,
+    readers: &Readers,
+    view: &V,
+    held: Held,
+    rules: &[u32],
+    var: u32,
+    agenda: &mut Agenda,
+)
+    requires readers { readers.now ≡ readers_of plan.now }
+    requires held { (V.seen view.now).value held.var ≡ held.value }
     ensures { agenda.new ≡ with_givers agenda.old
         (met_rules plan.now (V.seen view.now) (filter (is_reader plan.now (var_at var)) rules.now)) }
 {
     let mut rest = rules;
     while let [rule, more @ ..] = rest {
-        if touches(plan, *rule, var) && is_met(view, trigger_by(plan, *rule)) {
+        let trigger = trigger_of(plan, readers, *rule);
+        if is_met_beside(view, held, trigger) && touches_by(plan, *rule, trigger, var) {
             agenda.push(Giver::Rule(*rule));
         }
         rest = more;
@@ -177,16 +268,26 @@ fn push_touching<V: View>(plan: &Plan, view: &V, rules: &[u32], var: u32, agenda
 }
 
 // Lets those of the rules wait that wait for no value, or for one that stands.
-fn push_met<V: View>(plan: &Plan, view: &V, rules: &[u32], agenda: &mut Agenda)
+fn push_met<V: View>(plan: &Plan, readers: &Readers, view: &V, rules: &[u32], agenda: &mut Agenda)
+    requires readers { readers.now ≡ readers_of plan.now }
     ensures { agenda.new ≡ with_givers agenda.old (met_rules plan.now (V.seen view.now) rules.now) }
 {
     let mut rest = rules;
     while let [rule, more @ ..] = rest {
-        if is_met(view, trigger_by(plan, *rule)) {
+        if is_met(view, trigger_of(plan, readers, *rule)) {
             agenda.push(Giver::Rule(*rule));
         }
         rest = more;
     }
+}
+
+// The trigger of the rule of this number, as it is kept.
+#[tactic(auto, using(vc_net_readers::proofs::TriggerLemmas::trigger_kept))]
+fn trigger_of(plan: &Plan, readers: &Readers, rule: u32) -> Option<Trigger>
+    requires readers { readers.now ≡ readers_of plan.now }
+    ensures { result ≡ trigger_by plan.now (by_rule rule) }
+{
+    readers.trigger(rule)
 }
 
 // Whether nothing is waited for, or the value for which it is stands.
@@ -196,6 +297,29 @@ fn is_met<V: View>(view: &V, trigger: Option<Trigger>) -> bool
     match trigger {
         Some(trigger) => is_value(trigger.value, view.value(trigger.var)),
         None => true,
+    }
+}
+
+// The same, where one variable's value is known.
+fn is_met_beside<V: View>(view: &V, held: Held, trigger: Option<Trigger>) -> bool
+    requires held { (V.seen view.now).value held.var ≡ held.value }
+    ensures { result ≡ is_met (V.seen view.now) trigger }
+{
+    match trigger {
+        Some(trigger) => is_value(trigger.value, value_beside(view, held, trigger.var)),
+        None => true,
+    }
+}
+
+// The value of a variable, where one variable's is known.
+fn value_beside<V: View>(view: &V, held: Held, var: u32) -> Option<Value>
+    requires held { (V.seen view.now).value held.var ≡ held.value }
+    ensures { result ≡ (V.seen view.now).value var }
+{
+    if var == held.var {
+        held.value
+    } else {
+        view.value(var)
     }
 }
 

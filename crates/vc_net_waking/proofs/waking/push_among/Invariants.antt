@@ -10,7 +10,7 @@ abbrev pub invariant-loop-rest : goal.invariant-loop-rest
 invariant-loop-rest g l =
     with_givers l.agenda (met_rules l.plan (g.V.View.seen l.view) (filter (has nat_eq l.rules) l.rest))
     ≡ with_givers l.fn.agenda
-    (met_rules l.plan (g.V.View.seen l.view) (filter (has nat_eq l.rules) l.readers))
+    (met_rules l.plan (g.V.View.seen l.view) (filter (has nat_eq l.rules) l.of_var))
 
 abbrev pub decreases-loop-rest : goal.decreases-loop-rest
 decreases-loop-rest g l = length l.rest
