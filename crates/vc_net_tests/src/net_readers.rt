@@ -7,10 +7,12 @@ ghost use Rattle.vc_rule_grains.specs.Finding.{GrainsFit};
 use std::alloc::Global;
 use std::process::Abort;
 use std::test::Fail;
+use vc_net_laws::Trigger;
 use vc_net_places::Places;
 use vc_net_readers::Readers;
-use vc_net_readers::laws::woken_are_asked;
-use vc_net_readers::touching::touches;
+use vc_net_readers::laws::{triggers_are_kept, woken_are_asked};
+use vc_net_readers::touching::{touches, touches_by};
+use vc_net_readers::triggers::trigger_by;
 use vc_plan::{Condition, Kind, Plan, Relation, Rule, Slot, Term, Var};
 use vc_value::{Domain, Listed, Value, Word};
 
@@ -127,6 +129,25 @@ fn is_touched<R: Abort>(rt: &R, alloc: Global, rule: u32, var: u32) -> bool {
     is_touched
 }
 
+fn is_touched_by<R: Abort>(rt: &R, alloc: Global, rule: u32, var: u32) -> bool {
+    let plan = plan_of_two(rt, alloc);
+    let is_touched = touches_by(&plan, rule, trigger_by(&plan, rule), var);
+    drop(plan);
+    is_touched
+}
+
+fn awaited_text(trigger: Option<Trigger>) -> Option<(u32, u32)> {
+    match trigger {
+        Some(
+            Trigger {
+                var,
+                value: Value::Text(text),
+            },
+        ) => Some((var, text)),
+        _ => None,
+    }
+}
+
 fn at(list: &[u32], place: usize) -> Option<u32> {
     list.get(place).copied()
 }
@@ -152,7 +173,11 @@ fn a_rule_waits_for_its_value(rt: HostRuntime) -> Result<(), Fail> {
     assert_eq!(rt; at(readers.waiting(2), 0), None);
     assert_eq!(rt; at(readers.waiting(3), 0), Some(0));
     assert_eq!(rt; at(readers.waiting(7), 0), None);
+    assert_eq!(rt; awaited_text(readers.trigger(0)), Some((0, 1)));
+    assert_eq!(rt; awaited_text(readers.trigger(1)), None);
+    assert_eq!(rt; awaited_text(readers.trigger(2)), None);
     woken_are_asked();
+    triggers_are_kept();
     Ok(())
 }
 
@@ -161,5 +186,8 @@ fn a_rule_touches_what_it_reads_and_writes(rt: HostRuntime) -> Result<(), Fail> 
     assert!(rt; is_touched(&rt, rt.alloc(), 0, 0));
     assert!(rt; is_touched(&rt, rt.alloc(), 0, 1));
     assert!(rt; !is_touched(&rt, rt.alloc(), 1, 1));
+    assert!(rt; is_touched_by(&rt, rt.alloc(), 0, 0));
+    assert!(rt; is_touched_by(&rt, rt.alloc(), 0, 1));
+    assert!(rt; !is_touched_by(&rt, rt.alloc(), 1, 1));
     Ok(())
 }
