@@ -3,16 +3,17 @@ use Rattle.std.proofs.Common.{◌≡◌, ℕ, zero, suc, ◌+◌, ◌-◌, ◌<�
 use Rattle.std.proofs.Common.{length, take, refl, sym, ◌∙◌, ap, subst, inl, inr, arith, length-append}
 use Rattle.std.specs.Prelude.{nat_eq, nat_lt, replicate, slice_index_or, slice_set, if◌then◌else◌}
 use Rattle.std.specs.List.{AllByRecursion, IsDistinct}
-use Rattle.std.proofs.lemmas.Bool.{and_from, cases_lt, le-leb, lt-ltb, not_from_false}
+use Rattle.std.proofs.lemmas.Bool.{and_from, cases_lt, lt-ltb, not_from_false}
 use Rattle.std.proofs.lemmas.List.{get_or-set_other, get_or-set_same, length-replicate, length-set}
+use Rattle.std.proofs.lemmas.List.{length-take-le, take_more_set}
 use Rattle.std.proofs.lemmas.List.Folds.{list_any-append}
 use Rattle.std.proofs.lemmas.Map.Steps.{length-le_from_distinct_below}
 use Rattle.vc_base.specs.Sets.{has}
 use Rattle.vc_base.proofs.ListLaws.{number_exact, number_itself}
 use Rattle.vc_base.proofs.SetLaws.{both, has_back, has_cases, has_either, has_first, told}
-use Rattle.vc_rule_yield.specs.Filling.{Filled, with_items}
+use Rattle.vc_rule_yield.specs.Filling.{Filled}
 use Rattle.vc_net_laws.proofs.NetLaws.Working.{distinct_more}
-use Rattle.vc_net_agenda.specs.Pending.{IsMarked, pushed, with_last}
+use Rattle.vc_net_agenda.specs.Pending.{IsMarked, IsStacked, pushed, stack_in, with_last}
 
 -- past the end there is no flag
 past_none : (flags : List Bool) (n : ℕ) → length flags ≤ n → slice_index_or flags n false ≡ false
@@ -33,15 +34,25 @@ none_set zero n = refl
 none_set (suc count) zero = refl
 none_set (suc count) (suc n) = none_set count n
 
-pub marked_none : (flags : List Bool) (stack : Filled ℕ) (count : ℕ) → flags ≡ replicate count false
-    → stack ≡ record { items = []; room = count } → IsMarked flags stack
+pub marked_none : (flags : List Bool) (places : List ℕ) (count : ℕ) → flags ≡ replicate count false
+    → places ≡ replicate count 0 → IsStacked flags places 0
 unfolding IsDistinct
-marked_none flags stack count e f =
-    subst (IsMarked flags) (sym f) (record {
-      long = ap length e ∙ length-replicate count false;
-      marks = λ n. ap (λ fs. slice_index_or fs n false) e ∙ none_set count n;
-      once = tt;
-    })
+marked_none flags places count e f = record {
+  marked = record {
+    long =
+        ap length e ∙ (length-replicate count false ∙ (sym (length-replicate count 0) ∙ sym (ap length f)));
+    marks = λ n. ap (λ fs. slice_index_or fs n false) e ∙ none_set count n;
+    once = tt;
+  };
+  fits = omega arith;
+}
+
+pub none_yet : (places : List ℕ) (count : ℕ) → places ≡ replicate count 0
+    → stack_in places 0 ≡ record { items = []; room = count }
+none_yet places count e = ap (stacked []) (ap length e ∙ length-replicate count 0)
+  where
+    stacked : List ℕ → ℕ → Filled ℕ
+    stacked xs room = record { items = xs; room = room }
 
 -- another number is in a list with one more just where it was in the list
 or_false : (b : Bool) → (b || false) ≡ b
@@ -92,10 +103,6 @@ room_left flags stack n m below new =
     ]) in
     omega (arith, all, length-append stack.items (n ∷ []))
 
-put : (stack : Filled ℕ) (n : ℕ) → length stack.items + 1 ≤ stack.room → with_items stack (n ∷ []) ≡ with_last stack n
-put stack n room =
-    ap (λ b. if b then with_last stack n else stack) (le-leb (length stack.items + 1) stack.room room)
-
 may_push : (stack : Filled ℕ) (n : ℕ) → n < stack.room → has nat_eq stack.items n ≡ false
     → pushed stack n ≡ with_last stack n
 may_push stack n below new =
@@ -103,23 +110,42 @@ may_push stack n below new =
     (and_from (nat_lt n stack.room) (not (has nat_eq stack.items n)) (lt-ltb n stack.room below)
     (not_from_false (has nat_eq stack.items n) new))
 
-pub is_pushed : (flags later : List Bool) (stack next : Filled ℕ) (n : ℕ) → IsMarked flags stack → n < stack.room
-    → has nat_eq stack.items n ≡ false → later ≡ slice_set flags n true → next ≡ with_items stack (n ∷ [])
-    → IsMarked later next × (next ≡ pushed stack n)
-is_pushed flags later stack next n m below new e f =
-    let is : next ≡ with_last stack n = f ∙ put stack n (room_left flags stack n m below new) in (
-      subst (λ fs. IsMarked fs next) (sym e)
-          (subst (IsMarked (slice_set flags n true)) (sym is) (comes flags stack n m below new)),
+pub place_left : (flags : List Bool) (places : List ℕ) (count n : ℕ) → IsStacked flags places count
+    → n < length places → has nat_eq (take count places) n ≡ false → count < length places
+place_left flags places count n m below new =
+    let room = room_left flags (stack_in places count) n m.marked below new in
+    omega (arith, room, length-take-le count places m.fits)
+
+pub is_pushed : (flags later : List Bool) (places next : List ℕ) (count n : ℕ) → IsStacked flags places count
+    → n < length places → has nat_eq (take count places) n ≡ false → later ≡ slice_set flags n true
+    → next ≡ slice_set places count n
+    → IsStacked later next (count + 1) × (stack_in next (count + 1) ≡ pushed (stack_in places count) n)
+is_pushed flags later places next count n m below new e f =
+    let stack = stack_in places count in
+    let small : count < length places = place_left flags places count n m below new in
+    let long : length (slice_set places count n) ≡ length places = length-set places count n in
+    let is : stack_in next (count + 1) ≡ with_last stack n
+    = ap (λ ps. stack_in ps (count + 1)) f
+    ∙ (ap (λ (xs : List ℕ). stacked xs (length (slice_set places count n))) (take_more_set places count n small)
+    ∙ ap (stacked (take count places ++ n ∷ [])) long) in (
+      record {
+        marked = subst (λ fs. IsMarked fs (stack_in next (count + 1))) (sym e)
+            (subst (IsMarked (slice_set flags n true)) (sym is) (comes flags stack n m.marked below new));
+        fits = subst (λ ps. count + 1 ≤ length ps) (sym f) (omega (arith, small, long));
+      },
       is ∙ sym (may_push stack n below new),
     )
+  where
+    stacked : List ℕ → ℕ → Filled ℕ
+    stacked xs room = record { items = xs; room = room }
 
--- the last element of a list, and those before it
-last_of : (xs : List ℕ) (k : ℕ) → length xs ≡ suc k → xs ≡ take k xs ++ slice_index_or xs k 0 ∷ []
-last_of [] k e = absurd (omega (arith, e))
-last_of (x ∷ []) zero e = refl
-last_of (x ∷ []) (suc k) e = absurd (omega (arith, e))
-last_of (x ∷ (y ∷ xs)) zero e = absurd (omega (arith, e))
-last_of (x ∷ (y ∷ xs)) (suc k) e = ap (λ zs. x ∷ zs) (last_of (y ∷ xs) k (omega (arith, e)))
+-- one more of a list's first elements
+take_last : (xs : List ℕ) (k : ℕ) → k < length xs → take (k + 1) xs ≡ take k xs ++ slice_index_or xs k 0 ∷ []
+take_last [] k e = absurd (omega (arith, e))
+take_last (x ∷ xs) zero e = refl
+take_last (x ∷ xs) (suc k) e =
+    let more : suc k + 1 ≡ suc (k + 1) = omega arith in
+    ap (λ n. take n (x ∷ xs)) more ∙ ap (λ zs. x ∷ zs) (take_last xs k (omega (arith, e)))
 
 -- what comes last once isn't before it, and what is before it is there once
 front_apart : (x : ℕ) (xs : List ℕ) (n : ℕ) → AllByRecursion (λ y. nat_eq x y ≡ false) (xs ++ n ∷ [])
@@ -157,38 +183,42 @@ goes flags xs room n m =
       once = once.0;
     }
 
--- the stack before the last number went, where it isn't empty
-module _ (flags : List Bool) (stack : Filled ℕ) (m : IsMarked flags stack) (count : ℕ) (is : count ≡ length stack.items)
-    (some : count ≡ 0 → ⊥) where
+-- the numbers before the last one went, where there is one
+module _ (flags : List Bool) (places : List ℕ) (count : ℕ) (m : IsStacked flags places count) (some : count ≡ 0 → ⊥) where
   positive : (n : ℕ) → (n ≡ 0 → ⊥) → 0 < n
   positive zero f = absurd (f refl)
   positive (suc n) f = omega arith
 
   abbrev front : List ℕ
-  front = take (count - 1) stack.items
+  front = take (count - 1) places
 
   abbrev last : ℕ
-  last = slice_index_or stack.items (count - 1) 0
+  last = slice_index_or places (count - 1) 0
 
-  pub all : stack.items ≡ front ++ last ∷ []
-  all = let low = positive count some in last_of stack.items (count - 1) (omega (arith, low, is))
+  pub place_there : count - 1 < length places
+  place_there = let low = positive count some in omega (arith, low, m.fits)
 
-  split : IsMarked flags (record { items = front ++ last ∷ []; room = stack.room })
-  split = record {
-    long = m.long;
-    marks = λ k. m.marks k ∙ ap (λ xs. has nat_eq xs k) all;
-    once = subst (IsDistinct nat_eq) all m.once;
-  }
+  all : take count places ≡ front ++ last ∷ []
+  all =
+      let low = positive count some in
+      let one_less : count ≡ (count - 1) + 1 = omega (arith, low) in
+      ap (λ n. take n places) one_less ∙ take_last places (count - 1) place_there
+
+  pub is_last : stack_in places count ≡ with_last (stack_in places (count - 1)) last
+  is_last = ap (λ (xs : List ℕ). stacked xs) all
+    where
+      stacked : List ℕ → Filled ℕ
+      stacked xs = record { items = xs; room = length places }
+
+  split : IsMarked flags (record { items = front ++ last ∷ []; room = length places })
+  split = subst (IsMarked flags) is_last m.marked
 
   -- the last number has a flag, and goes with it
-  pub last_below : (xs : List ℕ) → xs ≡ stack.items → slice_index_or xs (count - 1) 0 < length flags
-  last_below xs e =
-      subst (λ ys. slice_index_or ys (count - 1) 0 < length flags) (sym e)
-      (marked_below flags last (split.marks last ∙ last_has front last last (number_itself last)))
+  pub last_below : last < length flags
+  last_below = marked_below flags last (split.marks last ∙ last_has front last last (number_itself last))
 
-  pub is_popped : (xs : List ℕ) (later : List Bool) (next : Filled ℕ) → xs ≡ stack.items
-      → later ≡ slice_set flags (slice_index_or xs (count - 1) 0) false
-      → next ≡ record { items = take (count - 1) stack.items; room = stack.room } → IsMarked later next
-  is_popped xs later next e f g =
-      subst (λ fs. IsMarked fs next) (sym (f ∙ ap (λ ys. slice_set flags (slice_index_or ys (count - 1) 0) false) e))
-      (subst (IsMarked (slice_set flags last false)) (sym g) (goes flags front stack.room last split))
+  pub is_popped : (later : List Bool) → later ≡ slice_set flags last false → IsStacked later places (count - 1)
+  is_popped later e = record {
+    marked = subst (λ fs. IsMarked fs (stack_in places (count - 1))) (sym e) (goes flags front (length places) last split);
+    fits = omega (arith, place_there);
+  }

@@ -7,26 +7,26 @@ ghost use Rattle.vc_net_agenda.specs.Pending.{pushed, with_last};
 
 use std::alloc::{AllocError, Global};
 use std::marker::Model;
-use vc_rule_yield::Bounded;
 use vc_value::Listed;
 
 /// Numbers below a limit, each at most once, last in first out. All memory is taken at `new`.
 #[derive(Drop)]
 pub struct Pending {
     flags: Listed<bool>,
-    stack: Bounded<usize>,
+    places: Listed<usize>,
+    count: usize,
 }
 
 impl Model for Pending {
     ghost use Rattle.std.specs.Prelude.{ℕ};
     ghost use Rattle.vc_rule_yield.specs.Filling.{Filled};
-    ghost use Rattle.vc_net_agenda.specs.Pending.{IsMarked};
+    ghost use Rattle.vc_net_agenda.specs.Pending.{IsStacked, stack_in};
 
     ghost Value = { Filled ℕ };
 
-    ghost view = { λ s. s.stack };
+    ghost view = { λ s. stack_in s.places s.count };
 
-    ghost invariant = { λ s. IsMarked s.flags s.stack };
+    ghost invariant = { λ s. IsStacked s.flags s.places s.count };
 }
 
 impl Pending {
@@ -36,7 +36,8 @@ impl Pending {
     {
         Ok(Pending {
             flags: no_flags(alloc, limit)?,
-            stack: Bounded::new(alloc, limit)?,
+            places: no_places(alloc, limit)?,
+            count: 0,
         })
     }
 
@@ -54,16 +55,17 @@ impl Pending {
     pub fn is_empty(&self) -> bool
         ensures { result ≡ (length self.now.items == 0) }
     {
-        self.stack.len() == 0
+        self.count == 0
     }
 
     /// Lets the number wait, if it is below the limit and doesn't wait yet.
     pub fn push(&mut self, number: usize)
         ensures { self.new ≡ pushed self.old number }
     {
-        if number < self.stack.room() && !self.has(number) {
+        if number < self.places.len() && !self.has(number) {
             self.flags.set(number, true);
-            self.stack.push(number);
+            self.places.set(self.count, number);
+            self.count += 1;
         }
     }
 
@@ -72,13 +74,13 @@ impl Pending {
         ensures some { IfSome result (λ number. self.old ≡ with_last self.new number) }
         ensures none { IfNone result ((self.old.items ≡ []) × (self.new ≡ self.old)) }
     {
-        let count = self.stack.len();
-        if count == 0 {
+        if self.count == 0 {
             return None;
         }
-        let number = self.stack.as_slice()[count - 1];
+        let count = self.count - 1;
+        let number = self.places.as_slice()[count];
         self.flags.set(number, false);
-        self.stack.truncate(count - 1);
+        self.count = count;
         Some(number)
     }
 
@@ -99,4 +101,15 @@ fn no_flags(alloc: Global, count: usize) -> Result<Listed<bool>, AllocError>
         flags.push(false)?;
     }
     Ok(flags)
+}
+
+// No number stands yet, at so many places.
+fn no_places(alloc: Global, count: usize) -> Result<Listed<usize>, AllocError>
+    ensures { IfOk result (λ places. places ≡ replicate count 0) }
+{
+    let mut places = Listed::new(alloc);
+    for place in 0..count {
+        places.push(0)?;
+    }
+    Ok(places)
 }

@@ -4,4 +4,5 @@ use Rattle.vc_net_agenda.proofs.pending.Pending.new.Goals as goal
 
 pub invariant_of-result : goal.invariant_of-result
 invariant_of-result c =
-    marked_none c.in_ok-no_flags.field-0 c.in_ok-new.field-0 c.args.limit c.in_ok-no_flags.ensures c.in_ok-new.ensures
+    marked_none c.in_ok-no_flags.field-0 c.in_ok-no_places.field-0 c.args.limit c.in_ok-no_flags.ensures
+    c.in_ok-no_places.ensures
