@@ -16,8 +16,6 @@ mod rule_readings;
 #[cfg(test)]
 mod rule_sides;
 #[cfg(test)]
-mod rule_table;
-#[cfg(test)]
 mod rule_terms;
 #[cfg(test)]
 mod rule_yield;

@@ -9,23 +9,24 @@ use std::process::Abort;
 use std::test::Fail;
 use vc_plan::{Atom, Binding, Kind, Operand, Plan, Rule, Table, Var, View};
 use vc_rule_table_saying::say_table;
-use vc_rule_yield::Yield;
+use vc_rule_yield::{Scratch, Yield};
 use vc_value::{Domain, Listed, Value, Word};
 
-// Variable 0 has this text, no other variable has a value, and no grain is out.
+// The variable has this text, no other variable has a value, and no grain is out.
 #[derive(Drop)]
-struct FirstText {
+struct OneText {
+    var: u32,
     text: u32,
 }
 
-impl View for FirstText {
+impl View for OneText {
     ghost use Rattle.std.specs.Prelude.{true, false, ◌==◌, if◌then◌else◌, None, Some};
     ghost use Rattle.vc_value.specs.declared.value.Value.TheVariants.{Text};
 
     ghost seen = { λ s. record {
       here = λ i. true;
       out = λ v g. false;
-      value = λ v. if v == 0 then Some (Text s.text)
+      value = λ v. if v == s.var then Some (Text s.text)
           else None;
     } };
 
@@ -38,7 +39,7 @@ impl View for FirstText {
     }
 
     fn value(&self, var: u32) -> Option<Value> {
-        if var == 0 {
+        if var == self.var {
             Some(Value::Text(self.text))
         } else {
             None
@@ -152,61 +153,126 @@ fn rule_for<R: Abort>(rt: &R, alloc: Global, var: u32) -> Rule {
     }
 }
 
-// What is said of the variable in the second column, where that in the first has the text.
-fn said_of<R: Abort>(rt: &R, alloc: Global, var: u32, text: u32) -> Yield {
-    let plan = pairs(rt, alloc);
-    let rule = rule_for(rt, alloc, var);
-    let first = Binding {
-        column: 0,
-        operand: Operand::Variable(0),
-    };
-    let second = Binding {
-        column: 1,
-        operand: Operand::Variable(var),
-    };
-    let mut out = Yield::new(alloc, 9, 9, 9).expect(rt, "memory");
-    say_table(
-        &plan,
-        &FirstText { text },
-        &rule,
-        0,
-        &[first, second],
-        &mut out,
+fn first_is(text: u32) -> OneText {
+    OneText { var: 0, text }
+}
+
+// What is said where the columns are given these variables.
+fn say(plan: &Plan, rule: &Rule, view: &OneText, first: u32, second: u32, out: &mut Yield)
+    requires { atom_count plan.now < 2 ^ 32 }
+{
+    let columns = [
+        Binding {
+            column: 0,
+            operand: Operand::Variable(first),
+        },
+        Binding {
+            column: 1,
+            operand: Operand::Variable(second),
+        },
+    ];
+    out.clear();
+    say_table(plan, view, rule, 0, &columns, out);
+}
+
+// Whether this alone is said, from these premises.
+fn says(out: &Yield, atom: Atom, premises: &[Atom]) -> bool {
+    out.count() == 1 && out.atom(0) == atom && out.premises(0) == premises
+}
+
+fn says_nothing(out: &Yield) -> bool {
+    out.count() == 0 && out.clash().is_none()
+}
+
+fn says_two(out: &Yield, first: Atom, second: Atom, premises: &[Atom]) -> bool {
+    out.count() == 2 && out.atom(0) == first && out.atom(1) == second && out.premises(1) == premises
+}
+
+fn excludes_grains(plan: &Plan, rule: &Rule, out: &mut Yield) -> bool
+    requires { atom_count plan.now < 2 ^ 32 }
+{
+    say(plan, rule, &first_is(1), 0, 1, out);
+    let one = says(out, Atom::Out(1, 0), &[Atom::Is(0, Value::Text(1))]);
+    say(plan, rule, &first_is(0), 0, 1, out);
+    one && says_two(
+        out,
+        Atom::Out(1, 1),
+        Atom::Out(1, 2),
+        &[Atom::Is(0, Value::Text(0))],
+    )
+}
+
+fn agrees_on_a_cell(plan: &Plan, rule: &Rule, out: &mut Yield) -> bool
+    requires { atom_count plan.now < 2 ^ 32 }
+{
+    say(plan, rule, &first_is(0), 0, 2, out);
+    let one = says(
+        out,
+        Atom::Is(2, Value::Text(0)),
+        &[Atom::Is(0, Value::Text(0))],
     );
-    out
+    say(plan, rule, &first_is(1), 0, 2, out);
+    one && says_nothing(out)
+}
+
+fn clashes_without_a_row(plan: &Plan, rule: &Rule, out: &mut Yield) -> bool
+    requires { atom_count plan.now < 2 ^ 32 }
+{
+    say(plan, rule, &first_is(2), 0, 1, out);
+    out.clash() == Some(&[Atom::Is(0, Value::Text(2))])
+}
+
+// Of the rows the last has no grain in both columns, whatever the variable's value.
+fn has_a_grain_by_all_its_columns(plan: &Plan, rule: &Rule, out: &mut Yield) -> bool
+    requires { atom_count plan.now < 2 ^ 32 }
+{
+    say(plan, rule, &first_is(1), 1, 1, out);
+    let unknown = says(out, Atom::Out(1, 2), &[]);
+    say(plan, rule, &OneText { var: 1, text: 1 }, 1, 1, out);
+    unknown && says(out, Atom::Out(1, 2), &[])
 }
 
 #[test]
-fn excludes_grains(rt: HostRuntime) -> Result<(), Fail> {
-    let out = said_of(&rt, rt.alloc(), 1, 1);
-    assert_eq!(rt; out.count(), 1);
-    assert_eq!(rt; out.atom(0), Atom::Out(1, 0));
-    assert_eq!(rt; out.premises(0), [Atom::Is(0, Value::Text(1))].as_slice());
-    let two = said_of(&rt, rt.alloc(), 1, 0);
-    assert_eq!(rt; two.count(), 2);
-    assert_eq!(rt; two.atom(0), Atom::Out(1, 1));
-    assert_eq!(rt; two.premises(1), [Atom::Is(0, Value::Text(0))].as_slice());
+fn says_by_rows(rt: HostRuntime) -> Result<(), Fail> {
+    let plan = pairs(&rt, rt.alloc());
+    let mut out = Yield::new(rt.alloc(), 9, 9, 9)?;
+    let first = rule_for(&rt, rt.alloc(), 1);
+    let second = rule_for(&rt, rt.alloc(), 2);
+    let excluded = excludes_grains(&plan, &first, &mut out);
+    let agreed = agrees_on_a_cell(&plan, &second, &mut out);
+    let clashed = clashes_without_a_row(&plan, &first, &mut out);
+    let by_all = has_a_grain_by_all_its_columns(&plan, &first, &mut out);
+    drop(second);
+    drop(first);
+    drop(out);
+    drop(plan);
+    assert!(rt; excluded && agreed);
+    assert!(rt; clashed && by_all);
     Ok(())
 }
 
-#[test]
-fn agrees_on_a_cell(rt: HostRuntime) -> Result<(), Fail> {
-    let out = said_of(&rt, rt.alloc(), 2, 0);
-    assert_eq!(rt; out.count(), 1);
-    assert_eq!(rt; out.atom(0), Atom::Is(2, Value::Text(0)));
-    assert_eq!(rt; out.premises(0), [Atom::Is(0, Value::Text(0))].as_slice());
-    let several = said_of(&rt, rt.alloc(), 2, 1);
-    assert_eq!(rt; several.count(), 0);
-    assert!(rt; several.clash().is_none());
-    Ok(())
+// The scratch was written to where no row was possible.
+fn says_it_again(plan: &Plan, rule: &Rule, out: &mut Yield) -> bool
+    requires { atom_count plan.now < 2 ^ 32 }
+{
+    say(plan, rule, &first_is(2), 0, 1, out);
+    say(plan, rule, &first_is(1), 0, 1, out);
+    says(out, Atom::Out(1, 0), &[Atom::Is(0, Value::Text(1))])
 }
 
+// Room for notes of all three rows, and of one.
 #[test]
-fn clashes_without_a_row(rt: HostRuntime) -> Result<(), Fail> {
-    let out = said_of(&rt, rt.alloc(), 1, 2);
-    assert_eq!(rt;
-        out.clash().ok_or("no clash")?,
-        [Atom::Is(0, Value::Text(2))].as_slice()
-    );
+fn says_the_same_from_scratch(rt: HostRuntime) -> Result<(), Fail> {
+    let plan = pairs(&rt, rt.alloc());
+    let mut out = Yield::new(rt.alloc(), 9, 9, 9)?;
+    let rule = rule_for(&rt, rt.alloc(), 1);
+    out.put_scratch(Scratch::new(rt.alloc(), 3, 3).expect(&rt, "memory"));
+    let whole = says_it_again(&plan, &rule, &mut out);
+    out.put_scratch(Scratch::new(rt.alloc(), 1, 3).expect(&rt, "memory"));
+    let short = says_it_again(&plan, &rule, &mut out);
+    drop(rule);
+    drop(out);
+    drop(plan);
+    assert!(rt; whole && short);
     Ok(())
 }
