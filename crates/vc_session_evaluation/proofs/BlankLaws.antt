@@ -1,7 +1,7 @@
 -- Lists that have nothing but at some places, and what is written where statements write alone.
 use Rattle.std.proofs.Common.{◌≡◌, ℕ, ◌-◌, ◌<◌, ◌≤◌, true, List, length, drop, get_or}
 use Rattle.std.proofs.Common.{replicate, take, refl, sym, ap, ◌∙◌}
-use Rattle.std.specs.Prelude.{Option, None, Some, option_map, slice_set}
+use Rattle.std.specs.Prelude.{Option, None, Some, option_map, slice_index_or, slice_set}
 use Rattle.std.proofs.lemmas.List.{length-replicate}
 use Rattle.vc_plan.specs.declared.plans.Plan.{Plan}
 use Rattle.vc_plan.specs.Entries.{Entries, Written, entry_in, written_at}
@@ -34,6 +34,14 @@ pub blank_at_end : {A : Type 0} (rest : List ℕ) (xs : List (Option A)) (n : �
 blank_at_end {A = A} rest xs n last long blank =
     same_at_end rest xs (replicate n empty) last (long ∙ sym (length-replicate n empty))
     (λ v none. blank v none ∙ sym (none_in n v empty refl))
+  where
+    empty : Option A
+    empty = None
+
+-- nothing anywhere
+pub none_blank : {A : Type 0} (vars : List ℕ) (xs : List (Option A)) (n : ℕ) → xs ≡ replicate n None
+    → IsBlankBeside vars xs
+none_blank {A = A} vars xs n is v none = ap (λ ys. slice_index_or ys v empty) is ∙ none_in n v empty refl
   where
     empty : Option A
     empty = None

@@ -1,17 +1,39 @@
 -- What each stage does to what an evaluation works on.
-use Rattle.std.specs.Prelude.{◌≡◌, ℕ, suc, Bool, not, ◌==◌, List, length, map, slice_get, slice_set, Some}
-use Rattle.std.specs.Prelude.{if◌then◌else◌}
+use Rattle.std.specs.Prelude.{◌≡◌, ℕ, suc, Bool, true, not, ◌==◌, List, length, map, replicate, slice_get, slice_set}
+use Rattle.std.specs.Prelude.{if◌then◌else◌, None, Some}
 use Rattle.vc_plan.specs.declared.plans.Plan.{Plan}
 use Rattle.vc_plan.specs.Domains.{numbers_below}
 use Rattle.vc_plan.specs.Evaluate.{Users, holds, sources_of}
+use Rattle.vc_plan.specs.Fitting.{users_fit}
 use Rattle.vc_plan.specs.Writes.{last_stage}
+use Rattle.vc_plan_users.specs.Choosing.{Chosen, users_of}
 use Rattle.vc_net.specs.Nets.{Netted}
 use Rattle.vc_proc.specs.Overlays.{EntriesLie}
 use Rattle.vc_proc.specs.Stages.{stage_written}
 use Rattle.vc_rule_terms.specs.Computing.{LiesInGrains}
 use Rattle.vc_session_stages.specs.Stages.{is_late_seen, was_seen}
-use Rattle.vc_session_evaluation.specs.Evaluating.{AreStagesOf, HasSettled, said_by}
+use Rattle.vc_session_evaluation.specs.Costing.{EvaluationCosts}
+use Rattle.vc_session_evaluation.specs.Evaluating.{AreStagesOf, HasSettled, IsEvaluated, said_by}
+use Rattle.vc_session_evaluation.specs.Following.{FollowBeside}
+use Rattle.vc_session_evaluation.specs.Writing.{IsBlankBeside}
 use Rattle.vc_session_evaluation.specs.declared.stages.Stages.{Stages}
+
+-- the stages may be gone through with what the user chose: the sources have it, and nothing is written yet; the first
+-- so many nets have it too, but for these variables
+pub record MayGo (plan : Plan) (chosen : Chosen) (following : ℕ) (touched : List ℕ) (old : Stages) : Type 0 where
+  pub users : length chosen.values ≡ length plan.vars
+  pub fit : users_fit plan (users_of chosen) ≡ true
+  pub cleared : old.overlay ≡ replicate (length plan.vars) None
+  pub taken : old.sources.user ≡ chosen.values
+  pub follow : FollowBeside touched chosen.values following old.nets.items
+
+-- they have been, up to the first that is broken; these were their nets before
+pub record HaveGone (plan : Plan) (chosen : Chosen) (nets : List Netted) (new : Stages) (before after : ℕ) : Type 0
+  where
+    pub evaluated : IsEvaluated plan (users_of chosen) new
+    pub cost : EvaluationCosts plan (users_of chosen) nets new before after
+    pub taken : new.sources.user ≡ chosen.values
+    pub blank : IsBlankBeside new.written new.overlay
 
 -- the net of a stage has settled, or not, with the user's values and what was written, which then are the sources; all
 -- else is as before

@@ -39,7 +39,7 @@ pub struct Stages {
 }
 
 impl Stages {
-    ghost use Rattle.std.specs.Prelude.{◌≡◌, ◌+◌, ◌<◌, true, false, None, length, replicate, IfOk};
+    ghost use Rattle.std.specs.Prelude.{◌≡◌, ◌+◌, ◌<◌, true, false, None, length, IfOk};
     ghost use Rattle.vc_plan.specs.Evaluate.{holds, sources_of};
     ghost use Rattle.vc_plan.specs.Fitting.{users_fit};
     ghost use Rattle.vc_plan.specs.Valid.{IsValid};
@@ -51,10 +51,9 @@ impl Stages {
     ghost use Rattle.std.specs.List.{AllByRecursion};
     ghost use Rattle.vc_session_evaluation.specs.Costing.{EvaluationCosts, HasAllBehind, SyncsAt, nets_asked};
     ghost use Rattle.vc_session_evaluation.specs.Evaluating.{AreStagesOf, IsEvaluated, writes_nothing};
-    ghost use Rattle.vc_session_evaluation.specs.Following.{DifferAt, FollowBeside, FollowsBeside, HaveTaken};
-    ghost use Rattle.vc_session_evaluation.specs.Going.{FlagsLateOnes, LiesAt, SettlesAt, WritesAfter};
+    ghost use Rattle.vc_session_evaluation.specs.Following.{DifferAt, FollowsBeside, HaveTaken};
+    ghost use Rattle.vc_session_evaluation.specs.Going.{FlagsLateOnes, HaveGone, LiesAt, MayGo, SettlesAt, WritesAfter};
     ghost use Rattle.vc_session_evaluation.specs.Going.{flags_before, with_late};
-    ghost use Rattle.vc_session_evaluation.specs.Writing.{IsBlankBeside};
 
     /// Nets that haven't settled, each with all things behind, and nothing written; with these orders.
     pub fn new(alloc: Global, plan: &Plan, look_ups: SharedLookUps) -> Result<Stages, AllocError>
@@ -144,16 +143,9 @@ impl Stages {
     )
         requires valid { IsValid plan.now }
         requires of { AreStagesOf plan.now self.old }
-        requires users { length users.now.values ≡ length plan.now.vars }
-        requires fit { users_fit plan.now (users_of users.now) ≡ true }
-        requires cleared { self.old.overlay ≡ replicate (length plan.now.vars) None }
-        requires taken { self.old.sources.user ≡ users.now.values }
-        requires follow { FollowBeside touched.now users.now.values following self.old.nets.items }
+        requires may { MayGo plan.now users.now following touched.now self.old }
         ensures of { AreStagesOf plan.now self.new }
-        ensures evaluated { IsEvaluated plan.now (users_of users.now) self.new }
-        ensures cost { EvaluationCosts plan.now (users_of users.now) self.old.nets.items self.new steps.old steps.new }
-        ensures taken { self.new.sources.user ≡ users.now.values }
-        ensures blank { IsBlankBeside self.new.written self.new.overlay }
+        ensures gone { HaveGone plan.now users.now self.old.nets.items self.new steps.old steps.new }
     {
         self.broken = None;
         if writes_nothing(plan) {
@@ -174,18 +166,11 @@ impl Stages {
     )
         requires valid { IsValid plan.now }
         requires of { AreStagesOf plan.now self.old }
-        requires users { length users.now.values ≡ length plan.now.vars }
-        requires fit { users_fit plan.now (users_of users.now) ≡ true }
-        requires cleared { self.old.overlay ≡ replicate (length plan.now.vars) None }
+        requires may { MayGo plan.now users.now following touched.now self.old }
         requires none { writes_nothing plan.now ≡ true }
         requires calm { self.old.broken ≡ None }
-        requires taken { self.old.sources.user ≡ users.now.values }
-        requires follow { FollowBeside touched.now users.now.values following self.old.nets.items }
         ensures of { AreStagesOf plan.now self.new }
-        ensures evaluated { IsEvaluated plan.now (users_of users.now) self.new }
-        ensures cost { EvaluationCosts plan.now (users_of users.now) self.old.nets.items self.new steps.old steps.new }
-        ensures taken { self.new.sources.user ≡ users.now.values }
-        ensures blank { IsBlankBeside self.new.written self.new.overlay }
+        ensures gone { HaveGone plan.now users.now self.old.nets.items self.new steps.old steps.new }
     {
         if self.settle(plan, users, 0, following, touched, steps) {
             flag_none(&mut self.late);
@@ -205,18 +190,11 @@ impl Stages {
     )
         requires valid { IsValid plan.now }
         requires of { AreStagesOf plan.now self.old }
-        requires users { length users.now.values ≡ length plan.now.vars }
-        requires fit { users_fit plan.now (users_of users.now) ≡ true }
-        requires cleared { self.old.overlay ≡ replicate (length plan.now.vars) None }
+        requires may { MayGo plan.now users.now following touched.now self.old }
         requires some { writes_nothing plan.now ≡ false }
         requires calm { self.old.broken ≡ None }
-        requires taken { self.old.sources.user ≡ users.now.values }
-        requires follow { FollowBeside touched.now users.now.values following self.old.nets.items }
         ensures of { AreStagesOf plan.now self.new }
-        ensures evaluated { IsEvaluated plan.now (users_of users.now) self.new }
-        ensures cost { EvaluationCosts plan.now (users_of users.now) self.old.nets.items self.new steps.old steps.new }
-        ensures taken { self.new.sources.user ≡ users.now.values }
-        ensures blank { IsBlankBeside self.new.written self.new.overlay }
+        ensures gone { HaveGone plan.now users.now self.old.nets.items self.new steps.old steps.new }
     {
         let last = stages(plan) - 1;
         for stage in 0..last {

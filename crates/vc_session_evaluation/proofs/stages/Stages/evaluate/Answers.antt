@@ -1,6 +1,7 @@
 -- The user's values are put into the sources, and all stages gone through.
 use Rattle.std.proofs.Common.{None, ◌∙◌, ap, arith, refl, replicate}
 use Rattle.vc_net.proofs.PlanFacts.{vars_fit}
+use Rattle.vc_plan.specs.Sources.{Sources}
 use Rattle.vc_plan_users.specs.Choosing.{users_of}
 use Rattle.vc_session_evaluation.proofs.CostLaws.{took}
 use Rattle.vc_session_evaluation.proofs.GoingLaws.{users_put}
@@ -15,18 +16,19 @@ go_through-requires-clause-of g c =
     c.clear.ensures
     c.fill_users.ensures refl refl refl
 
-pub go_through-requires-clause-follow : goal.go_through-requires-clause-follow
-go_through-requires-clause-follow g c =
-    λ k net below at. absurd (omega (arith, below))
-
-pub go_through-requires-clause-cleared : goal.go_through-requires-clause-cleared
-go_through-requires-clause-cleared g c =
-    c.clear.ensures ∙ ap (λ n. replicate n None) c.requires.of.overlay
+pub go_through-requires-clause-may : goal.go_through-requires-clause-may
+go_through-requires-clause-may g c = record {
+  users = c.requires.users;
+  fit = c.requires.fit;
+  cleared = c.clear.ensures ∙ ap (λ n. replicate n None) c.requires.of.overlay;
+  taken = ap (λ (s : Sources). s.user) c.fill_users.ensures;
+  follow = λ k net below at. absurd (omega (arith, below));
+}
 
 pub returns-clause-taken : goal.returns-clause-taken
 returns-clause-taken g c = record {
-  sources = c.go_through.ensures.taken;
-  blank = c.go_through.ensures.blank;
+  sources = c.go_through.ensures.gone.taken;
+  blank = c.go_through.ensures.gone.blank;
   nets = λ k net below at.
-      took c.args.plan.now (users_of c.args.users.now) 0 _ _ _ _ _ c.go_through.ensures.cost k net below at;
+      took c.args.plan.now (users_of c.args.users.now) 0 _ _ _ _ _ c.go_through.ensures.gone.cost k net below at;
 }

@@ -1,6 +1,7 @@
 -- The user's values are put into the sources, and all stages gone through.
 use Rattle.std.proofs.Common.{None, ◌∙◌, ap, refl, replicate, subst, sym}
 use Rattle.vc_net.specs.Differing.{SameBeside}
+use Rattle.vc_plan.specs.Sources.{Sources}
 use Rattle.vc_plan_users.specs.Choosing.{users_of}
 use Rattle.vc_session_evaluation.specs.Writing.{IsBlankBeside}
 use Rattle.vc_session_evaluation.proofs.CostLaws.{took}
@@ -23,19 +24,20 @@ go_through-requires-clause-of g c =
     c.clear_at.ensures
     c.fill_users_at.ensures refl refl refl
 
-pub go_through-requires-clause-follow : goal.go_through-requires-clause-follow
-go_through-requires-clause-follow g c =
-    all_follow c.args.touched.now c.args.self.now c.args.users.now.values c.nets_asked-following.result _
-    c.requires.touched c.nets_asked-following.ensures refl
-
-pub go_through-requires-clause-cleared : goal.go_through-requires-clause-cleared
-go_through-requires-clause-cleared g c =
-    c.clear_at.ensures ∙ ap (λ n. replicate n None) c.requires.of.overlay
+pub go_through-requires-clause-may : goal.go_through-requires-clause-may
+go_through-requires-clause-may g c = record {
+  users = c.requires.users;
+  fit = c.requires.fit;
+  cleared = c.clear_at.ensures ∙ ap (λ n. replicate n None) c.requires.of.overlay;
+  taken = ap (λ (s : Sources). s.user) c.fill_users_at.ensures;
+  follow = all_follow c.args.touched.now c.args.self.now c.args.users.now.values c.nets_asked-following.result _
+      c.requires.touched c.nets_asked-following.ensures refl;
+}
 
 pub returns-clause-taken : goal.returns-clause-taken
 returns-clause-taken g c = record {
-  sources = c.go_through.ensures.taken;
-  blank = c.go_through.ensures.blank;
+  sources = c.go_through.ensures.gone.taken;
+  blank = c.go_through.ensures.gone.blank;
   nets = λ k net below at.
-      took c.args.plan.now (users_of c.args.users.now) 0 _ _ _ _ _ c.go_through.ensures.cost k net below at;
+      took c.args.plan.now (users_of c.args.users.now) 0 _ _ _ _ _ c.go_through.ensures.gone.cost k net below at;
 }

@@ -16,22 +16,13 @@ use Rattle.vc_session_evaluation.proofs.stages.Stages.go_on.Goals as goal
 
 pub loop-stage-init : goal.loop-stage-init
 loop-stage-init g c = record {
-  at = begins c.args.plan.now (users_of c.args.users.now) c.args.self.now _ c.requires.valid c.requires.fit
-      c.requires.of c.requires.some refl refl refl refl refl refl c.requires.cleared;
+  at = begins c.args.plan.now (users_of c.args.users.now) c.args.self.now _ c.requires.valid c.requires.may.fit
+      c.requires.of c.requires.some refl refl refl refl refl refl c.requires.may.cleared;
   calm = c.requires.calm;
-  taken = c.requires.taken;
+  taken = c.requires.may.taken;
   later = λ i h. refl;
   cost = (refl, refl);
 }
-
-pub returns-then-not-settle-clause-evaluated : goal.returns-then-not-settle-clause-evaluated
-returns-then-not-settle-clause-evaluated g c =
-    let plan = c.args.plan.now in
-    let users = users_of c.args.users.now in
-    breaks plan users c.loop-stage.stage c.loop-stage.self c.settle.new.self _
-    (omega (arith, c.loop-stage-test.true, c.stages-last.ensures)) c.loop-stage.invariant.at
-    (subst (SettlesAt plan users c.loop-stage.stage c.loop-stage.self c.settle.new.self) c.if-not-settle.true
-    c.settle.ensures.settles) refl refl
 
 pub write-requires-clause-lies : goal.write-requires-clause-lies
 write-requires-clause-lies g c =
@@ -54,7 +45,7 @@ loop-stage-preserved g c =
     let next : suc c.loop-stage.stage ≡ c.loop-stage.stage + 1 = omega arith in
     record {
       at = goes_on plan users c.loop-stage.stage c.loop-stage.self c.settle.new.self c.write.new.self c.requires.valid
-          c.requires.fit
+          c.requires.may.fit
           (omega (arith, c.loop-stage-test.true, c.stages-last.ensures)) c.loop-stage.invariant.at
           (subst (SettlesAt plan users c.loop-stage.stage c.loop-stage.self c.settle.new.self) c.if-not-settle.false
           c.settle.ensures.settles)
@@ -74,115 +65,83 @@ loop-stage-preserved g c =
           c.loop-stage.invariant.cost c.settle.ensures.syncs));
     }
 
-pub returns-then-settle-clause-evaluated : goal.returns-then-settle-clause-evaluated
-returns-then-settle-clause-evaluated g c =
-    let plan = c.args.plan.now in
-    let users = users_of c.args.users.now in
-    let last : ℕ = c.stages-last.result - 1 in
-    let there : c.loop-stage.stage ≡ last = omega (arith, c.loop-stage-test.false, c.loop-stage.auto.stage-end) in
-    let calm : c.mark_late.new.self.broken ≡ None =
-    c.mark_late.ensures.broken ∙ c.settle-2.ensures.settles.broken ∙ c.loop-stage.invariant.calm in
-    subst (EndsAt plan users c.mark_late.new.self) (sym calm)
-    (ends plan users last c.loop-stage.self c.settle-2.new.self c.mark_late.new.self
-    (omega (arith, c.stages-last.ensures))
-    (subst (IsAt plan users c.loop-stage.self) there c.loop-stage.invariant.at)
-    (subst (SettlesAt plan users last c.loop-stage.self c.settle-2.new.self) c.if-settle.true
-    c.settle-2.ensures.settles)
-    c.mark_late.ensures)
-
-pub returns-else-settle-clause-evaluated : goal.returns-else-settle-clause-evaluated
-returns-else-settle-clause-evaluated g c =
-    let plan = c.args.plan.now in
-    let users = users_of c.args.users.now in
-    let last : ℕ = c.stages-last.result - 1 in
-    let there : c.loop-stage.stage ≡ last = omega (arith, c.loop-stage-test.false, c.loop-stage.auto.stage-end) in
-    breaks plan users last c.loop-stage.self c.settle-2.new.self _ (omega (arith, c.stages-last.ensures))
-    (subst (IsAt plan users c.loop-stage.self) there c.loop-stage.invariant.at)
-    (subst (SettlesAt plan users last c.loop-stage.self c.settle-2.new.self) c.if-settle.false
-    c.settle-2.ensures.settles) refl refl
-
-pub returns-then-not-settle-clause-cost : goal.returns-then-not-settle-clause-cost
-returns-then-not-settle-clause-cost g c =
-    let plan = c.args.plan.now in
-    let users = users_of c.args.users.now in
-    stage_next plan users c.loop-stage.stage c.args.self.now.nets.items c.loop-stage.self c.settle.new.self
-    c.args.steps.now c.loop-stage.steps c.settle.new.steps
-    (omega (arith, c.loop-stage-test.true, c.stages-last.ensures)) c.loop-stage.invariant.at
-    c.loop-stage.invariant.cost c.settle.ensures.syncs
-
-pub returns-else-settle-clause-cost : goal.returns-else-settle-clause-cost
-returns-else-settle-clause-cost g c =
-    let plan = c.args.plan.now in
-    let users = users_of c.args.users.now in
-    let last : ℕ = c.stages-last.result - 1 in
-    let there : c.loop-stage.stage ≡ last = omega (arith, c.loop-stage-test.false, c.loop-stage.auto.stage-end) in
-    stage_next plan users last c.args.self.now.nets.items c.loop-stage.self c.settle-2.new.self
-    c.args.steps.now c.loop-stage.steps c.settle-2.new.steps (omega (arith, c.stages-last.ensures))
-    (subst (IsAt plan users c.loop-stage.self) there c.loop-stage.invariant.at)
-    (subst (λ n. GoOn plan users 0 n c.args.self.now.nets.items c.loop-stage.self.nets.items c.args.steps.now
-    c.loop-stage.steps) there c.loop-stage.invariant.cost) c.settle-2.ensures.syncs
-
-pub returns-then-settle-clause-cost : goal.returns-then-settle-clause-cost
-returns-then-settle-clause-cost g c =
-    let plan = c.args.plan.now in
-    let users = users_of c.args.users.now in
-    let last : ℕ = c.stages-last.result - 1 in
-    let there : c.loop-stage.stage ≡ last = omega (arith, c.loop-stage-test.false, c.loop-stage.auto.stage-end) in
-    let calm : c.mark_late.new.self.broken ≡ None =
-    c.mark_late.ensures.broken ∙ c.settle-2.ensures.settles.broken ∙ c.loop-stage.invariant.calm in
-    let all : suc last ≡ nets_asked c.mark_late.new.self.nets.items c.mark_late.new.self.broken =
-    (omega (
-      arith,
-      c.stages-last.ensures,
-      nets_apart plan c.mark_late.new.self c.mark_late.ensures.of c.requires.some,
-    ))
-    ∙ ap (nets_asked c.mark_late.new.self.nets.items) (sym calm) in
-    subst (λ n. GoOn plan users 0 n c.args.self.now.nets.items c.mark_late.new.self.nets.items c.args.steps.now
-    c.settle-2.new.steps) all
-    (subst (λ nets. GoOn plan users 0 (suc last) c.args.self.now.nets.items nets c.args.steps.now c.settle-2.new.steps)
-    (sym c.mark_late.ensures.nets)
-    (stage_next plan users last c.args.self.now.nets.items c.loop-stage.self c.settle-2.new.self
-    c.args.steps.now c.loop-stage.steps c.settle-2.new.steps (omega (arith, c.stages-last.ensures))
-    (subst (IsAt plan users c.loop-stage.self) there c.loop-stage.invariant.at)
-    (subst (λ n. GoOn plan users 0 n c.args.self.now.nets.items c.loop-stage.self.nets.items c.args.steps.now
-    c.loop-stage.steps) there c.loop-stage.invariant.cost) c.settle-2.ensures.syncs))
-
 pub settle-requires-clause-follows : goal.settle-requires-clause-follows
 settle-requires-clause-follows g c =
     follows_on c.args.touched.now c.args.users.now.values c.args.following c.loop-stage.stage c.loop-stage.stage
-    c.args.self.now.nets.items c.loop-stage.self.nets.items c.requires.follow c.loop-stage.invariant.later
+    c.args.self.now.nets.items c.loop-stage.self.nets.items c.requires.may.follow c.loop-stage.invariant.later
     (omega arith)
 
-pub returns-then-not-settle-clause-taken : goal.returns-then-not-settle-clause-taken
-returns-then-not-settle-clause-taken g c = ap (λ (s : Sources). s.user) c.settle.ensures.settles.sources
-
-pub returns-then-settle-clause-taken : goal.returns-then-settle-clause-taken
-returns-then-settle-clause-taken g c =
-    ap (λ (s : Sources). s.user) (c.mark_late.ensures.sources ∙ c.settle-2.ensures.settles.sources)
-
-pub returns-else-settle-clause-taken : goal.returns-else-settle-clause-taken
-returns-else-settle-clause-taken g c = ap (λ (s : Sources). s.user) c.settle-2.ensures.settles.sources
-
-pub returns-then-not-settle-clause-blank : goal.returns-then-not-settle-clause-blank
-returns-then-not-settle-clause-blank g c =
+pub returns-then-not-settle-clause-gone : goal.returns-then-not-settle-clause-gone
+returns-then-not-settle-clause-gone g c =
     let plan = c.args.plan.now in
     let users = users_of c.args.users.now in
-    let s = c.settle.ensures.settles in
-    entries_blank plan users c.settle.new.self.overlay c.settle.new.self.written s.of.writes
-    (ap (λ entries. sources_fit plan (sources_of users entries)) s.overlay ∙ c.loop-stage.invariant.at.fits)
+    let stage = c.loop-stage.stage in
+    let mid = c.settle.new.self in
+    let at = c.loop-stage.invariant.at in
+    let settles = subst (SettlesAt plan users stage c.loop-stage.self mid) c.if-not-settle.true
+    c.settle.ensures.settles in
+    record {
+      evaluated = breaks plan users stage c.loop-stage.self mid _
+          (omega (arith, c.loop-stage-test.true, c.stages-last.ensures)) at settles refl refl;
+      cost = stage_next plan users stage c.args.self.now.nets.items c.loop-stage.self mid
+          c.args.steps.now c.loop-stage.steps c.settle.new.steps
+          (omega (arith, c.loop-stage-test.true, c.stages-last.ensures)) at
+          c.loop-stage.invariant.cost c.settle.ensures.syncs;
+      taken = ap (λ (s : Sources). s.user) settles.sources;
+      blank = entries_blank plan users mid.overlay mid.written settles.of.writes
+          (ap (λ entries. sources_fit plan (sources_of users entries)) settles.overlay ∙ at.fits);
+    }
 
-pub returns-then-settle-clause-blank : goal.returns-then-settle-clause-blank
-returns-then-settle-clause-blank g c =
+pub returns-then-settle-clause-gone : goal.returns-then-settle-clause-gone
+returns-then-settle-clause-gone g c =
     let plan = c.args.plan.now in
     let users = users_of c.args.users.now in
-    entries_blank plan users c.mark_late.new.self.overlay c.mark_late.new.self.written c.mark_late.ensures.of.writes
-    (ap (λ entries. sources_fit plan (sources_of users entries))
-    (c.mark_late.ensures.overlay ∙ c.settle-2.ensures.settles.overlay) ∙ c.loop-stage.invariant.at.fits)
+    let last : ℕ = c.stages-last.result - 1 in
+    let mid = c.settle-2.new.self in
+    let new = c.mark_late.new.self in
+    let marks = c.mark_late.ensures in
+    let there : c.loop-stage.stage ≡ last = omega (arith, c.loop-stage-test.false, c.loop-stage.auto.stage-end) in
+    let at = subst (IsAt plan users c.loop-stage.self) there c.loop-stage.invariant.at in
+    let settles = subst (SettlesAt plan users last c.loop-stage.self mid) c.if-settle.true
+    c.settle-2.ensures.settles in
+    let calm : new.broken ≡ None = marks.broken ∙ settles.broken ∙ c.loop-stage.invariant.calm in
+    let all : suc last ≡ nets_asked new.nets.items new.broken =
+    (omega (arith, c.stages-last.ensures, nets_apart plan new marks.of c.requires.some))
+    ∙ ap (nets_asked new.nets.items) (sym calm) in
+    record {
+      evaluated = subst (EndsAt plan users new) (sym calm)
+          (ends plan users last c.loop-stage.self mid new (omega (arith, c.stages-last.ensures)) at settles marks);
+      cost = subst (λ n. GoOn plan users 0 n c.args.self.now.nets.items new.nets.items c.args.steps.now
+          c.settle-2.new.steps) all
+          (subst (λ nets. GoOn plan users 0 (suc last) c.args.self.now.nets.items nets c.args.steps.now
+          c.settle-2.new.steps) (sym marks.nets)
+          (stage_next plan users last c.args.self.now.nets.items c.loop-stage.self mid
+          c.args.steps.now c.loop-stage.steps c.settle-2.new.steps (omega (arith, c.stages-last.ensures)) at
+          (subst (λ n. GoOn plan users 0 n c.args.self.now.nets.items c.loop-stage.self.nets.items c.args.steps.now
+          c.loop-stage.steps) there c.loop-stage.invariant.cost) c.settle-2.ensures.syncs));
+      taken = ap (λ (s : Sources). s.user) (marks.sources ∙ settles.sources);
+      blank = entries_blank plan users new.overlay new.written marks.of.writes
+          (ap (λ entries. sources_fit plan (sources_of users entries)) (marks.overlay ∙ settles.overlay) ∙ at.fits);
+    }
 
-pub returns-else-settle-clause-blank : goal.returns-else-settle-clause-blank
-returns-else-settle-clause-blank g c =
+pub returns-else-settle-clause-gone : goal.returns-else-settle-clause-gone
+returns-else-settle-clause-gone g c =
     let plan = c.args.plan.now in
     let users = users_of c.args.users.now in
-    let s = c.settle-2.ensures.settles in
-    entries_blank plan users c.settle-2.new.self.overlay c.settle-2.new.self.written s.of.writes
-    (ap (λ entries. sources_fit plan (sources_of users entries)) s.overlay ∙ c.loop-stage.invariant.at.fits)
+    let last : ℕ = c.stages-last.result - 1 in
+    let mid = c.settle-2.new.self in
+    let there : c.loop-stage.stage ≡ last = omega (arith, c.loop-stage-test.false, c.loop-stage.auto.stage-end) in
+    let at = subst (IsAt plan users c.loop-stage.self) there c.loop-stage.invariant.at in
+    let settles = subst (SettlesAt plan users last c.loop-stage.self mid) c.if-settle.false
+    c.settle-2.ensures.settles in
+    record {
+      evaluated = breaks plan users last c.loop-stage.self mid _ (omega (arith, c.stages-last.ensures)) at settles refl
+          refl;
+      cost = stage_next plan users last c.args.self.now.nets.items c.loop-stage.self mid
+          c.args.steps.now c.loop-stage.steps c.settle-2.new.steps (omega (arith, c.stages-last.ensures)) at
+          (subst (λ n. GoOn plan users 0 n c.args.self.now.nets.items c.loop-stage.self.nets.items c.args.steps.now
+          c.loop-stage.steps) there c.loop-stage.invariant.cost) c.settle-2.ensures.syncs;
+      taken = ap (λ (s : Sources). s.user) settles.sources;
+      blank = entries_blank plan users mid.overlay mid.written settles.of.writes
+          (ap (λ entries. sources_fit plan (sources_of users entries)) settles.overlay ∙ at.fits);
+    }
