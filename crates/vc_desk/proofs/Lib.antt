@@ -4,3 +4,4 @@ pub mod CostLaws
 pub mod EditLaws
 pub mod OpenLaws
 pub mod SavedLaws
+pub mod TaskLaws

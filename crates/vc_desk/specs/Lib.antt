@@ -6,4 +6,5 @@ pub mod Edits
 pub mod Reasons
 pub mod Saved
 pub mod States
+pub mod Tasks
 pub mod Telling

@@ -7,11 +7,9 @@ ghost use Rattle.vc_desk.specs.Answers.{Apply};
 ghost use Rattle.vc_desk.specs.Costing.{AnswerSpends};
 ghost use Rattle.vc_desk.specs.Desks.{AreSessionsOf, KeepsLookUps, state_of};
 
-use crate::edits::Edit;
-use crate::reasons::Question;
 use crate::saved::{forget, load, save};
 use crate::sessions::Sessions;
-use crate::telling::Told;
+use crate::tasks::{Task, task_of};
 use std::alloc::Global;
 use std::marker::Model;
 use std::sync::ledger::Ledger;
@@ -68,105 +66,15 @@ fn answer_with<K: Keeper, L: Ledger>(
     ensures spends { AnswerSpends plan.now sessions.old request.now result sessions.new steps.old steps.new }
     ensures begun { K.begun keeper.new ≡ K.begun keeper.old }
 {
-    match request {
-        Request::Start { session } => sessions.open(alloc, plan, look_ups, session),
-        Request::Close { session } => sessions.close(plan, session),
-        Request::Set {
-            session,
-            instance,
-            characteristic,
-            value,
-        } => sessions.edit(
-            plan,
-            session,
-            Edit::Set {
-                instance: *instance,
-                characteristic,
-                value,
-            },
-            steps,
-        ),
-        Request::Add {
-            session,
-            instance,
-            characteristic,
-            value,
-        } => sessions.edit(
-            plan,
-            session,
-            Edit::Add {
-                instance: *instance,
-                characteristic,
-                value,
-            },
-            steps,
-        ),
-        Request::Retract {
-            session,
-            instance,
-            characteristic,
-        } => sessions.edit(
-            plan,
-            session,
-            Edit::Retract {
-                instance: *instance,
-                characteristic,
-            },
-            steps,
-        ),
-        Request::Drop {
-            session,
-            instance,
-            characteristic,
-            value,
-        } => sessions.edit(
-            plan,
-            session,
-            Edit::Drop {
-                instance: *instance,
-                characteristic,
-                value,
-            },
-            steps,
-        ),
-        Request::Show { session } => sessions.tell(alloc, plan, session, Told::Rows),
-        Request::Bill { session } => sessions.tell(alloc, plan, session, Told::Bill),
-        Request::Routing { session } => sessions.tell(alloc, plan, session, Told::Routing),
-        Request::Why {
-            session,
-            instance,
-            characteristic,
-        } => sessions.explain(
-            alloc,
-            plan,
-            session,
-            Question::Why {
-                instance: *instance,
-                characteristic,
-            },
-        ),
-        Request::WhyNot {
-            session,
-            instance,
-            characteristic,
-            value,
-        } => sessions.explain(
-            alloc,
-            plan,
-            session,
-            Question::WhyNot {
-                instance: *instance,
-                characteristic,
-                value,
-            },
-        ),
-        Request::Conflict { session } => sessions.explain(alloc, plan, session, Question::Conflict),
-        Request::Log { session } => sessions.explain(alloc, plan, session, Question::Log),
-        Request::Save { session, name } => save(alloc, plan, sessions, keeper, session, name),
-        Request::Load { session, name } => {
-            load(alloc, plan, sessions, keeper, session, name, steps)
-        }
-        Request::Forget { name } => forget(keeper, name),
+    match task_of(request) {
+        Task::Start(session) => sessions.open(alloc, plan, look_ups, session),
+        Task::Close(session) => sessions.close(plan, session),
+        Task::Edit(session, edit) => sessions.edit(plan, session, edit, steps),
+        Task::Tell(session, what) => sessions.tell(alloc, plan, session, what),
+        Task::Explain(session, question) => sessions.explain(alloc, plan, session, question),
+        Task::Save(session, name) => save(alloc, plan, sessions, keeper, session, name),
+        Task::Load(session, name) => load(alloc, plan, sessions, keeper, session, name, steps),
+        Task::Forget(name) => forget(keeper, name),
     }
 }
 

@@ -16,36 +16,20 @@ use vc_value::Word;
 use vc_value_steps::Steps;
 use vc_wire_replies::Refusal;
 
-/// What is to become of what the user chose in a session.
+/// What is to become of what the user chose in a session; an instance comes first, then the characteristic and the
+/// value by their words.
 #[derive(Drop)]
 pub enum Edit<'a> {
     /// The characteristic's value is this, a set's this alone.
-    Set {
-        instance: u32,
-        characteristic: &'a Word,
-        value: &'a Word,
-    },
+    Set(u32, &'a Word, &'a Word),
     /// The characteristic's value is this, a set's this beside those that it holds.
-    Add {
-        instance: u32,
-        characteristic: &'a Word,
-        value: &'a Word,
-    },
+    Add(u32, &'a Word, &'a Word),
     /// All of the user's values there are taken back.
-    Retract {
-        instance: u32,
-        characteristic: &'a Word,
-    },
+    Retract(u32, &'a Word),
     /// This value is taken back, and no other.
-    Drop {
-        instance: u32,
-        characteristic: &'a Word,
-        value: &'a Word,
-    },
+    Drop(u32, &'a Word, &'a Word),
     /// All that was chosen is replaced by this.
-    Restore {
-        users: UserValues,
-    },
+    Restore(UserValues),
 }
 
 fn refusal_of(fault: SetFault) -> Refusal
@@ -167,26 +151,11 @@ pub fn apply<L: Ledger>(
     ensures cost { EditCosts plan.now session.old session.new result steps.old steps.new }
 {
     match which {
-        Edit::Set {
-            instance,
-            characteristic,
-            value,
-        } => set(plan, session, instance, characteristic, value, steps),
-        Edit::Add {
-            instance,
-            characteristic,
-            value,
-        } => add(plan, session, instance, characteristic, value, steps),
-        Edit::Retract {
-            instance,
-            characteristic,
-        } => retract(plan, session, instance, characteristic, steps),
-        Edit::Drop {
-            instance,
-            characteristic,
-            value,
-        } => drop_value(plan, session, instance, characteristic, value, steps),
-        Edit::Restore { users } => {
+        Edit::Set(instance, name, word) => set(plan, session, instance, name, word, steps),
+        Edit::Add(instance, name, word) => add(plan, session, instance, name, word, steps),
+        Edit::Retract(instance, name) => retract(plan, session, instance, name, steps),
+        Edit::Drop(instance, name, word) => drop_value(plan, session, instance, name, word, steps),
+        Edit::Restore(users) => {
             session.restore(plan, users, steps);
             Ok(())
         }

@@ -7,6 +7,7 @@ pub mod reasons;
 pub mod saved;
 pub mod sessions;
 pub mod sharing;
+pub mod tasks;
 pub mod telling;
 pub mod words;
 

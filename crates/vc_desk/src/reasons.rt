@@ -139,20 +139,14 @@ fn log(alloc: Global, plan: &Plan, session: &Session) -> Reply
     }
 }
 
-/// What may be asked of a session beside what it shows.
+/// What may be asked of a session beside what it shows; an instance comes first, then the characteristic and the value
+/// by their words.
 #[derive(Clone, Copy)]
 pub enum Question<'a> {
     /// Why the characteristic has its value.
-    Why {
-        instance: u32,
-        characteristic: &'a Word,
-    },
+    Why(u32, &'a Word),
     /// Why the value doesn't remain.
-    WhyNot {
-        instance: u32,
-        characteristic: &'a Word,
-        value: &'a Word,
-    },
+    WhyNot(u32, &'a Word, &'a Word),
     /// What contradicts.
     Conflict,
     /// All that follows.
@@ -166,25 +160,14 @@ pub fn answer(alloc: Global, plan: &Plan, session: &Session, question: Question<
     ensures { reasons.IsAnswerTo plan.now (reasons.asked_by question.entry) session.now.users result }
 {
     match question {
-        Question::Why {
-            instance,
-            characteristic,
-        } => explain(
-            alloc,
-            plan,
-            session,
-            why_asked(plan, session, instance, characteristic),
-        ),
-        Question::WhyNot {
-            instance,
-            characteristic,
-            value,
-        } => explain(
-            alloc,
-            plan,
-            session,
-            whynot_asked(plan, instance, characteristic, value),
-        ),
+        Question::Why(instance, name) => {
+            let asked = why_asked(plan, session, instance, name);
+            explain(alloc, plan, session, asked)
+        }
+        Question::WhyNot(instance, name, word) => {
+            let asked = whynot_asked(plan, instance, name, word);
+            explain(alloc, plan, session, asked)
+        }
         Question::Conflict => conflict(alloc, plan, session),
         Question::Log => log(alloc, plan, session),
     }

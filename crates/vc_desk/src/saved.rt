@@ -163,7 +163,7 @@ pub fn load<K: Keeper, L: Ledger>(
         return refused(Refusal::NoSession);
     }
     match load_users(alloc, plan, keeper, name) {
-        Ok(users) => sessions.edit(plan, session, Edit::Restore { users }, steps),
+        Ok(users) => sessions.edit(plan, session, Edit::Restore(users), steps),
         Err(refusal) => refused(refusal),
     }
 }
