@@ -155,17 +155,20 @@ first_fits path a (route ∷ others) c h =
 
 -- the router's rows are the routes, and no path fits two of them
 wholes : every_row is_whole route_rows ≡ true
-unfolding matchit_on_literals added route_rows with_asking_routes with_kept_routes with_shown_routes with_told_routes with_value_routes with_whole_routes
+unfolding matchit_on_literals added route_rows with_asking_routes with_kept_routes with_shown_routes with_told_routes
+    with_value_routes with_whole_routes
 wholes = refl
 
 rows_lead : (path : List ℕ) (a : Route) → AllAre path a routes
     → AllLead (λ found. found.value) a (λ t. suits t path) route_rows
-unfolding matchit_on_literals added route_rows with_asking_routes with_kept_routes with_shown_routes with_told_routes with_value_routes with_whole_routes
+unfolding matchit_on_literals added route_rows with_asking_routes with_kept_routes with_shown_routes with_told_routes
+    with_value_routes with_whole_routes
 rows_lead path a h = h
 
 rows_any : (path : List ℕ) → any_row (λ t. suits t path) route_rows
     ≡ list_any (λ route. suits (tokens (pattern_of route)) path) routes
-unfolding matchit_on_literals added route_rows with_asking_routes with_kept_routes with_shown_routes with_told_routes with_value_routes with_whole_routes
+unfolding matchit_on_literals added route_rows with_asking_routes with_kept_routes with_shown_routes with_told_routes
+    with_value_routes with_whole_routes
 rows_any path = refl
 
 clear : are_clear routes ≡ true

@@ -1,4 +1,5 @@
--- Worked rows of paths and methods, by computing. Beside what is so stands what would be so by a likely slip, and isn't.
+-- Worked rows of paths and methods, by computing. Beside what is so stands what would be so by a likely slip, and
+-- isn't.
 use Rattle.std.proofs.Common.{◌≡◌, [], refl, true, false, None, Some}
 use Rattle.std.specs.Prelude.{codes}
 use Rattle.vc_http_routes.specs.declared.methods.Method.TheVariants as by

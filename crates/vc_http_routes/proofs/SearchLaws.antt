@@ -421,7 +421,8 @@ at_slash : {K V : Type 0} (view : K → V) (a : V) (b : ℕ) (path : List ℕ) (
     → AllLead view a (within b path) rs
     → GoesOn view a b path rs (length (b ∷ segment path) - 1, with_suffix (47 ∷ []) rs)
 at_slash view a b path rs n s edge whole lead =
-    subst (λ m. GoesOn view a b path rs (m, with_suffix (47 ∷ []) rs)) (sym (one_less (length (segment path)))) (record {
+    subst (λ m. GoesOn view a b path rs (m, with_suffix (47 ∷ []) rs))
+    (sym (one_less (length (segment path)))) (record {
       any = slash_any b path n s rs edge;
       lead = slash_lead view a b path n s rs edge lead;
       whole = whole_suffix (47 ∷ []) rs whole;

@@ -106,7 +106,9 @@ suits_slash c cs e more (word (x ∷ text)) pattern h =
     (and_parts (list_all is_plain (x ∷ text)) (are_good pattern) h).0 in
     let parts = and_parts (not (x == 47)) (not (x == 256)) plain.0 in
     let other : (x == c) ≡ false = ap (λ y. x == y) (eqb-true c 47 e) ∙ not-true (x == 47) parts.0 in
-    ap (λ v. (v && suits (text ++ tokens pattern) cs) || ((x == 256) && (not (c == 47) && behind (text ++ tokens pattern) cs)))
+    ap
+    (λ v. (v && suits (text ++ tokens pattern) cs)
+    || ((x == 256) && (not (c == 47) && behind (text ++ tokens pattern) cs)))
     other
     ∙ ap (λ v. v && (not (c == 47) && behind (text ++ tokens pattern) cs)) (not-true (x == 256) parts.1)
 suits_slash c cs e more blank pattern h =
@@ -129,7 +131,8 @@ suits_byte c cs n more (word (x ∷ text)) pattern h =
     let rest = text ++ tokens pattern in
     ap (λ v. ((x == c) && suits rest cs) || (v && (not (c == 47) && behind rest cs))) (not-true (x == 256) parts.1)
     ∙ or_none ((x == c) && suits rest cs)
-    ∙ ap (λ v. (x == c) && v) (more.0 (word text) pattern (and_from (list_all is_plain text) (are_good pattern) plain.1 goods.1))
+    ∙ ap (λ v. (x == c) && v)
+    (more.0 (word text) pattern (and_from (list_all is_plain text) (are_good pattern) plain.1 goods.1))
     ∙ and_assoc (x == c) (bytes_eq text (head cs)) (fits_segments pattern (tail cs))
 suits_byte c cs n more blank pattern h =
     ap (λ v. ((256 == c) && suits (tokens pattern) cs) || (not v && behind (tokens pattern) cs)) n

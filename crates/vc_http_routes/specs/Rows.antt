@@ -20,22 +20,34 @@ unfoldable pub added : List ℕ → Route → RouteRows → RouteRows
 added text route rows = added_scan (parse_route text) route rows
 
 unfoldable pub with_whole_routes : RouteRows → RouteRows
-with_whole_routes rows = added (codes "/saved/{n}") to.Saved (added (codes "/sessions/{s}") to.Session (added (codes "/sessions") to.Sessions rows))
+with_whole_routes rows =
+    added (codes "/saved/{n}") to.Saved
+    (added (codes "/sessions/{s}") to.Session (added (codes "/sessions") to.Sessions rows))
 
 unfoldable pub with_value_routes : RouteRows → RouteRows
-with_value_routes rows = added (codes "/sessions/{s}/drops/{i}/{c}") to.Drops (added (codes "/sessions/{s}/values/{i}/{c}") to.Values rows)
+with_value_routes rows =
+    added (codes "/sessions/{s}/drops/{i}/{c}") to.Drops
+    (added (codes "/sessions/{s}/values/{i}/{c}") to.Values rows)
 
 unfoldable pub with_asking_routes : RouteRows → RouteRows
-with_asking_routes rows = added (codes "/sessions/{s}/whynot/{i}/{c}") to.WhyNot (added (codes "/sessions/{s}/why/{i}/{c}") to.Why rows)
+with_asking_routes rows =
+    added (codes "/sessions/{s}/whynot/{i}/{c}") to.WhyNot
+    (added (codes "/sessions/{s}/why/{i}/{c}") to.Why rows)
 
 unfoldable pub with_told_routes : RouteRows → RouteRows
-with_told_routes rows = added (codes "/sessions/{s}/log") to.Log (added (codes "/sessions/{s}/conflict") to.Conflict rows)
+with_told_routes rows =
+    added (codes "/sessions/{s}/log") to.Log
+    (added (codes "/sessions/{s}/conflict") to.Conflict rows)
 
 unfoldable pub with_shown_routes : RouteRows → RouteRows
-with_shown_routes rows = added (codes "/sessions/{s}/routing") to.Routing (added (codes "/sessions/{s}/bill") to.Bill rows)
+with_shown_routes rows =
+    added (codes "/sessions/{s}/routing") to.Routing
+    (added (codes "/sessions/{s}/bill") to.Bill rows)
 
 unfoldable pub with_kept_routes : RouteRows → RouteRows
-with_kept_routes rows = added (codes "/sessions/{s}/load") to.Load (added (codes "/sessions/{s}/save") to.Save rows)
+with_kept_routes rows =
+    added (codes "/sessions/{s}/load") to.Load
+    (added (codes "/sessions/{s}/save") to.Save rows)
 
 -- all of them
 unfoldable pub route_rows : RouteRows

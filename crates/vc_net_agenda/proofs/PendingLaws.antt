@@ -184,7 +184,8 @@ goes flags xs room n m =
     }
 
 -- the numbers before the last one went, where there is one
-module _ (flags : List Bool) (places : List ℕ) (count : ℕ) (m : IsStacked flags places count) (some : count ≡ 0 → ⊥) where
+module _ (flags : List Bool) (places : List ℕ) (count : ℕ)
+    (m : IsStacked flags places count) (some : count ≡ 0 → ⊥) where
   positive : (n : ℕ) → (n ≡ 0 → ⊥) → 0 < n
   positive zero f = absurd (f refl)
   positive (suc n) f = omega arith
@@ -219,6 +220,8 @@ module _ (flags : List Bool) (places : List ℕ) (count : ℕ) (m : IsStacked fl
 
   pub is_popped : (later : List Bool) → later ≡ slice_set flags last false → IsStacked later places (count - 1)
   is_popped later e = record {
-    marked = subst (λ fs. IsMarked fs (stack_in places (count - 1))) (sym e) (goes flags front (length places) last split);
+    marked =
+        subst (λ fs. IsMarked fs (stack_in places (count - 1))) (sym e)
+        (goes flags front (length places) last split);
     fits = omega (arith, place_there);
   }

@@ -1,5 +1,5 @@
--- A variable without a value, of which one text is allowed and left, gets that: nothing else is left, and nothing that is
--- out was allowed.
+-- A variable without a value, of which one text is allowed and left, gets that: nothing else is left, and nothing that
+-- is out was allowed.
 use Rattle.std.proofs.Common.{◌≡◌, ℕ, Bool, true, false, cond, not, ◌&&◌, List, [], ◌∷◌, map, refl, sym, ◌∙◌, ap, subst}
 use Rattle.std.specs.Prelude.{Option, None, Some, is_none, slice_get}
 use Rattle.std.specs.List.{filter, find}
@@ -63,7 +63,8 @@ module _ (plan : Plan) (seen : Seen) (v t g : ℕ) (fits : GrainsFit plan) (foun
   within n e = passes_only (is_inside Equal (Text t)) (Text t) (one_text t) (slice_get (grains_of plan v) n) e
 
   -- the grain of the text alone is left and allowed
-  left_is : filter (λ n. is_left_by plan seen v n None && is_grain_with plan v (allows plan v (Against Equal (Text t))) n)
+  left_is : filter
+      (λ n. is_left_by plan seen v n None && is_grain_with plan v (allows plan v (Against Equal (Text t))) n)
       (numbers_below (count_of plan v)) ≡ g ∷ []
   left_is =
       sym (only_there plan v (Text t)

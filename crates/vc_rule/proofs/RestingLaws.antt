@@ -164,7 +164,8 @@ among_rests plan seen rule v (Against Equal a) fits e fixed = by a (seen.value v
 last_rests : (plan : Plan) (seen : Seen) (v : ℕ) → are_two_left (seen.out v) (count_of plan v) ≡ true
     → last_said plan seen v ≡ silent
 last_rests plan seen v e =
-    ap (λ given. said_from seen (why_last plan seen v) (atoms (cond (is_here plan seen v) given []))) (two (count_of plan v) e)
+    ap (λ given. said_from seen (why_last plan seen v) (atoms (cond (is_here plan seen v) given [])))
+    (two (count_of plan v) e)
     ∙ by (is_here plan seen v)
   where
     nothing_of : List Atom
