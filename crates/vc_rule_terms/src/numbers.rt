@@ -110,6 +110,7 @@ fn of_value_if(value: Option<Value>) -> Option<TermValue>
 }
 
 /// The value of the term, which may be a text where it is a lone literal or variable.
+#[inline(always)]
 pub fn term_value<V: View>(view: &V, term: &Term) -> Option<TermValue>
     requires { Computes (net_reading (V.seen view.now)) term.now }
     ensures { meant_if result ≡ term_value (net_reading (V.seen view.now)) term.now }
