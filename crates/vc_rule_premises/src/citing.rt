@@ -36,6 +36,17 @@ pub fn cite_term<V: View>(view: &V, term: &Term, out: &mut Yield)
     }
 }
 
+// Cites the same for a side of a comparison: most are literals, which read nothing.
+#[inline(always)]
+fn cite_side<V: View>(view: &V, term: &Term, out: &mut Yield)
+    ensures { out.new ≡ cited_all out.old (values_of (V.seen view.now) (vars_in term.now)) }
+{
+    match term {
+        Term::Literal(_) => {}
+        _ => cite_term(view, term, out),
+    }
+}
+
 /// Cites the values that make the condition true, or false.
 pub fn cite_deciding<V: View>(view: &V, so: bool, condition: &Condition, out: &mut Yield)
     requires { ConditionComputes (net_reading (V.seen view.now)) condition.now }
@@ -45,8 +56,8 @@ pub fn cite_deciding<V: View>(view: &V, so: bool, condition: &Condition, out: &m
     match condition {
         Condition::Always => {}
         Condition::Compared(_, left, right) => {
-            cite_term(view, left, out);
-            cite_term(view, right, out);
+            cite_side(view, left, out);
+            cite_side(view, right, out);
         }
         Condition::IsIn(var, _) => cite_value(view, *var, out),
         Condition::Specified(var) => cite_value(view, *var, out),

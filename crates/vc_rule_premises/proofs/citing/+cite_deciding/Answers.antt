@@ -11,8 +11,8 @@ use Rattle.vc_rule_premises.proofs.citing.+cite_deciding.Goals as goal
 pub returns-in-Compared : goal.returns-in-Compared
 returns-in-Compared g t c =
     let s = g.V.View.seen c.args.view.now in
-    cited_values c.args.out.now c.cite_term.new.out c.cite_term-in-Compared.new.out s
-    (vars_in c.in-Compared.left) (vars_in c.in-Compared.right) c.cite_term.ensures c.cite_term-in-Compared.ensures
+    cited_values c.args.out.now c.cite_side.new.out c.cite_side-in-Compared.new.out s
+    (vars_in c.in-Compared.left) (vars_in c.in-Compared.right) c.cite_side.ensures c.cite_side-in-Compared.ensures
     ∙ sym (ap (λ (a : Condition). cited_all c.args.out.now (values_of s (deciding (net_reading s) c.args.so a)))
     c.in-Compared.is)
 
