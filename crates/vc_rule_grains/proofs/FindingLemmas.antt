@@ -25,12 +25,13 @@ use Rattle.vc_plan.specs.declared.conditions.Relation.TheVariants.{Equal}
 use Rattle.vc_plan.specs.declared.plans.Plan.{Plan}
 use Rattle.vc_plan.specs.declared.plans.Var.{Var}
 use Rattle.vc_plan.specs.Alike.{is_proper}
-use Rattle.vc_plan.specs.Domains.{domain_of, grains_in, is_grain_with, numbers_below, passes}
+use Rattle.vc_plan.specs.Domains.{atom_count, domain_of, grains_in, is_grain_with, numbers_below, passes}
 use Rattle.vc_plan.specs.Orders.{are_apart}
 use Rattle.vc_plan.specs.Pieces.{is_inside, lies_in}
 use Rattle.vc_rule_terms.proofs.TermLemmas.{PassesIf, all_get}
 use Rattle.vc_rule_grains.specs.Finding.{grain_in, PassesOnly}
 use Rattle.vc_rule_grains.specs.Tests.{stored_value}
+use Rattle.vc_rule_grains.proofs.GrainLemmas.{count_within}
 
 find_from : (p : ℕ → Bool) (g n m : ℕ) → n - g ≡ suc m
     → find p (range_with_len g (n - g)) ≡ cond (p g) (Some g) (find p (range_with_len (g + 1) m))
@@ -324,6 +325,16 @@ pub domain_proper : (plan : Plan) (d : ℕ) (domain : Domain) (domains : List Do
     → is_proper domain ≡ true
 domain_proper plan d domain domains proper e h =
     subst (PassesIf is_proper) (ap (λ ds. slice_get ds d) (sym e) ∙ h) (all_get is_proper plan.domains d proper)
+
+-- and has few grains where it is a variable's
+pub domain_few : (plan : Plan) (v : ℕ) (x : Var) (domain : Domain) (vars : List Var) (domains : List Domain)
+    → atom_count plan < 2 ^ 32 → vars ≡ plan.vars → domains ≡ plan.domains → slice_get vars v ≡ Some x
+    → slice_get domains x.domain ≡ Some domain → length (grains_in (Some domain)) < 2 ^ 32
+domain_few plan v x domain vars domains few e f h k =
+    let at : slice_get plan.vars v ≡ Some x = ap (λ xs. slice_get xs v) (sym e) ∙ h in
+    let is : slice_get plan.domains x.domain ≡ Some domain = ap (λ ds. slice_get ds x.domain) (sym f) ∙ k in
+    let all : domain_of plan (slice_get plan.vars v) ≡ Some domain = ap (domain_of plan) at ∙ is in
+    subst (λ o. length (grains_in o) < 2 ^ 32) all (count_within plan v few)
 
 -- what is stored is the value itself; at `=` it is all that passes
 pub stored_is : (a b : Value) → stored_value a ≡ Some b → a ≡ b

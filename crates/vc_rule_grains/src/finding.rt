@@ -1,6 +1,6 @@
 //! In which grain of a variable a value lies.
 
-ghost use Rattle.std.specs.Prelude.{◌≡◌, ◌==◌, ◌-◌, true, length, map, slice_get, slice_index_or, Some};
+ghost use Rattle.std.specs.Prelude.{◌≡◌, ◌==◌, ◌-◌, ◌<◌, ◌^◌, true, length, map, slice_get, slice_index_or, Some};
 ghost use Rattle.vc_value.specs.declared.value.Value.TheVariants.{Text};
 ghost use Rattle.vc_plan.specs.declared.conditions.Piece.TheVariants.{OneText, Stretch};
 ghost use Rattle.vc_plan.specs.Alike.{is_proper};
@@ -9,7 +9,6 @@ ghost use Rattle.vc_plan.specs.Orders.{are_apart};
 ghost use Rattle.vc_plan.specs.Pieces.{lies_in};
 ghost use Rattle.vc_rule_grains.specs.Finding.{grain_in, grain_with, GrainsFit};
 
-use crate::remaining::grain_count;
 use vc_plan::Plan;
 use vc_rule_terms::elements::element;
 use vc_value::{Domain, GrainList, Value};
@@ -50,28 +49,29 @@ pub fn first_grain(texts: &[u32], count: u32, text: u32) -> Option<u32>
     None
 }
 
-fn grain_of_text(texts: &[u32], count: u32, text: u32) -> Option<u32>
+// All are gone through only where the text doesn't stand at the guess.
+fn grain_of_text(texts: &[u32], text: u32) -> Option<u32>
     requires apart { are_apart (λ s t. s == t) texts.now ≡ true }
-    requires count { count ≡ length (map OneText texts.now) }
+    requires few { length (map OneText texts.now) < 2 ^ 32 }
     ensures { result ≡ grain_in (map OneText texts.now) (Text text) }
 {
     let guess = guessed(texts, text);
     if is_text_at(texts, text, guess) {
         Some(guess)
     } else {
-        first_grain(texts, count, text)
+        first_grain(texts, texts.len() as u32, text)
     }
 }
 
 // A number has no grain among texts.
 #[tactic(auto, using(crate::proofs::FindingLemmas::elsewhere))]
-fn grain_among_texts(texts: &[u32], count: u32, value: Value) -> Option<u32>
+fn grain_among_texts(texts: &[u32], value: Value) -> Option<u32>
     requires apart { are_apart (λ s t. s == t) texts.now ≡ true }
-    requires count { count ≡ length (map OneText texts.now) }
+    requires few { length (map OneText texts.now) < 2 ^ 32 }
     ensures { result ≡ grain_in (map OneText texts.now) value }
 {
     match value {
-        Value::Text(text) => grain_of_text(texts, count, text),
+        Value::Text(text) => grain_of_text(texts, text),
         Value::Num(_) => None,
     }
 }
@@ -87,13 +87,13 @@ pub fn grain_among_numbers(grains: &GrainList, value: Value) -> Option<u32>
     }
 }
 
-fn grain_in(domain: &Domain, count: u32, value: Value) -> Option<u32>
+fn grain_in(domain: &Domain, value: Value) -> Option<u32>
     requires proper { is_proper domain.now ≡ true }
-    requires count { count ≡ length (grains_in (Some domain.now)) }
+    requires few { length (grains_in (Some domain.now)) < 2 ^ 32 }
     ensures { result ≡ grain_in (grains_in (Some domain.now)) value }
 {
     match domain {
-        Domain::Texts(texts) => grain_among_texts(texts.as_slice(), count, value),
+        Domain::Texts(texts) => grain_among_texts(texts.as_slice(), value),
         Domain::Nums {
             decimals: _,
             grains,
@@ -106,10 +106,9 @@ pub fn grain_of(plan: &Plan, var: u32, value: Value) -> Option<u32>
     requires { GrainsFit plan.now }
     ensures { result ≡ grain_with plan.now var value }
 {
-    let count = grain_count(plan, var);
     match element(plan.vars.as_slice(), var) {
         Some(x) => match element(plan.domains.as_slice(), x.domain) {
-            Some(domain) => grain_in(domain, count, value),
+            Some(domain) => grain_in(domain, value),
             None => None,
         },
         None => None,
