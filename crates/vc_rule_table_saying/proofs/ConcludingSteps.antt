@@ -1,7 +1,7 @@
 -- What is concluded one by one is concluded together.
 use Rattle.std.proofs.Common.{◌≡◌, ℕ, ◌+◌, ◌-◌, ◌<◌, ◌≤◌, Bool, true, false, cond, not, ◌&&◌, List, [], ◌∷◌}
 use Rattle.std.proofs.Common.{◌++◌, length, take, drop, get_or, map, refl, sym, ◌∙◌, ap, arith}
-use Rattle.std.specs.Prelude.{None, flat_map, slice_get}
+use Rattle.std.specs.Prelude.{None, Option, Some, flat_map, if◌then◌else◌, slice_get}
 use Rattle.std.specs.List.{filter, list_any, range_with_len}
 use Rattle.std.proofs.lemmas.Bool.{or_parts}
 use Rattle.std.proofs.lemmas.Grind.{flat_map-append}
@@ -9,11 +9,13 @@ use Rattle.std.proofs.lemmas.List.{map-append, take_all}
 use Rattle.std.proofs.lemmas.List.Elements.{filter-append}
 use Rattle.vc_value.specs.declared.value.Value.{Value}
 use Rattle.vc_plan.specs.declared.atoms.Atom.{Atom}
+use Rattle.vc_plan.specs.declared.atoms.Atom.TheVariants.{Is}
 use Rattle.vc_plan.specs.declared.plans.Plan.{Plan}
 use Rattle.vc_plan.specs.declared.rules.Binding.{Binding}
+use Rattle.vc_plan.specs.Answers.{value_atoms}
 use Rattle.vc_plan.specs.Domains.{domain_of, grains_in, numbers_below}
 use Rattle.vc_plan.specs.Seen.{Seen, says}
-use Rattle.vc_plan.specs.TableRows.{has_grain, missing_grains}
+use Rattle.vc_plan.specs.TableRows.{has_grain, missing_grains, value_if}
 use Rattle.vc_rule_yield.specs.Yielding.{Conclusion, Yielded}
 use Rattle.vc_rule_premises.specs.Citing.{cited_all}
 use Rattle.vc_rule_premises.specs.Saying.{take_conclusions}
@@ -99,3 +101,29 @@ none_newly seen v out missing f is (g ∷ gs) e =
         ap (λ b. cond b (f g ∷ new_conclusions seen (map f (filter missing gs)))
         (new_conclusions seen (map f (filter missing gs)))) s
         ∙ later
+
+-- a cell that is asked first whether it is new, and then whether it passes
+pub new_first : (passes : Value → Bool) (new : Atom → Bool) (v : ℕ) (cell asked : Option Value)
+    → value_atoms v asked ≡ filter new (value_atoms v cell)
+    → value_if passes v asked ≡ filter new (value_if passes v cell)
+new_first passes new v None None e = refl
+new_first passes new v None (Some b) e = absurd (cc)
+new_first passes new v (Some a) asked e = by (new (Is v a)) refl asked e
+  where
+    by : (b : Bool) → new (Is v a) ≡ b → (o : Option Value)
+        → value_atoms v o ≡ (if b then Is v a ∷ [] else [])
+        → value_if passes v o ≡ filter new (value_if passes v (Some a))
+    by true is None e = absurd (cc)
+    by true is (Some b) e =
+        let same : b ≡ a = cc in
+        ap (λ x. value_if passes v (Some x)) same ∙ kept (passes a)
+      where
+        kept : (c : Bool) → (if c then Is v a ∷ [] else []) ≡ filter new (if c then Is v a ∷ [] else [])
+        kept true = sym (ap (λ d. if d then Is v a ∷ [] else []) is)
+        kept false = refl
+    by false is None e = dropped (passes a)
+      where
+        dropped : (c : Bool) → [] ≡ filter new (if c then Is v a ∷ [] else [])
+        dropped true = sym (ap (λ d. if d then Is v a ∷ [] else []) is)
+        dropped false = refl
+    by false is (Some b) e = absurd (cc)

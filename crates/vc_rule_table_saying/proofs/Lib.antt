@@ -2,3 +2,4 @@ pub mod ChainLemmas
 pub mod ConcludingSteps
 pub mod KeyLemmas
 pub mod MarkLemmas
+pub mod SharingLemmas

@@ -1,9 +1,8 @@
 //! The cell that all possible rows of a table have for a variable.
 
-ghost use Rattle.std.specs.Prelude.{◌≡◌, ◌&&◌, [], ◌∷◌, not, map, IfNone, IfSome, Some, None};
+ghost use Rattle.std.specs.Prelude.{◌≡◌, ◌&&◌, not, map, IfNone, IfSome, Some, None};
 ghost use Rattle.std.specs.List.{filter, find, list_all};
 ghost use Rattle.vc_plan.specs.Answers.{value_atoms};
-ghost use Rattle.vc_plan.specs.declared.atoms.Atom.TheVariants.{Is};
 ghost use Rattle.vc_plan.specs.Domains.{grains_in, grains_of};
 ghost use Rattle.vc_plan.specs.Pieces.{lies_in_some, same_value};
 ghost use Rattle.vc_plan.specs.Seen.{says};
@@ -12,10 +11,13 @@ ghost use Rattle.vc_plan.specs.TableRows.{has_cell, value_if, agreed};
 ghost use Rattle.vc_rule_premises.specs.Saying.{take_conclusions};
 ghost use Rattle.vc_rule_table.specs.Cells.{FewGrains, agrees};
 ghost use Rattle.vc_rule_table.specs.Noting.{AreNotes, HasNote};
+ghost use Rattle.vc_rule_table.specs.Reasons.{rows_reasons};
 ghost use Rattle.vc_rule_table.specs.TableSaid.{cell_agreed, new_conclusions};
+ghost use Rattle.vc_rule_table_saying.specs.Sharing.{IsCiting, kept};
 
-use crate::misfits::{cite_rows, is_possible_in};
-use vc_plan::{Atom, Binding, Plan, View};
+use crate::misfits::is_possible_in;
+use crate::sharing::conclude_is;
+use vc_plan::{Binding, Plan, View};
 use vc_rule_table::cells::{domain_of, grain_count, grain_holds};
 use vc_rule_table::notes::{behind, first_note};
 use vc_rule_table::rows::{cell, is_column_of};
@@ -94,7 +96,7 @@ fn has_cell(columns: &[Binding], var: u32, value: Value, row: &[Value]) -> bool
     true
 }
 
-// Whether the row has another cell for the variable, and is possible in the other columns.
+// Whether the row is possible in the other columns, and has another cell for the variable.
 fn disagrees<V: View>(
     plan: &Plan,
     view: &V,
@@ -106,10 +108,10 @@ fn disagrees<V: View>(
 ) -> bool
     requires few { FewGrains plan.now }
     requires noted { HasNote plan.now (V.seen view.now) columns.now row.now note }
-    ensures { result ≡ (not (has_cell (columns_of var columns.now) value row.now)
-        && is_possible_in plan.now (V.seen view.now) (other_columns var columns.now) row.now) }
+    ensures { result ≡ (is_possible_in plan.now (V.seen view.now) (other_columns var columns.now) row.now
+        && not (has_cell (columns_of var columns.now) value row.now)) }
 {
-    !has_cell(columns, var, value, row) && is_possible_in(plan, view, columns, Some(var), row, note)
+    is_possible_in(plan, view, columns, Some(var), row, note) && !has_cell(columns, var, value, row)
 }
 
 fn all_agree<V: View>(
@@ -195,33 +197,6 @@ fn if_agreed<V: View>(
     }
 }
 
-fn agreed<V: View>(
-    plan: &Plan,
-    view: &V,
-    columns: &[Binding],
-    var: u32,
-    rows: &[Listed<Value>],
-    notes: &[Note],
-) -> Option<Value>
-    requires few { FewGrains plan.now }
-    requires noted { AreNotes plan.now (V.seen view.now) columns.now rows.now notes.now }
-    ensures { value_atoms var result ≡ agreed plan.now var (columns_of var columns.now)
-        (filter (is_possible_in plan.now (V.seen view.now) (other_columns var columns.now)) rows.now) }
-{
-    match first_possible(plan, view, columns, var, rows, notes) {
-        Some(row) => if_agreed(
-            plan,
-            view,
-            columns,
-            var,
-            first_cell(columns, var, row),
-            rows,
-            notes,
-        ),
-        None => None,
-    }
-}
-
 // The value, if the variable doesn't have it yet.
 fn if_new<V: View>(view: &V, var: u32, value: Option<Value>) -> Option<Value>
     ensures { value_atoms var result ≡ filter (λ a. not (says (V.seen view.now) a)) (value_atoms var value) }
@@ -238,25 +213,34 @@ fn if_new<V: View>(view: &V, var: u32, value: Option<Value>) -> Option<Value>
     }
 }
 
-fn conclude_is<V: View>(
+// The cell on which all possible rows agree, if the variable doesn't have it yet: this is asked first, as it costs no
+// walk.
+fn newly_agreed<V: View>(
     plan: &Plan,
     view: &V,
     columns: &[Binding],
     var: u32,
-    value: Value,
     rows: &[Listed<Value>],
     notes: &[Note],
-    out: &mut Yield,
-)
+) -> Option<Value>
     requires few { FewGrains plan.now }
     requires noted { AreNotes plan.now (V.seen view.now) columns.now rows.now notes.now }
-    ensures { out.new ≡ take_conclusions out.old (cell_agreed plan.now (V.seen view.now) rows.now columns.now var
-        (Is var value) ∷ []) }
+    ensures { value_atoms var result ≡ filter (λ a. not (says (V.seen view.now) a))
+        (agreed plan.now var (columns_of var columns.now)
+        (filter (is_possible_in plan.now (V.seen view.now) (other_columns var columns.now)) rows.now)) }
 {
-    let cited = out.cited_count();
-    cite_rows(plan, view, columns, Some(var), rows, notes, out);
-    out.conclude(Atom::Is(var, value));
-    out.keep_cited(cited);
+    match first_possible(plan, view, columns, var, rows, notes) {
+        Some(row) => if_agreed(
+            plan,
+            view,
+            columns,
+            var,
+            if_new(view, var, first_cell(columns, var, row)),
+            rows,
+            notes,
+        ),
+        None => None,
+    }
 }
 
 fn conclude_if<V: View>(
@@ -267,19 +251,27 @@ fn conclude_if<V: View>(
     value: Option<Value>,
     rows: &[Listed<Value>],
     notes: &[Note],
+    base: usize,
+    shared: bool,
     out: &mut Yield,
-)
+) -> bool
     requires few { FewGrains plan.now }
     requires noted { AreNotes plan.now (V.seen view.now) columns.now rows.now notes.now }
-    ensures { out.new ≡ take_conclusions out.old (map (cell_agreed plan.now (V.seen view.now) rows.now columns.now var)
-        (value_atoms var value)) }
+    requires citing { IsCiting base (rows_reasons plan.now (V.seen view.now) columns.now rows.now) shared out.old }
+    ensures takes { kept base out.new ≡ take_conclusions (kept base out.old)
+        (map (cell_agreed plan.now (V.seen view.now) rows.now columns.now var) (value_atoms var value)) }
+    ensures citing { IsCiting base (rows_reasons plan.now (V.seen view.now) columns.now rows.now) result out.new }
 {
-    if let Some(value) = value {
-        conclude_is(plan, view, columns, var, value, rows, notes, out);
+    match value {
+        Some(value) => conclude_is(
+            plan, view, columns, var, value, rows, notes, base, shared, out,
+        ),
+        None => shared,
     }
 }
 
-/// Concludes that the variable has the cell on which all possible rows agree, if there is one.
+/// Concludes that the variable has the cell on which all possible rows agree, if there is one. Why rows aren't possible
+/// may be cited already, behind so many premises; whether it is afterwards.
 pub fn conclude_agreed<V: View>(
     plan: &Plan,
     view: &V,
@@ -287,24 +279,21 @@ pub fn conclude_agreed<V: View>(
     var: u32,
     rows: &[Listed<Value>],
     notes: &[Note],
+    base: usize,
+    shared: bool,
     out: &mut Yield,
-)
+) -> bool
     requires few { FewGrains plan.now }
     requires noted { AreNotes plan.now (V.seen view.now) columns.now rows.now notes.now }
-    ensures { out.new ≡ take_conclusions out.old (new_conclusions (V.seen view.now)
+    requires citing { IsCiting base (rows_reasons plan.now (V.seen view.now) columns.now rows.now) shared out.old }
+    ensures takes { kept base out.new ≡ take_conclusions (kept base out.old) (new_conclusions (V.seen view.now)
         (map (cell_agreed plan.now (V.seen view.now) rows.now columns.now var)
         (agreed plan.now var (columns_of var columns.now)
         (filter (is_possible_in plan.now (V.seen view.now) (other_columns var columns.now)) rows.now)))) }
+    ensures citing { IsCiting base (rows_reasons plan.now (V.seen view.now) columns.now rows.now) result out.new }
 {
-    let cell = agreed(plan, view, columns, var, rows, notes);
+    let value = newly_agreed(plan, view, columns, var, rows, notes);
     conclude_if(
-        plan,
-        view,
-        columns,
-        var,
-        if_new(view, var, cell),
-        rows,
-        notes,
-        out,
-    );
+        plan, view, columns, var, value, rows, notes, base, shared, out,
+    )
 }

@@ -7,6 +7,7 @@ pub mod grains;
 pub mod keys;
 pub mod marks;
 pub mod misfits;
+pub mod sharing;
 pub mod tables;
 
 pub use tables::say_table;

@@ -1,9 +1,9 @@
 //! What a table call of a constraint says.
 
-ghost use Rattle.std.specs.Prelude.{◌≡◌, IsTrue, ◌^◌, ◌<◌, ◌∷◌, [], flat_map};
+ghost use Rattle.std.specs.Prelude.{◌≡◌, IsTrue, ◌^◌, ◌<◌, ◌≤◌, ◌∷◌, [], false, flat_map, length, map};
 ghost use Rattle.std.specs.List.{filter, list_any};
 ghost use Rattle.vc_plan.specs.Domains.{atom_count, is_restrictable};
-ghost use Rattle.vc_plan.specs.TableRows.{is_possible_in, is_column_of};
+ghost use Rattle.vc_plan.specs.TableRows.{is_possible_in, is_column_of, columns_of, other_columns, missing_grains};
 ghost use Rattle.vc_rule_yield.specs.Yielding.{clashed};
 ghost use Rattle.vc_rule_premises.specs.Citing.{cited_all};
 ghost use Rattle.vc_rule_premises.specs.Saying.{take_conclusions, taken};
@@ -11,6 +11,8 @@ ghost use Rattle.vc_rule_table.specs.Cells.{FewGrains};
 ghost use Rattle.vc_rule_table.specs.Noting.{AreNotes, HasNote};
 ghost use Rattle.vc_rule_table.specs.Reasons.{rows_reasons};
 ghost use Rattle.vc_rule_table.specs.TableSaid.{concluded_newly, rows_said, table_said, has_column};
+ghost use Rattle.vc_rule_table.specs.TableSaid.{grain_out, new_conclusions};
+ghost use Rattle.vc_rule_table_saying.specs.Sharing.{IsCiting, kept};
 
 use crate::agreed::conclude_agreed;
 use crate::grains::narrow_grains;
@@ -83,6 +85,33 @@ fn some_row_is_possible<V: View>(
     false
 }
 
+// What follows for a restrictable variable, each from what is cited for it alone.
+fn narrow_alone<V: View>(
+    plan: &Plan,
+    view: &V,
+    columns: &[Binding],
+    var: u32,
+    rows: &[Listed<Value>],
+    notes: &[Note],
+    marks: &mut Option<Marks>,
+    base: usize,
+    out: &mut Yield,
+)
+    requires few { FewGrains plan.now }
+    requires noted { AreNotes plan.now (V.seen view.now) columns.now rows.now notes.now }
+    requires given { IsTrue (has_column columns.now var) }
+    requires stands { base ≤ length out.old.cites }
+    ensures takes { kept base out.new ≡ take_conclusions (kept base out.old) (new_conclusions (V.seen view.now)
+        (map (grain_out plan.now (V.seen view.now) rows.now columns.now var)
+        (missing_grains plan.now var (columns_of var columns.now)
+        (filter (is_possible_in plan.now (V.seen view.now) (other_columns var columns.now)) rows.now)))) }
+    ensures citing { IsCiting base (rows_reasons plan.now (V.seen view.now) columns.now rows.now) false out.new }
+{
+    out.keep_cited(base);
+    narrow_grains(plan, view, columns, var, rows, notes, marks, out);
+}
+
+// What follows for the variable; whether why rows aren't possible is cited afterwards.
 fn narrow<V: View>(
     plan: &Plan,
     view: &V,
@@ -91,22 +120,27 @@ fn narrow<V: View>(
     rows: &[Listed<Value>],
     notes: &[Note],
     marks: &mut Option<Marks>,
+    base: usize,
+    shared: bool,
     out: &mut Yield,
-)
+) -> bool
     requires few { FewGrains plan.now }
     requires noted { AreNotes plan.now (V.seen view.now) columns.now rows.now notes.now }
     requires given { IsTrue (has_column columns.now var) }
-    ensures { out.new ≡ take_conclusions out.old (concluded_newly plan.now (V.seen view.now) rows.now columns.now
-        var) }
+    requires citing { IsCiting base (rows_reasons plan.now (V.seen view.now) columns.now rows.now) shared out.old }
+    ensures takes { kept base out.new ≡ take_conclusions (kept base out.old)
+        (concluded_newly plan.now (V.seen view.now) rows.now columns.now var) }
+    ensures citing { IsCiting base (rows_reasons plan.now (V.seen view.now) columns.now rows.now) result out.new }
 {
     if is_restrictable(plan, var) {
-        narrow_grains(plan, view, columns, var, rows, notes, marks, out);
+        narrow_alone(plan, view, columns, var, rows, notes, marks, base, out);
+        false
     } else {
-        conclude_agreed(plan, view, columns, var, rows, notes, out);
+        conclude_agreed(plan, view, columns, var, rows, notes, base, shared, out)
     }
 }
 
-// What follows for the variable, if a column is given it.
+// The same, if a column is given the variable.
 fn narrow_if_given<V: View>(
     plan: &Plan,
     view: &V,
@@ -115,16 +149,24 @@ fn narrow_if_given<V: View>(
     rows: &[Listed<Value>],
     notes: &[Note],
     marks: &mut Option<Marks>,
+    base: usize,
+    shared: bool,
     out: &mut Yield,
-)
+) -> bool
     requires few { FewGrains plan.now }
     requires noted { AreNotes plan.now (V.seen view.now) columns.now rows.now notes.now }
-    ensures { out.new ≡ take_conclusions out.old (flat_map
+    requires citing { IsCiting base (rows_reasons plan.now (V.seen view.now) columns.now rows.now) shared out.old }
+    ensures takes { kept base out.new ≡ take_conclusions (kept base out.old) (flat_map
         (concluded_newly plan.now (V.seen view.now) rows.now columns.now)
         (filter (has_column columns.now) (var ∷ []))) }
+    ensures citing { IsCiting base (rows_reasons plan.now (V.seen view.now) columns.now rows.now) result out.new }
 {
     if has_column(columns, var) {
-        narrow(plan, view, columns, var, rows, notes, marks, out);
+        narrow(
+            plan, view, columns, var, rows, notes, marks, base, shared, out,
+        )
+    } else {
+        shared
     }
 }
 
@@ -144,11 +186,16 @@ fn narrow_all<V: View>(
         (concluded_newly plan.now (V.seen view.now) rows.now columns.now)
         (filter (has_column columns.now) vars.now)) }
 {
+    let base = out.cited_count();
+    let mut shared = false;
     let mut rest = vars;
     while let [var, more @ ..] = rest {
-        narrow_if_given(plan, view, columns, *var, rows, notes, marks, out);
+        shared = narrow_if_given(
+            plan, view, columns, *var, rows, notes, marks, base, shared, out,
+        );
         rest = more;
     }
+    out.keep_cited(base);
 }
 
 // Tells a clash, as no row is possible in all columns.

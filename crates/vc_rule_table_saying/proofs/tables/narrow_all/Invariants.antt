@@ -1,16 +1,21 @@
--- What is concluded so far, with the variables from here on, is all.
+-- What is concluded so far, with the variables from here on, is all; and it is told whether why rows aren't possible is
+-- cited.
 use Rattle.std.proofs.Common.{◌≡◌, length}
 use Rattle.std.specs.Prelude.{flat_map}
 use Rattle.std.specs.List.{filter}
 use Rattle.vc_rule_premises.specs.Saying.{take_conclusions}
+use Rattle.vc_rule_table.specs.Reasons.{rows_reasons}
 use Rattle.vc_rule_table.specs.TableSaid.{concluded_newly, has_column}
+use Rattle.vc_rule_table_saying.specs.Sharing.{IsCiting, kept}
 use Rattle.vc_rule_table_saying.proofs.tables.narrow_all.Given as goal
 
 abbrev pub invariant-loop-rest : goal.invariant-loop-rest
 invariant-loop-rest g l =
-    let newly = concluded_newly l.plan (g.V.View.seen l.view) l.rows l.columns in
-    take_conclusions l.out (flat_map newly (filter (has_column l.columns) l.rest))
-    ≡ take_conclusions l.fn.out (flat_map newly (filter (has_column l.columns) l.vars))
+    let seen = g.V.View.seen l.view in
+    let newly = concluded_newly l.plan seen l.rows l.columns in
+    (take_conclusions (kept l.base l.out) (flat_map newly (filter (has_column l.columns) l.rest))
+    ≡ take_conclusions l.fn.out (flat_map newly (filter (has_column l.columns) l.vars)))
+    × IsCiting l.base (rows_reasons l.plan seen l.columns l.rows) l.shared l.out
 
 abbrev pub decreases-loop-rest : goal.decreases-loop-rest
 decreases-loop-rest g l = length l.rest

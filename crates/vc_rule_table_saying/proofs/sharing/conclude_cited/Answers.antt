@@ -4,7 +4,7 @@ use Rattle.vc_plan.specs.TableRows.{other_columns}
 use Rattle.vc_rule_yield.specs.Yielding.{with_cites}
 use Rattle.vc_rule_premises.proofs.SayingLaws.{conclusion_taken}
 use Rattle.vc_rule_table.specs.Reasons.{rows_reasons}
-use Rattle.vc_rule_table_saying.proofs.agreed.conclude_is.Goals as goal
+use Rattle.vc_rule_table_saying.proofs.sharing.conclude_cited.Goals as goal
 
 pub returns : goal.returns
 returns g c =
