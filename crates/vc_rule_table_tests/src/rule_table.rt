@@ -47,6 +47,42 @@ impl View for OneText {
     }
 }
 
+// The variable has this text, no other variable has a value, and one's first grain is out.
+#[derive(Drop)]
+struct TextAndOut {
+    var: u32,
+    text: u32,
+    without: u32,
+}
+
+impl View for TextAndOut {
+    ghost use Rattle.std.specs.Prelude.{true, ◌&&◌, ◌==◌, if◌then◌else◌, None, Some};
+    ghost use Rattle.vc_value.specs.declared.value.Value.TheVariants.{Text};
+
+    ghost seen = { λ s. record {
+      here = λ i. true;
+      out = λ v g. (v == s.without) && (g == 0);
+      value = λ v. if v == s.var then Some (Text s.text)
+          else None;
+    } };
+
+    fn here(&self, _slot: u32) -> bool {
+        true
+    }
+
+    fn out(&self, var: u32, grain: u32) -> bool {
+        var == self.without && grain == 0
+    }
+
+    fn value(&self, var: u32) -> Option<Value> {
+        if var == self.var {
+            Some(Value::Text(self.text))
+        } else {
+            None
+        }
+    }
+}
+
 fn domains<R: Abort>(rt: &R, alloc: Global) -> Listed<Domain>
     ensures { result ≡ Texts (0 ∷ 1 ∷ 2 ∷ []) ∷ [] }
 {
@@ -274,5 +310,80 @@ fn says_the_same_from_scratch(rt: HostRuntime) -> Result<(), Fail> {
     drop(out);
     drop(plan);
     assert!(rt; whole && short);
+    Ok(())
+}
+
+// The rule infers variable 2, variable 0, and variable 2 again.
+fn rule_for_two<R: Abort>(rt: &R, alloc: Global) -> Rule {
+    let mut inferred = Listed::new(alloc);
+    inferred.push(2).expect(rt, "memory");
+    inferred.push(0).expect(rt, "memory");
+    inferred.push(2).expect(rt, "memory");
+    Rule {
+        dependency: Some(0),
+        number: 1,
+        slots: Listed::new(alloc),
+        condition: 0,
+        inferred,
+        kind: Kind::Never,
+    }
+}
+
+// Whether this is said at the place, from these premises.
+fn says_at(out: &Yield, place: usize, atom: Atom, premises: &[Atom]) -> bool {
+    place < out.count() && out.atom(place) == atom && out.premises(place) == premises
+}
+
+// The first row fails first at variable 0's column, and then, as the last does, at variable 1's. So what follows for
+// variable 2 is from both, and what follows for variable 0 from variable 1 alone.
+fn says_two_from_their_own(out: &Yield) -> bool {
+    let known = [Atom::Is(1, Value::Text(1))];
+    let both = [Atom::Out(0, 0), Atom::Is(1, Value::Text(1))];
+    out.count() == 3
+        && says_at(out, 0, Atom::Is(2, Value::Text(1)), &both)
+        && says_at(out, 1, Atom::Is(0, Value::Text(1)), &known)
+        && says_at(out, 2, Atom::Is(2, Value::Text(1)), &both)
+}
+
+fn cites_by_variable(plan: &Plan, rule: &Rule, out: &mut Yield) -> bool
+    requires { atom_count plan.now < 2 ^ 32 }
+{
+    let columns = [
+        Binding {
+            column: 1,
+            operand: Operand::Variable(0),
+        },
+        Binding {
+            column: 1,
+            operand: Operand::Variable(1),
+        },
+        Binding {
+            column: 0,
+            operand: Operand::Variable(2),
+        },
+    ];
+    let view = TextAndOut {
+        var: 1,
+        text: 1,
+        without: 0,
+    };
+    out.clear();
+    say_table(plan, &view, rule, 0, &columns, out);
+    says_two_from_their_own(out)
+}
+
+// Without notes, and with room for more notes than there are rows.
+#[test]
+fn cites_once_where_no_row_fails_first(rt: HostRuntime) -> Result<(), Fail> {
+    let plan = pairs(&rt, rt.alloc());
+    let mut out = Yield::new(rt.alloc(), 9, 9, 9)?;
+    let rule = rule_for_two(&rt, rt.alloc());
+    let plain = cites_by_variable(&plan, &rule, &mut out);
+    out.put_scratch(Scratch::new(rt.alloc(), 5, 3).expect(&rt, "memory"));
+    let noted = cites_by_variable(&plan, &rule, &mut out);
+    drop(rule);
+    drop(out);
+    drop(plan);
+    assert!(rt; plain && noted);
     Ok(())
 }
