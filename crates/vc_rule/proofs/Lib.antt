@@ -5,5 +5,6 @@ pub mod GivingLaws
 pub mod PassingLemmas
 pub mod ReadingLaws
 pub mod RestingLaws
+pub mod RestingRows
 pub mod RoomLemmas
 pub mod StandingLaws
