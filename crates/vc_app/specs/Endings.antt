@@ -23,7 +23,7 @@ pub use Rattle.vc_app_check.specs.Lines.{file_line}
 use Rattle.vc_app_check.specs.Lines as lines
 use Rattle.vc_app_check.specs.Statuses as statuses
 pub use Rattle.vc_app.specs.Keeping.{Keeping, keeping}
-use Rattle.vc_app.specs.Transcript.{AnswersAll, AnswersSome, BreaksOff}
+use Rattle.vc_app_script.specs.Transcript.{AnswersAll, AnswersSome, BreaksOff}
 use Rattle.vc_app.specs.declared.loading.Job.{Job}
 use Rattle.vc_app.specs.declared.ending.Stop.{Stop}
 use Rattle.vc_app.specs.declared.ending.Stop.TheVariants as stops

@@ -3,8 +3,6 @@
 
 pub mod ending;
 pub mod loading;
-pub mod script;
 pub mod top;
-pub mod transcript;
 
 pub use top::desk;

@@ -14,18 +14,18 @@ ghost use Rattle.vc_app.specs.Endings as endings;
 ghost use Rattle.vc_app.specs.Endings.{keeping, outside};
 ghost use Rattle.vc_app.specs.Exactness.{IsExact};
 ghost use Rattle.vc_app.specs.Statuses.{IsStatus};
-ghost use Rattle.vc_app.specs.Transcript as transcript;
+ghost use Rattle.vc_app_script.specs.Transcript as transcript;
 
 use crate::ending::{Ending, Stop, say_stop, write_text};
 use crate::loading::{
     Job, Serving, checked_name, families_of, keep_file, load_job, service_of, verified_names,
 };
-use crate::transcript::{ScriptFault, answer_script};
 use std::alloc::Global;
 use std::marker::Brand;
 use std::sync::ledger::{Blank, Ledger};
 use vc_app_check::check;
 use vc_app_gen::generate;
+use vc_app_script::{ScriptFault, answer_script};
 use vc_app_serve::serve;
 use vc_app_verify::verify;
 use vc_desk::Desk;

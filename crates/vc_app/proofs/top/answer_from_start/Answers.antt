@@ -1,8 +1,8 @@
 -- The script ended in the state that its answers left, and began with no session open.
 use Rattle.std.proofs.lemmas.Result.{on_ok_weaker}
 use Rattle.vc_desk.specs.Desks.{open_of, state_of}
-use Rattle.vc_app.specs.Transcript.{IsAnswered, IsAnsweredSoFar, IsCutShort}
-use Rattle.vc_app.proofs.TranscriptLaws.{begins}
+use Rattle.vc_app_script.specs.Transcript.{IsAnswered, IsAnsweredSoFar, IsCutShort}
+use Rattle.vc_app_script.proofs.TranscriptLaws.{begins}
 use Rattle.vc_app.proofs.top.answer_from_start.Goals as goal
 
 pub returns-clause-done : goal.returns-clause-done

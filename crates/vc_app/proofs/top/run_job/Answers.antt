@@ -1,7 +1,7 @@
 -- The sink failed in an answer.
 use Rattle.std.proofs.Common.{subst, ap, Err}
 use Rattle.vc_app.specs.Keeping.{keeping}
-use Rattle.vc_app.specs.Transcript.{BreaksOff}
+use Rattle.vc_app_script.specs.Transcript.{BreaksOff}
 use Rattle.vc_app.proofs.top.run_job.Goals as goal
 
 pub returns-in-Err-Sink-clause-ends : goal.returns-in-Err-Sink-clause-ends

@@ -1,10 +1,10 @@
 -- A front of the answer to the line's request was written, or nothing of it.
 use Rattle.std.proofs.Common.{◌≡◌, false, sym, subst, ◌∙◌, rules}
 use Rattle.vc_desk.specs.Desks.{state_of}
-use Rattle.vc_app.specs.Script.{is_skipped}
-use Rattle.vc_app.specs.Transcript.{AnswersLine}
-use Rattle.vc_app.proofs.TranscriptLaws.{line_answer, line_unsaid}
-use Rattle.vc_app.proofs.transcript.answer_line.Goals as goal
+use Rattle.vc_app_script.specs.Script.{is_skipped}
+use Rattle.vc_app_script.specs.Transcript.{AnswersLine}
+use Rattle.vc_app_script.proofs.TranscriptLaws.{line_answer, line_unsaid}
+use Rattle.vc_app_script.proofs.transcript.answer_line.Goals as goal
 
 pub returns-in_err-write_all-clause-cut : goal.returns-in_err-write_all-clause-cut
 returns-in_err-write_all-clause-cut g c = λ _.

@@ -7,7 +7,7 @@ use Rattle.std.specs.Str.Lines.{lines_of_parts, strip_carriage_return}
 use Rattle.std.proofs.lemmas.List.Splits.{slice_split_first, slice_split_none, length-slice_split}
 use Rattle.std.proofs.lemmas.List.Sums.{fails_before_first}
 use Rattle.std.proofs.lemmas.Bool.{ltb-true, ltb-false, ne_eqb}
-use Rattle.vc_app.specs.Script.{lines_of}
+use Rattle.vc_app_script.specs.Script.{lines_of}
 
 -- a line before further parts
 lines-onto : (line : List ℕ) (parts : List (List ℕ)) → 0 < length parts

@@ -1,7 +1,7 @@
 use Rattle.std.proofs.Common.{◌≡◌, ◌≤◌, length}
 use Rattle.vc_desk.specs.Desks.{IsDesk, state_of}
-use Rattle.vc_app.proofs.TranscriptLaws.{SoFar}
-use Rattle.vc_app.proofs.transcript.answer_script.Given as goal
+use Rattle.vc_app_script.proofs.TranscriptLaws.{SoFar}
+use Rattle.vc_app_script.proofs.transcript.answer_script.Given as goal
 
 -- the lines before `rest` are answered
 abbrev pub invariant-loop-line : goal.invariant-loop-line

@@ -2,9 +2,9 @@
 use Rattle.std.proofs.Common.{rules, subst}
 use Rattle.std.proofs.lemmas.Result.{err_from_is_err_and}
 use Rattle.vc_desk.specs.Desks.{state_of}
-use Rattle.vc_app.specs.Transcript.{LineCut, LineDone, LineUnsaid}
-use Rattle.vc_app.proofs.TranscriptLaws.{so_far_push, all_done, some_done, cut_short}
-use Rattle.vc_app.proofs.transcript.answer_script.Goals as goal
+use Rattle.vc_app_script.specs.Transcript.{LineCut, LineDone, LineUnsaid}
+use Rattle.vc_app_script.proofs.TranscriptLaws.{so_far_push, all_done, some_done, cut_short}
+use Rattle.vc_app_script.proofs.transcript.answer_script.Goals as goal
 
 pub returns-in_err-answer_line-clause-memory : goal.returns-in_err-answer_line-clause-memory
 returns-in_err-answer_line-clause-memory g c =

@@ -1,7 +1,7 @@
 -- The reply leaves the state, also where there was no memory for its text.
 use Rattle.vc_desk.specs.Desks.{state_of}
-use Rattle.vc_app.proofs.TranscriptLaws.{reply_leaves}
-use Rattle.vc_app.proofs.transcript.answer_asked.Goals as goal
+use Rattle.vc_app_script.proofs.TranscriptLaws.{reply_leaves}
+use Rattle.vc_app_script.proofs.transcript.answer_asked.Goals as goal
 
 pub returns-clause-leaves : goal.returns-clause-leaves
 returns-clause-leaves g c =

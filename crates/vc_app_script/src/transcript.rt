@@ -4,8 +4,8 @@ ghost use Rattle.std.specs.Prelude.{◌≡◌, ◌≤◌, IfOk, IsSome, OnOk};
 ghost use Rattle.std.specs.Result.{IsErrOf};
 ghost use Rattle.vc_outside.specs.Faults.{Raised};
 ghost use Rattle.vc_desk.specs.Desks.{IsDesk, state_of};
-ghost use Rattle.vc_app.specs.Transcript as transcript;
-ghost use Rattle.vc_app.specs.declared.transcript.ScriptFault.TheVariants as faults;
+ghost use Rattle.vc_app_script.specs.Transcript as transcript;
+ghost use Rattle.vc_app_script.specs.declared.transcript.ScriptFault.TheVariants as faults;
 
 use crate::script::{is_skipped, next_line};
 use std::alloc::{AllocError, Global};

@@ -12,10 +12,10 @@ use Rattle.vc_wire_replies.specs.Replies.{reply_text}
 use Rattle.vc_wire_replies.specs.declared.reply.Reply.{Reply}
 use Rattle.vc_desk.specs.Desks.{Kept, open_of, state_of}
 use Rattle.vc_desk.specs.States.{State, kept, start_state}
-use Rattle.vc_app.specs.Script.{lines_of, is_skipped}
-use Rattle.vc_app.specs.Transcript.{asked_by, RepliesAsked, AnswersAsked, LeavesAsked, AnswersLine, Transcript}
-use Rattle.vc_app.specs.Transcript.{LineStands, done_unsaid, StandsAt, LineDone, LineUnsaid, LineCut, IsAnswered}
-use Rattle.vc_app.specs.Transcript.{IsAnsweredSoFar, IsCutShort}
+use Rattle.vc_app_script.specs.Script.{lines_of, is_skipped}
+use Rattle.vc_app_script.specs.Transcript.{asked_by, RepliesAsked, AnswersAsked, LeavesAsked, AnswersLine, Transcript}
+use Rattle.vc_app_script.specs.Transcript.{LineStands, done_unsaid, StandsAt, LineDone, LineUnsaid, LineCut, IsAnswered}
+use Rattle.vc_app_script.specs.Transcript.{IsAnsweredSoFar, IsCutShort}
 
 -- the text of a reply is an answer
 pub reply_leaves : (plan : Plan) (state : State) (request : Option Request) (reply : Reply) (next : State)

@@ -2,8 +2,8 @@
 use Rattle.std.proofs.Common.{◌≡◌, sym, ◌∙◌, ◌<◌, length, arith}
 use Rattle.std.proofs.lemmas.Bool.{eqb-false}
 use Rattle.std.proofs.lemmas.List.{take_rest}
-use Rattle.vc_app.proofs.ScriptLines.{first_line, only_line}
-use Rattle.vc_app.proofs.script.next_line.Goals as goal
+use Rattle.vc_app_script.proofs.ScriptLines.{first_line, only_line}
+use Rattle.vc_app_script.proofs.script.next_line.Goals as goal
 
 pub returns-in-Some-clause-line : goal.returns-in-Some-clause-line
 returns-in-Some-clause-line c =
