@@ -1,5 +1,1 @@
-pub mod ChainLemmas
-pub mod ConcludingSteps
-pub mod KeyLemmas
-pub mod MarkLemmas
 pub mod SharingLemmas

@@ -1,3 +1,1 @@
-pub mod Keys
-pub mod Marking
 pub mod Sharing

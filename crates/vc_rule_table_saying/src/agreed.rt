@@ -6,7 +6,7 @@ ghost use Rattle.vc_plan.specs.Answers.{value_atoms};
 ghost use Rattle.vc_plan.specs.Domains.{grains_in, grains_of};
 ghost use Rattle.vc_plan.specs.Pieces.{lies_in_some, same_value};
 ghost use Rattle.vc_plan.specs.Seen.{says};
-ghost use Rattle.vc_plan.specs.TableRows.{columns_of, other_columns, is_possible_in, cell_passes, first_cell};
+ghost use Rattle.vc_plan.specs.TableRows.{columns_of, other_columns, is_possible_in, cell_passes};
 ghost use Rattle.vc_plan.specs.TableRows.{has_cell, value_if, agreed};
 ghost use Rattle.vc_rule_premises.specs.Saying.{take_conclusions};
 ghost use Rattle.vc_rule_table.specs.Cells.{FewGrains, agrees};
@@ -15,12 +15,13 @@ ghost use Rattle.vc_rule_table.specs.Reasons.{rows_reasons};
 ghost use Rattle.vc_rule_table.specs.TableSaid.{cell_agreed, new_conclusions};
 ghost use Rattle.vc_rule_table_saying.specs.Sharing.{IsCiting, kept};
 
-use crate::misfits::is_possible_in;
 use crate::sharing::conclude_is;
 use vc_plan::{Binding, Plan, View};
 use vc_rule_table::cells::{domain_of, grain_count, grain_holds};
 use vc_rule_table::notes::{behind, first_note};
 use vc_rule_table::rows::{cell, is_column_of};
+use vc_rule_table_grains::keys::first_cell;
+use vc_rule_table_grains::misfits::is_possible_in;
 use vc_rule_yield::Yield;
 use vc_rule_yield::atoms::same_value;
 use vc_rule_yield::scratch::Note;
@@ -56,20 +57,6 @@ fn first_possible<'a, V: View>(
         }
         rest = more;
         noted = behind(noted);
-    }
-    None
-}
-
-/// The cell of the first of the variable's columns.
-pub fn first_cell(columns: &[Binding], var: u32, row: &[Value]) -> Option<Value>
-    ensures { result ≡ first_cell (columns_of var columns.now) row.now }
-{
-    let mut rest = columns;
-    while let [column, more @ ..] = rest {
-        if is_column_of(var, *column) {
-            return cell(row, *column);
-        }
-        rest = more;
     }
     None
 }

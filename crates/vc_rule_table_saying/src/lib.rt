@@ -2,11 +2,6 @@
 #![tactic(auto)]
 
 pub mod agreed;
-pub mod chains;
-pub mod grains;
-pub mod keys;
-pub mod marks;
-pub mod misfits;
 pub mod sharing;
 pub mod tables;
 

@@ -11,9 +11,9 @@ ghost use Rattle.vc_rule_table.specs.Reasons.{rows_reasons};
 ghost use Rattle.vc_rule_table.specs.TableSaid.{cell_agreed};
 ghost use Rattle.vc_rule_table_saying.specs.Sharing.{IsCiting, fails_first, kept, shares};
 
-use crate::misfits::cite_rows;
 use vc_plan::{Atom, Binding, Plan, View};
 use vc_rule_table::rows::is_column_of;
+use vc_rule_table_grains::misfits::cite_rows;
 use vc_rule_yield::Yield;
 use vc_rule_yield::scratch::Note;
 use vc_value::{Listed, Value};

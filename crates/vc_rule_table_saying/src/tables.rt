@@ -15,11 +15,11 @@ ghost use Rattle.vc_rule_table.specs.TableSaid.{grain_out, new_conclusions};
 ghost use Rattle.vc_rule_table_saying.specs.Sharing.{IsCiting, kept};
 
 use crate::agreed::conclude_agreed;
-use crate::grains::narrow_grains;
-use crate::misfits::{cite_rows, is_possible_in};
 use vc_plan::{Binding, Plan, Rule, View};
 use vc_rule_table::notes::{behind, first_note, note_rows, noted};
 use vc_rule_table::rows::{is_column_of, rows_of};
+use vc_rule_table_grains::grains::narrow_grains;
+use vc_rule_table_grains::misfits::{cite_rows, is_possible_in};
 use vc_rule_terms::elements::element;
 use vc_rule_yield::Yield;
 use vc_rule_yield::scratch::{Marks, Note};

@@ -5,7 +5,7 @@ use Rattle.vc_plan.specs.Seen.{says}
 use Rattle.vc_plan.specs.TableRows.{columns_of, other_columns, is_possible_in, value_if}
 use Rattle.vc_rule_table.specs.Cells.{agrees}
 use Rattle.vc_rule_table.proofs.AgreedLemmas.{agreed_first, agreed_none}
-use Rattle.vc_rule_table_saying.proofs.ConcludingSteps.{new_first}
+use Rattle.vc_rule_table_grains.proofs.ConcludingSteps.{new_first}
 use Rattle.vc_rule_table_saying.proofs.agreed.newly_agreed.Goals as goal
 
 pub returns-in-Some : goal.returns-in-Some

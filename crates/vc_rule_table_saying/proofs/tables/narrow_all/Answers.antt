@@ -5,7 +5,7 @@ use Rattle.vc_rule_yield.specs.Yielding.{Yielded}
 use Rattle.vc_rule_premises.specs.Saying.{take_conclusions}
 use Rattle.vc_rule_table.specs.TableSaid.{concluded_newly, has_column}
 use Rattle.vc_rule_table_saying.specs.Sharing.{kept}
-use Rattle.vc_rule_table_saying.proofs.ConcludingSteps.{concluded_first}
+use Rattle.vc_rule_table_grains.proofs.ConcludingSteps.{concluded_first}
 use Rattle.vc_rule_table_saying.proofs.SharingLemmas.{kept_whole}
 use Rattle.vc_rule_table_saying.proofs.tables.narrow_all.Goals as goal
 

@@ -1,0 +1,4 @@
+pub mod ChainLemmas
+pub mod ConcludingSteps
+pub mod KeyLemmas
+pub mod MarkLemmas

@@ -1,0 +1,7 @@
+-- It stands at the keys of the grains so far.
+use Rattle.std.proofs.Common.{false}
+use Rattle.vc_rule_table_grains.specs.Marking.{AreAt}
+use Rattle.vc_rule_table_grains.proofs.marks.clear_marks.Given as goal
+
+abbrev pub invariant-loop-grain : goal.invariant-loop-grain
+invariant-loop-grain l = AreAt l.domain l.grain false l.had

@@ -1,6 +1,0 @@
--- It stands at the keys of the grains so far.
-use Rattle.vc_rule_table_saying.specs.Marking.{AreAt}
-use Rattle.vc_rule_table_saying.proofs.chains.clear_heads.Given as goal
-
-abbrev pub invariant-loop-grain : goal.invariant-loop-grain
-invariant-loop-grain l = AreAt l.domain l.grain l.count l.heads
