@@ -12,7 +12,7 @@ use std::test::Fail;
 use vc_net_agenda::Giver;
 use vc_net_sources::laws::{
     found_fits_cells, found_is_given, found_is_next, found_refutes, grains_fit_places,
-    rooms_suffice,
+    resting_are_quiet, rooms_suffice,
 };
 use vc_net_sources::{ask, culprit_of, origin_of};
 use vc_plan::{Atom, Culprit, Mark, Origin, Plan, Var, View};
@@ -165,5 +165,6 @@ fn laws_ask_for_nothing(_rt: HostRuntime) -> Result<(), Fail> {
     found_fits_cells();
     rooms_suffice();
     grains_fit_places();
+    resting_are_quiet();
     Ok(())
 }

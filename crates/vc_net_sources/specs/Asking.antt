@@ -1,11 +1,12 @@
 -- What any giver says at what is seen, with what it follows from.
-use Rattle.std.specs.Prelude.{ℕ, Bool, false, List, [], ◌∷◌, Option, None, Some, is_none}
+use Rattle.std.specs.Prelude.{ℕ, Bool, false, List, [], ◌∷◌, Option, None, Some, is_none, slice_get}
 use Rattle.vc_base.specs.Rounds.{Given, clash, atoms}
 use Rattle.vc_plan.specs.declared.atoms.Atom.{Atom}
 use Rattle.vc_plan.specs.declared.atoms.Atom.TheVariants.{Is}
 use Rattle.vc_plan.specs.declared.atoms.Origin.{Origin}
 use Rattle.vc_plan.specs.declared.atoms.Origin.TheVariants as origins
 use Rattle.vc_plan.specs.declared.plans.Plan.{Plan}
+use Rattle.vc_plan.specs.declared.rules.Rule.{Rule}
 use Rattle.vc_plan.specs.Answers.{nothing}
 use Rattle.vc_plan.specs.Gives.{Giver, by_rule, by_user, by_entry, giver_says, if_here}
 use Rattle.vc_plan.specs.Seen.{Seen}
@@ -14,6 +15,7 @@ use Rattle.vc_rule_premises.specs.Cited.{cited_once}
 use Rattle.vc_rule_premises.specs.Saying.{Said, said_from}
 use Rattle.vc_rule_grains.specs.Kinds.{slot_of}
 use Rattle.vc_rule.specs.Evaluating.{found_at}
+use Rattle.vc_rule.specs.Resting.{rests}
 use Rattle.vc_net_sources.specs.declared.telling.Telling.{Telling}
 use Rattle.vc_net_sources.specs.declared.telling.Telling.TheVariants.{Nothing, Value, Outside}
 
@@ -39,6 +41,20 @@ abbrev pub tells_nothing : Sources → Giver → Bool
 tells_nothing sources (by_rule r) = false
 tells_nothing sources (by_user v) = is_none (user_of sources v)
 tells_nothing sources (by_entry v) = is_none (entry_of sources v)
+
+-- whether the rule of this number, if it is there, is told at a glance to say nothing new
+abbrev pub rests_if : Plan → Seen → Option Rule → Bool
+rests_if plan seen None = false
+rests_if plan seen (Some rule) = rests plan seen rule.kind
+
+abbrev pub rests_at : Plan → Seen → ℕ → Bool
+rests_at plan seen r = rests_if plan seen (slice_get plan.rules r)
+
+-- so is the giver, a rule that rests or a source that tells nothing
+abbrev pub is_at_rest : Plan → Sources → Seen → Giver → Bool
+is_at_rest plan sources seen (by_rule r) = rests_at plan seen r
+is_at_rest plan sources seen (by_user v) = tells_nothing sources (by_user v)
+is_at_rest plan sources seen (by_entry v) = tells_nothing sources (by_entry v)
 
 -- the origin of what a giver concludes. An entry that isn't there concludes nothing
 abbrev pub origin_by : Option Entry → Origin

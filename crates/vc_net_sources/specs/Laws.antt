@@ -13,7 +13,7 @@ use Rattle.vc_plan.specs.Gives.{Giver, gives}
 use Rattle.vc_plan.specs.Seen.{Seen, same_atom, says, seen_of}
 use Rattle.vc_plan.specs.Sources.{Sources}
 use Rattle.vc_plan.specs.Valid.{IsValid}
-use Rattle.vc_plan_reasons.specs.Checking.{concluded, is_accepted, set_with}
+use Rattle.vc_plan_reasons.specs.Checking.{concluded, is_accepted, is_silent, set_with}
 use Rattle.vc_plan_reasons.specs.Fitting.{sources_fit}
 use Rattle.vc_plan_blame.specs.Blame.{clash_by, culprit_giving}
 use Rattle.vc_plan_blame.specs.Laws.{Blames}
@@ -25,7 +25,7 @@ use Rattle.vc_rule.specs.Rooms.{rooms_of}
 use Rattle.vc_rule_laws.specs.Following.{IsNext}
 use Rattle.vc_net_places.specs.Cells.{own_bound}
 use Rattle.vc_net_places.specs.Places.{place_for}
-use Rattle.vc_net_sources.specs.Asking.{evaluations, found_from, origin_of, tells_nothing}
+use Rattle.vc_net_sources.specs.Asking.{evaluations, found_from, is_at_rest, origin_of, tells_nothing}
 
 -- without what it follows from it is what the giver gives
 abbrev pub FoundIsGiven : Type 0
@@ -100,3 +100,9 @@ SilentSourcesFindNothing = (plan : Plan) (sources : Sources) (seen : Seen) (give
 abbrev pub SilentSourcesCostNothing : Type 0
 SilentSourcesCostNothing = (sources : Sources) (giver : Giver) → tells_nothing sources giver ≡ true
     → evaluations giver ≡ 0
+
+-- whoever is at rest in a clear set is quiet there: it doesn't clash, and all that it says stands
+abbrev pub RestingAreQuiet : Type 0
+RestingAreQuiet = (plan : Plan) (sources : Sources) (set : List Atom) (giver : Giver) → is_clear plan set ≡ true
+    → is_at_rest plan sources (seen_of set) giver ≡ true
+    → is_silent (gives plan sources giver (seen_of set)) ≡ true

@@ -10,7 +10,8 @@ ghost use Rattle.vc_rule_premises.specs.Saying.{held, said_from, taken, HasRoomF
 ghost use Rattle.vc_rule_grains.specs.Kinds.{slot_of};
 ghost use Rattle.vc_rule.specs.Evaluating.{RulesFit};
 ghost use Rattle.vc_net_agenda.specs.Agendas.{meant};
-ghost use Rattle.vc_net_sources.specs.Asking.{evaluations, found_from, given_by, source_said, tells_nothing};
+ghost use Rattle.vc_net_sources.specs.Asking.{evaluations, found_from, given_by, rests_at, source_said};
+ghost use Rattle.vc_net_sources.specs.Asking.{tells_nothing};
 
 use crate::telling::{Telling, told_by_entry, told_by_user};
 use std::sync::ledger::Ledger;
@@ -18,6 +19,7 @@ use vc_net_agenda::Giver;
 use vc_plan::{Atom, Plan, View};
 use vc_plan_sources::Sources;
 use vc_rule::evaluate;
+use vc_rule::resting::rests;
 use vc_rule_grains::grains::stands;
 use vc_rule_terms::elements::element;
 use vc_rule_yield::Yield;
@@ -63,6 +65,17 @@ pub fn tells_nothing(sources: &Sources, giver: Giver) -> bool
         Giver::Rule(_) => false,
         Giver::User(var) => sources.user(var).is_none(),
         Giver::Entry(var) => sources.written(var).is_none(),
+    }
+}
+
+/// Whether the rule is told at a glance to say nothing new at the view: `resting_are_quiet` says what that means. One
+/// that isn't there isn't.
+pub fn rests_at<V: View>(plan: &Plan, view: &V, rule: u32) -> bool
+    ensures { result ≡ rests_at plan.now (V.seen view.now) rule }
+{
+    match element(plan.rules.as_slice(), rule) {
+        Some(rule) => rests(plan, view, &rule.kind),
+        None => false,
     }
 }
 

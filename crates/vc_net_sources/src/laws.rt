@@ -1,8 +1,8 @@
 //! Laws of what is found by any giver, each the contract of a function that does nothing.
 
 ghost use Rattle.vc_net_sources.specs.Laws.{ClashFitsCells, FoundFitsCells, FoundIsConcluded, FoundIsGiven};
-ghost use Rattle.vc_net_sources.specs.Laws.{FoundIsNew, FoundIsNext, FoundRefutes, GrainsFitPlaces, RoomsSuffice};
-ghost use Rattle.vc_net_sources.specs.Laws.{SilentSourcesCostNothing, SilentSourcesFindNothing};
+ghost use Rattle.vc_net_sources.specs.Laws.{FoundIsNew, FoundIsNext, FoundRefutes, GrainsFitPlaces, RestingAreQuiet};
+ghost use Rattle.vc_net_sources.specs.Laws.{RoomsSuffice, SilentSourcesCostNothing, SilentSourcesFindNothing};
 
 /// What is found, without what it follows from, is what the giver gives. Each premise is of the set at which it is
 /// asked, beside that the root is here, and no conclusion stands there.
@@ -43,4 +43,9 @@ pub fn grains_fit_places()
 pub fn silent_sources_find_nothing()
     ensures found { SilentSourcesFindNothing }
     ensures cost { SilentSourcesCostNothing }
+{}
+
+/// A rule that rests at what stands, and a source that tells nothing, doesn't clash, and all that it says stands.
+pub fn resting_are_quiet()
+    ensures { RestingAreQuiet }
 {}

@@ -6,5 +6,5 @@ pub mod laws;
 pub mod naming;
 pub mod telling;
 
-pub use asking::{ask, tells_nothing};
+pub use asking::{ask, rests_at, tells_nothing};
 pub use naming::{culprit_of, origin_of};

@@ -11,7 +11,7 @@ use vc_value::Value;
 /// Whether it gives a variable that isn't restrictable the text that this has, or is the rule of a variable's last
 /// grain and two are left. Each atom wakes the rule that gave it, and that of its variable's last grain, so most turns
 /// may end here.
-pub(crate) fn rests<V: View>(plan: &Plan, view: &V, kind: &Kind) -> bool
+pub fn rests<V: View>(plan: &Plan, view: &V, kind: &Kind) -> bool
     ensures { result ≡ rests plan.now (V.seen view.now) kind.now }
 {
     match kind {
