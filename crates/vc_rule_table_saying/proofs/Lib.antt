@@ -1,1 +1,2 @@
 pub mod SharingLemmas
+pub mod SkippingLemmas

@@ -16,6 +16,7 @@ ghost use Rattle.vc_rule_table.specs.TableSaid.{cell_agreed, new_conclusions};
 ghost use Rattle.vc_rule_table_saying.specs.Sharing.{IsCiting, kept};
 
 use crate::sharing::conclude_is;
+use crate::skipping::{given_up, notes_past, rows_past};
 use vc_plan::{Binding, Plan, View};
 use vc_rule_table::cells::{domain_of, grain_count, grain_holds};
 use vc_rule_table::notes::{behind, first_note};
@@ -42,8 +43,9 @@ fn first_possible<'a, V: View>(
     ensures none { IfNone result (find (is_possible_in plan.now (V.seen view.now)
         (other_columns var columns.now)) rows.now ≡ None) }
 {
-    let mut rest = rows;
-    let mut noted = notes;
+    let front = given_up(columns, notes);
+    let mut rest = rows_past(rows, front);
+    let mut noted = notes_past(notes, front);
     while let [row, more @ ..] = rest {
         if is_possible_in(
             plan,
@@ -55,8 +57,10 @@ fn first_possible<'a, V: View>(
         ) {
             return Some(row.as_slice());
         }
-        rest = more;
-        noted = behind(noted);
+        let later = behind(noted);
+        let skipped = given_up(columns, later);
+        rest = rows_past(more, skipped);
+        noted = notes_past(later, skipped);
     }
     None
 }
@@ -115,8 +119,9 @@ fn all_agree<V: View>(
     ensures { result ≡ list_all (has_cell (columns_of var columns.now) value)
         (filter (is_possible_in plan.now (V.seen view.now) (other_columns var columns.now)) rows.now) }
 {
-    let mut rest = rows;
-    let mut noted = notes;
+    let front = given_up(columns, notes);
+    let mut rest = rows_past(rows, front);
+    let mut noted = notes_past(notes, front);
     while let [row, more @ ..] = rest {
         if disagrees(
             plan,
@@ -129,8 +134,10 @@ fn all_agree<V: View>(
         ) {
             return false;
         }
-        rest = more;
-        noted = behind(noted);
+        let later = behind(noted);
+        let skipped = given_up(columns, later);
+        rest = rows_past(more, skipped);
+        noted = notes_past(later, skipped);
     }
     true
 }

@@ -3,6 +3,7 @@
 
 pub mod agreed;
 pub mod sharing;
+pub mod skipping;
 pub mod tables;
 
 pub use tables::say_table;
