@@ -36,7 +36,7 @@ pub fn cite_term<V: View>(view: &V, term: &Term, out: &mut Yield)
     }
 }
 
-// Cites the same for a side of a comparison: most are literals, which read nothing.
+// Cites the same for a side of a comparison: one is mostly a literal, which reads nothing.
 #[inline(always)]
 fn cite_side<V: View>(view: &V, term: &Term, out: &mut Yield)
     ensures { out.new ≡ cited_all out.old (values_of (V.seen view.now) (vars_in term.now)) }
