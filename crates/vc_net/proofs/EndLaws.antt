@@ -3,9 +3,9 @@ use Rattle.std.proofs.Common.{◌≡◌, ℕ, zero, suc, ◌+◌, ◌<◌, ◌�
 use Rattle.std.proofs.Common.{ap, subst, inl, inr, arith, append-nil, append_assoc, add-one, length-append}
 use Rattle.std.specs.Prelude.{Option, None, Some, ◌&&◌, option_map, slice_get}
 use Rattle.std.specs.List.{list_all}
-use Rattle.std.proofs.lemmas.Bool.{and_from}
+use Rattle.std.proofs.lemmas.Bool.{and_from, or_cases}
 use Rattle.vc_base.specs.Sets.{has, Within}
-use Rattle.vc_base.proofs.SetLaws.{has_cases, has_either, has_first}
+use Rattle.vc_base.proofs.SetLaws.{has_cases, has_either, has_first, told}
 use Rattle.vc_plan.specs.declared.atoms.Atom.{Atom}
 use Rattle.vc_plan.specs.declared.atoms.Step.{Step}
 use Rattle.vc_plan.specs.declared.plans.Plan.{Plan}
@@ -30,7 +30,8 @@ use Rattle.vc_net_waking.proofs.BeginningLaws.{beginners_suffice}
 use Rattle.vc_net_waking.proofs.GiverLaws.{each_waits, sizes_stay}
 use Rattle.vc_net_waking.specs.Beginning.{beginners}
 use Rattle.vc_net.specs.Breaking.{clash_from, steps_with}
-use Rattle.vc_net.specs.Going.{HasCome, HasGoneOn, IsBrokenOff, IsGoing, MayCome, WasFound, turns_of}
+use Rattle.vc_net.specs.Going.{HasCome, HasGoneOn, IsBrokenOff, IsGoing, MayCome, WasFound, is_asked_or_quiet}
+use Rattle.vc_net.specs.Going.{turns_of}
 use Rattle.vc_net.specs.Ending.{EndsAs, IsSettled}
 use Rattle.vc_net.specs.Renewing.{BeginsWith}
 use Rattle.vc_net.specs.Spending.{Spends}
@@ -39,10 +40,10 @@ use Rattle.vc_net.specs.Working.{IsWorkOf, asking_next, restarted, with_giver}
 use Rattle.vc_net.proofs.GoingLaws.{found_may_come, found_new, may_still_come}
 use Rattle.vc_net.proofs.PlanFacts.{base_clear}
 
--- what is so far of a giver's turn: nothing came, or it is asked again
-abbrev pub SoFar : Giver → Work → Work → ℕ → Type 0
-SoFar giver start now zero = now ≡ start
-SoFar giver start now (suc n) = has same_giver now.agenda.givers giver ≡ true
+-- what is so far of a giver's turn: nothing came, or it is asked again or quiet
+abbrev pub SoFar : Plan → Sources → Giver → Work → Work → ℕ → Type 0
+SoFar plan sources giver start now zero = now ≡ start
+SoFar plan sources giver start now (suc n) = is_asked_or_quiet plan sources giver now ≡ true
 
 pub record IsTurning (plan : Plan) (sources : Sources) (giver : Giver) (start now : Work) (place : ℕ) : Type 0 where
   pub going : IsGoing plan sources now (giver ∷ [])
@@ -50,7 +51,7 @@ pub record IsTurning (plan : Plan) (sources : Sources) (giver : Giver) (start no
   pub grown : now.log.steps ≡ start.log.steps ++ more
   pub fewer : turns_of plan now ≤ turns_of plan start
   pub calm : now.breaker ≡ start.breaker
-  pub so_far : SoFar giver start now place
+  pub so_far : SoFar plan sources giver start now place
   pub spends : Spends plan giver start now
 
 pub turn_begins : (plan : Plan) (sources : Sources) (giver : Giver) (work : Work)
@@ -97,18 +98,24 @@ module _ (plan : Plan) (sources : Sources) (giver : Giver) (start now : Work) (a
         come.more);
     fewer = let one = come.fewer in let rest = turning.fewer in omega (arith, one, rest);
     calm = come.calm ∙ turning.calm;
-    so_far = subst (λ n. SoFar giver start later n) (sym (add-one place)) (asked place turning.so_far is);
+    so_far =
+        subst (λ n. SoFar plan sources giver start later n) (sym (add-one place)) (asked place turning.so_far is);
     spends = λ things front count base holds touch spent.
         come.spends things front count base holds touch
         (turning.spends things front count base holds touch spent);
   }
     where
-      asked : (n : ℕ) → SoFar giver start now n → slice_get all n ≡ Some conclusion
-          → has same_giver later.agenda.givers giver ≡ true
+      asked : (n : ℕ) → SoFar plan sources giver start now n → slice_get all n ≡ Some conclusion
+          → is_asked_or_quiet plan sources giver later ≡ true
       asked zero same first =
           come.waits (ap (λ w. says (seen_by w.log) conclusion.atom) same
           ∙ found_new plan sources start giver all zero conclusion valid going was first)
-      asked (suc n) waits next = come.wait_on giver waits
+      asked (suc n) waits next =
+          elim (told (says (seen_by now.log) conclusion.atom)) [
+            | inl stands ↦
+                ap (is_asked_or_quiet plan sources giver) (come.unchanged stands) ∙ waits
+            | inr fresh ↦ come.waits fresh
+          ]
 
 -- steps that come behind others come behind those before them
 pub begins_on : (first second third : List Step) → BeginsWith first second → BeginsWith second third
@@ -171,14 +178,20 @@ turn_ends plan sources giver start now all was turning = record {
     quiet none =
         ap is_silent (sym (found_is_given plan sources (seen_by start.log) giver) ∙ ap given_of none)
 
-    by : (all : List Conclusion) → WasFound plan sources start giver all → SoFar giver start now (length all)
+    by : (all : List Conclusion) → WasFound plan sources start giver all
+        → SoFar plan sources giver start now (length all)
         → IsWorking plan sources now.agenda.givers (set_of now.log)
     by [] none same =
         quiet_may_leave plan sources now.agenda.givers (set_of now.log) giver turning.going.working
         (ap (λ w. is_quiet plan sources (set_of w.log) giver) same ∙ quiet none)
     by (c ∷ more) some waits =
-        agendas_may_grow plan sources (now.agenda.givers ++ giver ∷ []) now.agenda.givers (set_of now.log)
-        turning.going.working (within_one now.agenda.givers giver waits)
+        elim (or_cases (has same_giver now.agenda.givers giver) (is_quiet plan sources (set_of now.log) giver) waits) [
+          | inl on ↦
+              agendas_may_grow plan sources (now.agenda.givers ++ giver ∷ []) now.agenda.givers (set_of now.log)
+              turning.going.working (within_one now.agenda.givers giver on)
+          | inr silent ↦
+              quiet_may_leave plan sources now.agenda.givers (set_of now.log) giver turning.going.working silent
+        ]
 
 -- who is taken from the agenda stands beside it, and one turn less is left
 pub giver_taken : (plan : Plan) (sources : Sources) (old new : Work) (giver : Giver) → old ≡ asking_next new giver

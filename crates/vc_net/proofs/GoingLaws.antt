@@ -1,8 +1,8 @@
 -- The work of a net goes on with a conclusion that may come.
 use Rattle.std.proofs.Common.{◌≡◌, ℕ, ◌≤◌, true, false, List, [], ◌∷◌, ◌++◌, length, map, refl, sym, ◌∙◌, ap, subst}
 use Rattle.std.proofs.Common.{inl, inr, arith, append-nil, append_assoc}
-use Rattle.std.specs.Prelude.{Some, slice_get}
-use Rattle.std.proofs.lemmas.Bool.{false_from_ne_true}
+use Rattle.std.specs.Prelude.{Some, ◌||◌, slice_get}
+use Rattle.std.proofs.lemmas.Bool.{false_from_ne_true, or_cases, or_left, or_right}
 use Rattle.std.proofs.lemmas.List.{map-append}
 use Rattle.std.proofs.lemmas.List.Sums.{sum_by_push}
 use Rattle.std.specs.List.{sum_by}
@@ -29,9 +29,10 @@ use Rattle.vc_net_laws.specs.Wakings.{rules_at}
 use Rattle.vc_plan_reasons.proofs.ReasonLaws.Givers.{giving_in}
 use Rattle.vc_rule_laws.proofs.FollowingLaws.{next_is_accepted, next_may_wait}
 use Rattle.vc_rule_yield.specs.Yielding.{Conclusion}
+use Rattle.vc_net_laws.specs.Forced.{is_quiet}
 use Rattle.vc_net_laws.specs.Waking.{is_woken}
 use Rattle.vc_net_laws.specs.Wakings.{turns_left}
-use Rattle.vc_net_laws.specs.Working.{IsWorking, same_giver, woken}
+use Rattle.vc_net_laws.specs.Working.{AreAskedOrQuiet, IsWorking, same_giver, woken}
 use Rattle.vc_net_laws.proofs.NetLaws.Forced.{given_is_forced}
 use Rattle.vc_net_laws.proofs.NetLaws.Waking.{givers_wake_themselves}
 use Rattle.vc_net_laws.proofs.NetLaws.Wakings.{atoms_pay_for_turns}
@@ -50,7 +51,7 @@ use Rattle.vc_net_waking.proofs.GiverLaws.{others_wait_on, sizes_stay}
 use Rattle.vc_net_waking.proofs.WakingLaws.{waking_is_few, woken_wait}
 use Rattle.vc_net.specs.Spending.{Spends}
 use Rattle.vc_net_work.proofs.SpendLaws.{conclusions_are_of_things, rules_woken_are_few, woken_are_on}
-use Rattle.vc_net.specs.Going.{HasCome, IsGoing, MayCome, WasFound, turns_of}
+use Rattle.vc_net.specs.Going.{HasCome, IsGoing, MayCome, WasFound, is_asked_or_quiet, turns_of}
 use Rattle.vc_net.specs.declared.work.Work.{Work}
 use Rattle.vc_net.specs.Working.{IsWorkOf, with_conclusion}
 
@@ -143,7 +144,7 @@ module _ (plan : Plan) (sources : Sources) (work : Work) (giver : Giver) (atom :
     step = step_from work.log.steps fact premises
 
     abbrev new : Work
-    new = with_conclusion plan work fact premises
+    new = with_conclusion plan sources work fact premises
 
     more : set_of new.log ≡ set_of work.log ++ atom ∷ []
     more = set_more work.log.steps step
@@ -157,18 +158,34 @@ module _ (plan : Plan) (sources : Sources) (work : Work) (giver : Giver) (atom :
         (cited_by work.log.steps premises) going.accepted may.next cites
 
     stays : Within same_giver work.agenda.givers new.agenda.givers
-    stays = others_wait_on work.agenda (waking plan (seen_by new.log) (thing_of atom))
+    stays = others_wait_on work.agenda (waking plan sources (seen_by new.log) (thing_of atom))
 
     all_wait : is_clear plan (set_of work.log ++ atom ∷ []) ≡ true
-        → Within same_giver (woken plan (set_of work.log) atom) new.agenda.givers
+        → AreAskedOrQuiet plan sources new.agenda.givers (set_of work.log ++ atom ∷ [])
+        (woken plan (set_of work.log) atom)
     all_wait clear =
-        subst (λ s. Within same_giver (woken plan (set_of work.log) atom)
-        (with_givers work.agenda (waking plan (seen_of s) (thing_of atom))).givers)
-        (sym more) (woken_wait plan (set_of work.log) atom work.agenda going.of.sizes clear)
+        subst (λ s. AreAskedOrQuiet plan sources
+        (with_givers work.agenda (waking plan sources (seen_of s) (thing_of atom))).givers
+        (set_of work.log ++ atom ∷ []) (woken plan (set_of work.log) atom))
+        (sym more) (woken_wait plan sources (set_of work.log) atom work.agenda going.of.sizes clear)
 
-    asked : is_clear plan (set_of work.log ++ atom ∷ []) ≡ true → has same_giver new.agenda.givers giver ≡ true
+    -- also with the giver beside them
+    all_beside : is_clear plan (set_of work.log ++ atom ∷ []) ≡ true
+        → AreAskedOrQuiet plan sources (new.agenda.givers ++ giver ∷ []) (set_of work.log ++ atom ∷ [])
+        (woken plan (set_of work.log) atom)
+    all_beside clear other h =
+        let quiet = is_quiet plan sources (set_of work.log ++ atom ∷ []) other in
+        let on = has same_giver (new.agenda.givers ++ giver ∷ []) other in
+        elim (or_cases (has same_giver new.agenda.givers other) quiet (all_wait clear other h)) [
+          | inl e ↦
+              or_left on quiet (has_front same_giver giver_exact giver_itself new.agenda.givers (giver ∷ []) other e)
+          | inr e ↦ or_right on quiet e
+        ]
+
+    asked : is_clear plan (set_of work.log ++ atom ∷ []) ≡ true → is_asked_or_quiet plan sources giver new ≡ true
     asked clear =
-        all_wait clear giver
+        ap (λ s. has same_giver new.agenda.givers giver || is_quiet plan sources s giver) more
+        ∙ all_wait clear giver
         (filter_has same_giver giver_exact giver_itself (is_woken plan (set_of work.log) atom) (givers_of plan) giver
         may.giver_there (may.wakes (set_of work.log) (λ a h. h)))
 
@@ -200,14 +217,12 @@ module _ (plan : Plan) (sources : Sources) (work : Work) (giver : Giver) (atom :
         (atoms_come plan sources (work.agenda.givers ++ giver ∷ []) (new.agenda.givers ++ giver ∷ [])
         (set_of work.log) atom
         going.working may.forced (not_in plan (set_of work.log) atom going.working.sound.clear fresh) clear
-        (wait_beside work.agenda.givers new.agenda.givers giver stays)
-        (λ other h. has_front same_giver giver_exact giver_itself new.agenda.givers (giver ∷ []) other
-        (all_wait clear other h)))
+        (wait_beside work.agenda.givers new.agenda.givers giver stays) (all_beside clear))
 
     fewer : is_clear plan (set_of work.log ++ atom ∷ []) ≡ true → says (seen_by work.log) atom ≡ false
         → turns_of plan new ≤ turns_of plan work
     fewer clear fresh =
-        let few = waking_is_few plan (seen_by new.log) atom work.agenda (is_placed clear) in
+        let few = waking_is_few plan sources (seen_by new.log) atom work.agenda (is_placed clear) in
         subst (λ s. turns_left plan s new.agenda.givers ≤ turns_of plan work) (sym more)
         (atoms_pay_for_turns plan (set_of work.log) atom work.agenda.givers new.agenda.givers clear
         (distinct_more same_atom atom_exact atom_itself (set_of work.log) atom going.working.distinct
@@ -215,7 +230,7 @@ module _ (plan : Plan) (sources : Sources) (work : Work) (giver : Giver) (atom :
 
     still_of : IsWorkOf plan new
     still_of =
-        let sizes = sizes_stay work.agenda (waking plan (seen_by new.log) (thing_of atom)) in record {
+        let sizes = sizes_stay work.agenda (waking plan sources (seen_by new.log) (thing_of atom)) in record {
           index = going.of.index;
           begins = going.of.begins;
           sizes = (sizes.0 ∙ going.of.sizes.0, sizes.1 ∙ going.of.sizes.1);
@@ -229,7 +244,7 @@ module _ (plan : Plan) (sources : Sources) (work : Work) (giver : Giver) (atom :
 
     spends : is_clear plan (set_of work.log ++ atom ∷ []) ≡ true → Spends plan giver work new
     spends clear things front count base holds touch spent = record {
-      on = woken_are_on plan things work.agenda (seen_by new.log) (thing_of atom) going.of.sizes
+      on = woken_are_on plan sources things work.agenda (seen_by new.log) (thing_of atom) going.of.sizes
           (may.of things holds touch) spent.on;
       fresh = spent.fresh ++ step ∷ [];
       grown = ap (λ steps. steps ++ step ∷ []) spent.grown ∙ append_assoc front spent.fresh (step ∷ []);
@@ -242,7 +257,7 @@ module _ (plan : Plan) (sources : Sources) (work : Work) (giver : Giver) (atom :
             ]
           ];
       paid =
-          let few = rules_woken_are_few plan work.agenda (seen_by new.log) atom in
+          let few = rules_woken_are_few plan sources work.agenda (seen_by new.log) atom in
           let paid = spent.paid in
           let more = sum_by_push (rules_at plan) (concluded spent.fresh) atom in
           let same = ap (sum_by (rules_at plan)) (map-append step_form.conclusion spent.fresh (step ∷ [])) in
@@ -250,7 +265,7 @@ module _ (plan : Plan) (sources : Sources) (work : Work) (giver : Giver) (atom :
     }
 
     pub comes : is_clear plan (set_of work.log ++ atom ∷ []) ≡ true → says (seen_by work.log) atom ≡ false
-        → HasCome plan sources giver atom work (with_conclusion plan work fact premises)
+        → HasCome plan sources giver atom work (with_conclusion plan sources work fact premises)
     comes clear fresh = record {
       going = record { of = still_of; accepted = step_accepted; working = works clear fresh };
       more = step ∷ [];
@@ -259,6 +274,7 @@ module _ (plan : Plan) (sources : Sources) (work : Work) (giver : Giver) (atom :
       calm = refl;
       wait_on = stays;
       waits = λ e. asked clear;
+      unchanged = λ e. absurd (both e fresh);
       spends = spends clear;
     }
 
@@ -271,5 +287,6 @@ module _ (plan : Plan) (sources : Sources) (work : Work) (giver : Giver) (atom :
       calm = refl;
       wait_on = λ other h. h;
       waits = λ e. absurd (both stands e);
+      unchanged = λ e. refl;
       spends = λ things front count base holds touch spent. spent;
     }

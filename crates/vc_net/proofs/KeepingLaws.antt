@@ -33,7 +33,7 @@ module _ (plan : Plan) (old new : Sources) (work : Work) (going : IsGoing plan o
     (taken : Filled Fact) (kept : log ≡ with_steps work.log (kept_of old new work.log.steps))
     (were : WereTaken work.log.steps log.steps taken.items) (room : taken.room ≡ work.taken.room) (agenda : Awaited)
     (facts : List Fact) (facts_are : facts ≡ taken.items)
-    (asks : agenda ≡ with_givers work.agenda (dropped_wake plan (concluded log.steps) (atoms_of facts)))
+    (asks : agenda ≡ with_givers work.agenda (dropped_wake plan new (concluded log.steps) (atoms_of facts)))
     (breaker : Breaker) (calm : breaker ≡ unbroken work.breaker) where
   kept_steps : log.steps ≡ steps_left plan old new work going
   kept_steps = ap (λ (l : Logged). l.steps) kept
@@ -44,8 +44,9 @@ module _ (plan : Plan) (old new : Sources) (work : Work) (going : IsGoing plan o
   woken : agenda ≡ first plan old new work going taken.items were_left
   woken =
       asks
-      ∙ (ap (λ xs. with_givers work.agenda (dropped_wake plan (concluded log.steps) (atoms_of xs))) facts_are
-      ∙ ap (λ steps. with_givers work.agenda (dropped_wake plan (concluded steps) (atoms_of taken.items))) kept_steps)
+      ∙ (ap (λ xs. with_givers work.agenda (dropped_wake plan new (concluded log.steps) (atoms_of xs))) facts_are
+      ∙ ap (λ steps. with_givers work.agenda (dropped_wake plan new (concluded steps) (atoms_of taken.items)))
+      kept_steps)
 
   pub has_kept : HasKept plan old new work (record {
     log = log;

@@ -119,24 +119,24 @@ dropped_reached plan valid old new work going a h gone =
     ]
 
 -- who is woken by what was dropped, and whose sources changed
-woken_by : (plan : Plan) (stand atoms : List Atom) (giver : Giver)
-    → has same_giver (dropped_wake plan stand atoms) giver ≡ true
+woken_by : (plan : Plan) (sources : Sources) (stand atoms : List Atom) (giver : Giver)
+    → has same_giver (dropped_wake plan sources stand atoms) giver ≡ true
     → (a : Atom) × (has same_atom atoms a ≡ true) × (has same_atom stand a ≡ false)
     × (giver_touches plan giver (thing_of a) ≡ true)
-woken_by plan stand [] giver h = absurd (cc)
-woken_by plan stand (b ∷ atoms) giver h =
+woken_by plan sources stand [] giver h = absurd (cc)
+woken_by plan sources stand (b ∷ atoms) giver h =
     by (told (has same_atom stand b))
-    (has_either same_giver giver_exact giver_itself (own (has same_atom stand b)) (dropped_wake plan stand atoms) giver
-    h)
-    (woken_by plan stand atoms giver)
+    (has_either same_giver giver_exact giver_itself (own (has same_atom stand b))
+    (dropped_wake plan sources stand atoms) giver h)
+    (woken_by plan sources stand atoms giver)
   where
     own : Bool → List Giver
-    own t = if t then [] else waking plan (seen_of (set_with stand)) (thing_of b)
+    own t = if t then [] else waking plan sources (seen_of (set_with stand)) (thing_of b)
 
     by : (has same_atom stand b ≡ true) ⊎ (has same_atom stand b ≡ false)
         → (has same_giver (own (has same_atom stand b)) giver ≡ true)
-        ⊎ (has same_giver (dropped_wake plan stand atoms) giver ≡ true)
-        → (has same_giver (dropped_wake plan stand atoms) giver ≡ true
+        ⊎ (has same_giver (dropped_wake plan sources stand atoms) giver ≡ true)
+        → (has same_giver (dropped_wake plan sources stand atoms) giver ≡ true
         → (a : Atom) × (has same_atom atoms a ≡ true) × (has same_atom stand a ≡ false)
         × (giver_touches plan giver (thing_of a) ≡ true))
         → (a : Atom) × (has same_atom (b ∷ atoms) a ≡ true) × (has same_atom stand a ≡ false)
@@ -151,7 +151,7 @@ woken_by plan stand (b ∷ atoms) giver h =
       b,
       has_first same_atom atom_exact atom_itself b atoms,
       e,
-      woken_touch plan (seen_of (set_with stand)) (thing_of b) giver
+      woken_touch plan sources (seen_of (set_with stand)) (thing_of b) giver
           (ap (λ t. has same_giver (own t) giver) (sym e) ∙ k),
     )
 
@@ -179,11 +179,11 @@ module _ (plan : Plan) (valid : IsValid plan) (old new : Sources) (work : Work) 
       ∙ (ap atoms_of were.split ∙ map-append (λ (f : Fact). f.atom) were.front taken)
 
   woken_reach : (giver : Giver)
-      → has same_giver (dropped_wake plan (concluded (steps_left plan old new work going)) (atoms_of taken)) giver
+      → has same_giver (dropped_wake plan new (concluded (steps_left plan old new work going)) (atoms_of taken)) giver
       ≡ true
       → touches_one plan all giver ≡ true
   woken_reach giver h =
-      let r = woken_by plan (concluded (steps_left plan old new work going)) (atoms_of taken) giver h in
+      let r = woken_by plan new (concluded (steps_left plan old new work going)) (atoms_of taken) giver h in
       let there : has same_atom (concluded work.log.steps) r.0 ≡ true
       = ap (λ atoms. has same_atom atoms r.0) split
       ∙ has_back same_atom atom_exact atom_itself (atoms_of were.front) (atoms_of taken) r.0 r.1 in
@@ -206,9 +206,9 @@ module _ (plan : Plan) (valid : IsValid plan) (old new : Sources) (work : Work) 
 
   woken_on : AreOn plan all
       (with_givers work.agenda
-      (dropped_wake plan (concluded (steps_left plan old new work going)) (atoms_of taken))).givers
+      (dropped_wake plan new (concluded (steps_left plan old new work going)) (atoms_of taken))).givers
   woken_on =
-      let woken = dropped_wake plan (concluded (steps_left plan old new work going)) (atoms_of taken) in
+      let woken = dropped_wake plan new (concluded (steps_left plan old new work going)) (atoms_of taken) in
       let before = on_more plan (reach_of plan behind) all work.agenda.givers behind_within on in record {
         once = givers_once work.agenda woken before.once;
         there = λ giver h. elim (given_are plan work.agenda woken giver going.of.sizes h) [
@@ -224,7 +224,7 @@ module _ (plan : Plan) (valid : IsValid plan) (old new : Sources) (work : Work) 
   pub last_on : AreOn plan all (last plan old new work going taken were givers are).givers
   last_on =
       let first = with_givers work.agenda
-      (dropped_wake plan (concluded (steps_left plan old new work going)) (atoms_of taken)) in
+      (dropped_wake plan new (concluded (steps_left plan old new work going)) (atoms_of taken)) in
       let sizes = first_sizes plan old new work going taken were in record {
         once = givers_once first givers woken_on.once;
         there = λ giver h. elim (given_are plan first givers giver sizes h) [

@@ -34,9 +34,10 @@ use Rattle.vc_rule_yield.specs.Filling.{Filled}
 use Rattle.vc_net_agenda.specs.Agendas.{Awaited}
 use Rattle.vc_net_blame.specs.Finding.{collision_bound}
 use Rattle.vc_net_bounds.specs.Counting.{clash_cells}
+use Rattle.vc_net_laws.specs.Forced.{is_quiet}
 use Rattle.vc_net_laws.specs.Triggers.{stands_in, trigger_by}
 use Rattle.vc_net_laws.specs.Waking.{IsSplit, giver_differs, giver_touches, touches_some}
-use Rattle.vc_net_laws.specs.Working.{IsWorking, disturbed, is_disturbed, same_giver}
+use Rattle.vc_net_laws.specs.Working.{AreAskedOrQuiet, IsWorking, disturbed, is_disturbed, same_giver}
 use Rattle.vc_net_laws.proofs.NetLaws.Forced.{logs_are_forced}
 use Rattle.vc_net_laws.proofs.NetLaws.Working.{giver_exact, giver_itself, work_is_kept}
 use Rattle.vc_net_log.specs.Going.{WereTaken, with_steps}
@@ -48,7 +49,7 @@ use Rattle.vc_net_standing.specs.Standing.{atoms_of}
 use Rattle.vc_net_waking.specs.Laws.{IsAgendaOf}
 use Rattle.vc_net_waking.specs.Waking.{sources_of, waking, with_givers}
 use Rattle.vc_net_waking.proofs.GiverLaws.{both_parts, each_waits, others_wait_on, sizes_stay}
-use Rattle.vc_net_waking.proofs.WakingLaws.{thing_there, touching_come}
+use Rattle.vc_net_waking.proofs.WakingLaws.{come_or_quiet, thing_there}
 use Rattle.vc_net.specs.Going.{IsGoing}
 use Rattle.vc_net.specs.Renewing.{changed_sources, dropped_wake}
 use Rattle.vc_net.proofs.ChangeLaws.{AreChanges}
@@ -69,42 +70,43 @@ changed_next agenda old new n =
     (if user_differs old new n || entry_differs old new n then sources_of n else [])
 
 -- whom a dropped atom wakes is among those who are woken
-dropped_there : (plan : Plan) (stand atoms : List Atom) (a : Atom) (giver : Giver) → has same_atom atoms a ≡ true
+dropped_there : (plan : Plan) (sources : Sources) (stand atoms : List Atom) (a : Atom) (giver : Giver)
+    → has same_atom atoms a ≡ true
     → has same_atom stand a ≡ false
-    → has same_giver (waking plan (seen_of (set_with stand)) (thing_of a)) giver ≡ true
-    → has same_giver (dropped_wake plan stand atoms) giver ≡ true
-dropped_there plan stand [] a giver h gone woken = absurd (cc)
-dropped_there plan stand (b ∷ atoms) a giver h gone woken =
+    → has same_giver (waking plan sources (seen_of (set_with stand)) (thing_of a)) giver ≡ true
+    → has same_giver (dropped_wake plan sources stand atoms) giver ≡ true
+dropped_there plan sources stand [] a giver h gone woken = absurd (cc)
+dropped_there plan sources stand (b ∷ atoms) a giver h gone woken =
     elim (has_cases same_atom atom_exact atom_itself b atoms a h) [
       | inl is ↦
-          has_front same_giver giver_exact giver_itself (own b) (dropped_wake plan stand atoms) giver
+          has_front same_giver giver_exact giver_itself (own b) (dropped_wake plan sources stand atoms) giver
           (subst (λ c. has same_giver (own c) giver ≡ true) is
-          (ap (λ t. has same_giver (if t then [] else waking plan (seen_of (set_with stand)) (thing_of a)) giver) gone
-          ∙ woken))
+          (ap (λ t. has same_giver (if t then [] else waking plan sources (seen_of (set_with stand)) (thing_of a)) giver)
+          gone ∙ woken))
       | inr later ↦
-          has_back same_giver giver_exact giver_itself (own b) (dropped_wake plan stand atoms) giver
-          (dropped_there plan stand atoms a giver later gone woken)
+          has_back same_giver giver_exact giver_itself (own b) (dropped_wake plan sources stand atoms) giver
+          (dropped_there plan sources stand atoms a giver later gone woken)
     ]
   where
     own : Atom → List Giver
-    own c = if has same_atom stand c then [] else waking plan (seen_of (set_with stand)) (thing_of c)
+    own c = if has same_atom stand c then [] else waking plan sources (seen_of (set_with stand)) (thing_of c)
 
 -- the first fact wakes whom it wakes, if it was dropped, and those after it do
-pub dropped_rest : (plan : Plan) (stand : List Atom) (rest : List Fact) (d : Fact) (old new : Awaited)
-    → 1 ≤ length rest
+pub dropped_rest : (plan : Plan) (sources : Sources) (stand : List Atom) (rest : List Fact) (d : Fact)
+    (old new : Awaited) → 1 ≤ length rest
     → new ≡ with_givers old
     (if has same_atom stand (get_or rest 0 d).atom then []
-    else waking plan (seen_of (set_with stand)) (thing_of (get_or rest 0 d).atom))
-    → with_givers new (dropped_wake plan stand (atoms_of (take (length rest - 1) (drop 1 rest))))
-    ≡ with_givers old (dropped_wake plan stand (atoms_of rest))
-dropped_rest plan stand [] d old new some e = absurd (omega arith)
-dropped_rest plan stand (fact ∷ rest) d old new some e =
-    ap (λ xs. with_givers new (dropped_wake plan stand (atoms_of xs)))
+    else waking plan sources (seen_of (set_with stand)) (thing_of (get_or rest 0 d).atom))
+    → with_givers new (dropped_wake plan sources stand (atoms_of (take (length rest - 1) (drop 1 rest))))
+    ≡ with_givers old (dropped_wake plan sources stand (atoms_of rest))
+dropped_rest plan sources stand [] d old new some e = absurd (omega arith)
+dropped_rest plan sources stand (fact ∷ rest) d old new some e =
+    ap (λ xs. with_givers new (dropped_wake plan sources stand (atoms_of xs)))
     (take_all (length (fact ∷ rest) - 1) rest (omega arith))
-    ∙ (ap (λ a. with_givers a (dropped_wake plan stand (atoms_of rest))) e
+    ∙ (ap (λ a. with_givers a (dropped_wake plan sources stand (atoms_of rest))) e
     ∙ sym (both_parts old
-    (if has same_atom stand fact.atom then [] else waking plan (seen_of (set_with stand)) (thing_of fact.atom))
-    (dropped_wake plan stand (atoms_of rest))))
+    (if has same_atom stand fact.atom then [] else waking plan sources (seen_of (set_with stand)) (thing_of fact.atom))
+    (dropped_wake plan sources stand (atoms_of rest))))
 
 some_at : (p : Atom → Bool) (xs : List Atom) → list_any p xs ≡ true
     → (a : Atom) × (has same_atom xs a ≡ true) × (p a ≡ true)
@@ -265,7 +267,7 @@ module _ (plan : Plan) (old new : Sources) (work : Work) (going : IsGoing plan o
             ]
 
     abbrev woken : List Giver
-    woken = dropped_wake plan (concluded steps_left) (atoms_of taken)
+    woken = dropped_wake plan new (concluded steps_left) (atoms_of taken)
 
     abbrev pub first : Awaited
     first = with_givers work.agenda woken
@@ -288,29 +290,35 @@ module _ (plan : Plan) (old new : Sources) (work : Work) (going : IsGoing plan o
 
       touching_waits : (giver : Giver) → has same_giver (givers_of plan) giver ≡ true
           → touches_some plan dropped giver ≡ true → stands_in left (trigger_by plan giver) ≡ true
-          → has same_giver last.givers giver ≡ true
+          → (has same_giver last.givers giver || is_quiet plan new left giver) ≡ true
       touching_waits giver there touches stands =
           let r = some_at (λ atom. giver_touches plan giver (thing_of atom)) dropped touches in
           let d = dropped_taken r.0 r.1 in
           let such = thing_there plan r.0 ((facts plan set going.working.sound.clear).named r.0 d.2) in
-          others_wait_on first changes giver
-          (each_waits plan work.agenda woken giver going.of.sizes
-          (dropped_there plan (concluded steps_left) (atoms_of taken) r.0 giver d.0 d.1
-          (touching_come plan left (thing_of r.0) giver left_clear such there r.2 stands)) there)
+          elim (come_or_quiet plan new left (thing_of r.0) giver left_clear such there r.2 stands) [
+            | inl comes ↦
+                or_left (has same_giver last.givers giver) (is_quiet plan new left giver)
+                (others_wait_on first changes giver
+                (each_waits plan work.agenda woken giver going.of.sizes
+                (dropped_there plan new (concluded steps_left) (atoms_of taken) r.0 giver d.0 d.1 comes) there))
+            | inr quiet ↦ or_right (has same_giver last.givers giver) (is_quiet plan new left giver) quiet
+          ]
 
       changed_waits : (giver : Giver) → has same_giver (givers_of plan) giver ≡ true
           → giver_differs old new giver ≡ true → has same_giver last.givers giver ≡ true
       changed_waits giver there differs =
           each_waits plan first changes giver first_sizes (are.all giver there differs) there
 
-      disturbed_wait : Within same_giver (disturbed plan old new left dropped) last.givers
+      disturbed_wait : AreAskedOrQuiet plan new last.givers left (disturbed plan old new left dropped)
       disturbed_wait giver h =
           let p = has_filter same_giver giver_exact giver_itself (is_disturbed plan old new left dropped)
           (givers_of plan) giver h in
           let q = and_parts (giver_differs old new giver || touches_some plan dropped giver)
           (stands_in left (trigger_by plan giver)) p.1 in
           elim (or_cases (giver_differs old new giver) (touches_some plan dropped giver) q.0) [
-            | inl differs ↦ changed_waits giver p.0 differs
+            | inl differs ↦
+                or_left (has same_giver last.givers giver) (is_quiet plan new left giver)
+                (changed_waits giver p.0 differs)
             | inr touches ↦ touching_waits giver p.0 touches q.1
           ]
 

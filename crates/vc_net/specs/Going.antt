@@ -1,5 +1,5 @@
 -- How the work of a net goes on: what it keeps, what a conclusion needs to come, and how a turn ends.
-use Rattle.std.specs.Prelude.{◌≡◌, ◌≤◌, ℕ, true, false, List, [], ◌∷◌, ◌++◌, length}
+use Rattle.std.specs.Prelude.{◌≡◌, ◌≤◌, ◌||◌, ℕ, Bool, true, false, List, [], ◌∷◌, ◌++◌, length}
 use Rattle.vc_base.specs.Rounds.{broken}
 use Rattle.vc_base.specs.Sets.{has, Within}
 use Rattle.vc_plan.specs.declared.atoms.Atom.{Atom}
@@ -14,7 +14,7 @@ use Rattle.vc_plan_reasons.specs.Checking.{concluded, is_accepted, set_with}
 use Rattle.vc_rule_laws.specs.Following.{IsNext}
 use Rattle.vc_rule_premises.specs.Saying.{concluding}
 use Rattle.vc_rule_yield.specs.Yielding.{Conclusion}
-use Rattle.vc_net_laws.specs.Forced.{IsForced}
+use Rattle.vc_net_laws.specs.Forced.{IsForced, is_quiet}
 use Rattle.vc_net_laws.specs.Waking.{is_woken}
 use Rattle.vc_net_laws.specs.Wakings.{turns_left}
 use Rattle.vc_net_laws.specs.Working.{IsWorking, same_giver}
@@ -60,8 +60,13 @@ pub record MayCome (plan : Plan) (sources : Sources) (steps : List Step) (giver 
   pub wakes : (set : List Atom) → Within same_atom (set_with (concluded steps)) set
       → is_woken plan set atom giver ≡ true
 
--- the work goes on with steps that came, if any did: with no more turns left than were; and the giver at hand is asked
--- again, if the atom came
+-- whether the giver is asked again, or is quiet at what stands
+abbrev pub is_asked_or_quiet : Plan → Sources → Giver → Work → Bool
+is_asked_or_quiet plan sources giver work =
+    has same_giver work.agenda.givers giver || is_quiet plan sources (set_of work.log) giver
+
+-- the work goes on with steps that came, if any did: with no more turns left than were; the giver at hand is asked
+-- again or quiet, if the atom came, and nothing changed, if it stood
 pub record HasCome (plan : Plan) (sources : Sources) (giver : Giver) (atom : Atom) (old new : Work) : Type 0 where
   pub going : IsGoing plan sources new (giver ∷ [])
   pub more : List Step
@@ -69,7 +74,8 @@ pub record HasCome (plan : Plan) (sources : Sources) (giver : Giver) (atom : Ato
   pub fewer : turns_of plan new ≤ turns_of plan old
   pub calm : new.breaker ≡ old.breaker
   pub wait_on : Within same_giver old.agenda.givers new.agenda.givers
-  pub waits : says (seen_by old.log) atom ≡ false → has same_giver new.agenda.givers giver ≡ true
+  pub waits : says (seen_by old.log) atom ≡ false → is_asked_or_quiet plan sources giver new ≡ true
+  pub unchanged : says (seen_by old.log) atom ≡ true → new ≡ old
   pub spends : Spends plan giver old new
 
 -- something contradicts, perhaps after steps that came: settling is broken, and what is kept of it refutes the sources

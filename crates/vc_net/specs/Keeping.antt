@@ -12,13 +12,14 @@ use Rattle.vc_net.specs.Renewing.{dropped_wake}
 use Rattle.vc_net.specs.Working.{IsWorkOf}
 use Rattle.vc_net.specs.declared.work.Work.{Work}
 
--- what is kept of the log stays, of the facts that were taken from it those that are dropped wake whom they wake, and
--- nothing contradicts
+-- what is kept of the log stays, of the facts that were taken from it those that are dropped wake whom they wake with
+-- the new sources, and nothing contradicts
 pub record HasKept (plan : Plan) (old new : Sources) (before after : Work) : Type 0 where
   pub of : IsWorkOf plan after
   pub taken : List Fact
   pub were : WereTaken before.log.steps (kept_of old new before.log.steps) taken
   pub kept : after.log.steps ≡ kept_of old new before.log.steps
   pub asked : after.agenda
-      ≡ with_givers before.agenda (dropped_wake plan (concluded (kept_of old new before.log.steps)) (atoms_of taken))
+      ≡ with_givers before.agenda
+      (dropped_wake plan new (concluded (kept_of old new before.log.steps)) (atoms_of taken))
   pub calm : after.breaker.culprit ≡ None

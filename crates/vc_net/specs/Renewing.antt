@@ -12,12 +12,12 @@ use Rattle.vc_plan_reasons.specs.Keeping.{entry_differs, user_differs}
 use Rattle.vc_plan_reasons.specs.Things.{thing_of}
 use Rattle.vc_net_waking.specs.Waking.{sources_of, waking}
 
--- whom those of the atoms wake that are none of what is concluded: they were dropped
-abbrev pub dropped_wake : Plan → List Atom → List Atom → List Giver
-dropped_wake plan stand [] = []
-dropped_wake plan stand (atom ∷ atoms) =
-    (if has same_atom stand atom then [] else waking plan (seen_of (set_with stand)) (thing_of atom))
-    ++ dropped_wake plan stand atoms
+-- whom, with the sources, those of the atoms wake that are none of what is concluded: they were dropped
+abbrev pub dropped_wake : Plan → Sources → List Atom → List Atom → List Giver
+dropped_wake plan sources stand [] = []
+dropped_wake plan sources stand (atom ∷ atoms) =
+    (if has same_atom stand atom then [] else waking plan sources (seen_of (set_with stand)) (thing_of atom))
+    ++ dropped_wake plan sources stand atoms
 
 -- the sources of those of the first so many variables for which they differ
 abbrev pub changed_sources : Sources → Sources → ℕ → List Giver

@@ -6,6 +6,7 @@ use Rattle.vc_plan.specs.declared.plans.Plan.{Plan}
 use Rattle.vc_plan.specs.Bounds.{greatest}
 use Rattle.vc_plan.specs.Domains.{atom_count}
 use Rattle.vc_plan.specs.Gives.{Giver}
+use Rattle.vc_plan.specs.Sources.{Sources}
 use Rattle.vc_plan_reasons.specs.Things.{thing_of}
 use Rattle.vc_net_agenda.specs.Agendas.{Awaited, added, with_next}
 use Rattle.vc_net_blame.specs.Finding.{collision_bound}
@@ -71,18 +72,19 @@ broken_by_fact plan work fact premises =
     with_breaker work (collided plan (facts_of work.log.steps) work.breaker fact premises)
 
 -- with one step more, and whom it wakes on the agenda
-abbrev pub woken_by : Plan → Work → Logged → Atom → Work
-woken_by plan work log atom = record {
+abbrev pub woken_by : Plan → Sources → Work → Logged → Atom → Work
+woken_by plan sources work log atom = record {
   log = log;
-  agenda = with_givers work.agenda (waking plan (seen_by log) (thing_of atom));
+  agenda = with_givers work.agenda (waking plan sources (seen_by log) (thing_of atom));
   readers = work.readers;
   untriggered = work.untriggered;
   breaker = work.breaker;
   taken = work.taken;
 }
 
-abbrev pub with_conclusion : Plan → Work → Fact → List Atom → Work
-with_conclusion plan work fact premises = woken_by plan work (with_step work.log fact premises) fact.atom
+abbrev pub with_conclusion : Plan → Sources → Work → Fact → List Atom → Work
+with_conclusion plan sources work fact premises =
+    woken_by plan sources work (with_step work.log fact premises) fact.atom
 
 -- anew: nothing is concluded, and those are asked who may have anything to say then
 abbrev pub restarted : Plan → Work → Work

@@ -20,14 +20,21 @@ use vc_net_waking::waking::push_sources;
 use vc_plan::Plan;
 use vc_plan_sources::Sources;
 
-/// Lets all wait whom those of the facts wake that are no more concluded.
-pub fn wake_dropped(plan: &Plan, readers: &Readers, log: &Log, facts: &[Fact], agenda: &mut Agenda)
+/// Lets all wait whom those of the facts wake, with these sources, that are no more concluded.
+pub fn wake_dropped(
+    plan: &Plan,
+    readers: &Readers,
+    log: &Log,
+    sources: &Sources,
+    facts: &[Fact],
+    agenda: &mut Agenda,
+)
     requires grains { GrainsFit plan.now }
     requires vars { length plan.now.vars < 2 ^ 32 }
     requires index { log.now.index ≡ index_of plan.now }
     requires readers { readers.now ≡ readers_of plan.now }
     ensures { agenda.new ≡ with_givers agenda.old
-        (dropped_wake plan.now (concluded log.now.steps) (atoms_of facts.now)) }
+        (dropped_wake plan.now sources.now (concluded log.now.steps) (atoms_of facts.now)) }
 {
     let mut rest = facts;
     while let [fact, more @ ..] = rest {
@@ -37,6 +44,7 @@ pub fn wake_dropped(plan: &Plan, readers: &Readers, log: &Log, facts: &[Fact], a
                 readers,
                 log.standing().places(),
                 log,
+                sources,
                 fact.atom,
                 agenda,
             );

@@ -150,6 +150,7 @@ impl Work {
             plan,
             &self.readers,
             &self.log,
+            new,
             self.taken.as_slice(),
             &mut self.agenda,
         );
@@ -178,6 +179,7 @@ impl Work {
             plan,
             &self.readers,
             &self.log,
+            new,
             self.taken.as_slice(),
             &mut self.agenda,
         );
@@ -251,7 +253,7 @@ impl Work {
         let origin = origin_of(sources, giver);
         let fact = Fact { atom, origin };
         if self.log.may_come(plan, atom) {
-            self.add(plan, fact, premises);
+            self.add(plan, sources, fact, premises);
             Turn::Done
         } else {
             self.breaker
@@ -262,13 +264,13 @@ impl Work {
 
     // Puts a step at the end of the log, and lets all wait whom its conclusion wakes.
     #[tactic(auto, using(crate::proofs::PlanFacts::vars_fit))]
-    fn add(&mut self, plan: &Plan, fact: Fact, premises: &[Atom])
+    fn add(&mut self, plan: &Plan, sources: &Sources, fact: Fact, premises: &[Atom])
         requires valid { IsValid plan.now }
         requires of { IsWorkOf plan.now self.old }
         requires free { is_free (stood_of self.old.log) fact.atom ≡ true }
         requires concluded { Within same_atom premises.now (concluded self.old.log.steps) }
         requires few { length premises.now ≤ room_at self.old.log.begins (place_in self.old.log.index fact.atom) }
-        ensures { self.new ≡ with_conclusion plan.now self.old fact premises.now }
+        ensures { self.new ≡ with_conclusion plan.now sources.now self.old fact premises.now }
     {
         self.log.push(fact, premises);
         wake(
@@ -276,6 +278,7 @@ impl Work {
             &self.readers,
             self.log.standing().places(),
             &self.log,
+            sources,
             fact.atom,
             &mut self.agenda,
         );

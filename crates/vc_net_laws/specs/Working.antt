@@ -48,6 +48,11 @@ is_disturbed plan old new kept dropped giver =
 abbrev pub disturbed : Plan → Sources → Sources → List Atom → List Atom → List Giver
 disturbed plan old new kept dropped = filter (is_disturbed plan old new kept dropped) (givers_of plan)
 
+-- each of the givers is on the agenda, or is quiet at the set
+abbrev pub AreAskedOrQuiet : Plan → Sources → List Giver → List Atom → List Giver → Type 0
+AreAskedOrQuiet plan sources agenda set givers = (giver : Giver) → has same_giver givers giver ≡ true
+    → (has same_giver agenda giver || is_quiet plan sources set giver) ≡ true
+
 -- the work may begin with any log, also with none, where all givers are on the agenda
 abbrev pub WorkBegins : Type 0
 WorkBegins = (plan : Plan) (sources : Sources) (log : List Step) (agenda : List Giver)
@@ -56,12 +61,12 @@ WorkBegins = (plan : Plan) (sources : Sources) (log : List Step) (agenda : List 
     → Within same_giver (givers_of plan) agenda → IsWorking plan sources agenda (set_with (concluded log))
 
 -- it goes on with one atom more, which is forced and with which the atoms are clear, where those woken come on the
--- agenda
+-- agenda but such as are quiet then
 abbrev pub AtomsCome : Type 0
 AtomsCome = (plan : Plan) (sources : Sources) (agenda later : List Giver) (set : List Atom) (atom : Atom)
     → IsWorking plan sources agenda set → IsForced plan sources (atom ∷ []) → has same_atom set atom ≡ false
     → is_clear plan (set ++ atom ∷ []) ≡ true → Within same_giver agenda later
-    → Within same_giver (woken plan set atom) later
+    → AreAskedOrQuiet plan sources later (set ++ atom ∷ []) (woken plan set atom)
     → IsWorking plan sources later (set ++ atom ∷ [])
 
 -- who is quiet may leave the agenda, and anybody may come on it
@@ -74,12 +79,13 @@ abbrev pub AgendasMayGrow : Type 0
 AgendasMayGrow = (plan : Plan) (sources : Sources) (agenda later : List Giver) (set : List Atom)
     → IsWorking plan sources agenda set → Within same_giver agenda later → IsWorking plan sources later set
 
--- when sources change, it goes on with what is kept, where those disturbed come on the agenda
+-- when sources change, it goes on with what is kept, where those disturbed come on the agenda but such as are quiet
+-- then
 abbrev pub WorkIsKept : Type 0
 WorkIsKept = (plan : Plan) (old new : Sources) (agenda later : List Giver) (set kept dropped : List Atom)
     → IsWorking plan old agenda set → IsSplit set kept dropped → IsForced plan new kept → Within same_atom base kept
     → IsDistinct same_atom kept → Within same_giver agenda later
-    → Within same_giver (disturbed plan old new kept dropped) later → IsWorking plan new later kept
+    → AreAskedOrQuiet plan new later kept (disturbed plan old new kept dropped) → IsWorking plan new later kept
 
 -- where nobody is on the agenda settling ends with just these atoms
 abbrev pub WorkEnds : Type 0

@@ -46,7 +46,7 @@ pub fn waking_is_enough()
 {}
 
 /// Work with an agenda begins with any accepted log and all givers, goes on with each forced atom that leaves the set
-/// clear, and with what is kept when sources change.
+/// clear, and with what is kept when sources change: whoever may have other things to say then is asked or quiet.
 pub fn work_goes_on()
     ensures begins { WorkBegins }
     ensures comes { AtomsCome }

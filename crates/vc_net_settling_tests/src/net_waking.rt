@@ -1,4 +1,5 @@
-//! Two variables and two rules, one of which waits for a value of the other's variable.
+//! Two variables and two rules, one of which waits for a value of the other's variable; both rest where two grains are
+//! left.
 
 ghost use Rattle.std.specs.Prelude.{◌≡◌, ◌^◌, ◌<◌, false, [], ◌∷◌, length, IfOk};
 ghost use Rattle.vc_value.specs.declared.table_header.Domain.TheVariants.{Texts};
@@ -12,19 +13,22 @@ use vc_net_readers::Readers;
 use vc_net_waking::laws::{beginners_suffice, others_wait_on, woken_wait};
 use vc_net_waking::{begin, untriggered, wake};
 use vc_plan::{Atom, Condition, Kind, Plan, Relation, Rule, Slot, Term, Var, View};
+use vc_plan_sources::Sources;
 use vc_value::{Domain, Listed, Value, Word};
 
-// The first variable has its second text.
-#[derive(Drop)]
-struct SecondText;
+// The first variable has its second text; of each variable the first one may be out.
+#[derive(Clone, Copy)]
+struct SecondText {
+    first_out: bool,
+}
 
 impl View for SecondText {
-    ghost use Rattle.std.specs.Prelude.{false, ◌==◌, if◌then◌else◌, None, Some};
+    ghost use Rattle.std.specs.Prelude.{◌&&◌, ◌==◌, if◌then◌else◌, None, Some};
     ghost use Rattle.vc_value.specs.declared.value.Value.TheVariants.{Text};
 
     ghost seen = { λ s. record {
       here = λ i. i == 0;
-      out = λ v g. false;
+      out = λ v g. s.first_out && (g == 0);
       value = λ v. if v == 0 then Some (Text 1) else None;
     } };
 
@@ -32,8 +36,8 @@ impl View for SecondText {
         slot == 0
     }
 
-    fn out(&self, _var: u32, _grain: u32) -> bool {
-        false
+    fn out(&self, _var: u32, grain: u32) -> bool {
+        self.first_out && grain == 0
     }
 
     fn value(&self, var: u32) -> Option<Value> {
@@ -145,15 +149,23 @@ fn who_begins(alloc: Global, plan: &Plan) -> Result<Agenda, AllocError>
     Ok(agenda)
 }
 
-fn who_is_woken(alloc: Global, plan: &Plan, atom: Atom) -> Result<Agenda, AllocError>
+fn who_is_woken(
+    alloc: Global,
+    plan: &Plan,
+    view: SecondText,
+    atom: Atom,
+) -> Result<Agenda, AllocError>
     requires grains { GrainsFit plan.now }
     requires rules { length plan.now.rules < 2 ^ 32 }
-    requires vars { length plan.now.vars < 2 ^ 32 }
+    requires vars { length plan.now.vars ≡ 2 }
 {
     let places = Places::new(alloc, plan)?;
     let readers = Readers::new(alloc, plan, &places)?;
+    let mut sources = Sources::new(alloc, plan)?;
+    sources.set_user(0, Some(Value::Text(1)));
     let mut agenda = Agenda::new(alloc, plan)?;
-    wake(plan, &readers, &places, &SecondText, atom, &mut agenda);
+    wake(plan, &readers, &places, &view, &sources, atom, &mut agenda);
+    drop(sources);
     drop(readers);
     drop(places);
     Ok(agenda)
@@ -166,9 +178,9 @@ fn begin_with_two(alloc: Global) -> Result<Agenda, AllocError> {
     agenda
 }
 
-fn wake_in_two(alloc: Global, atom: Atom) -> Result<Agenda, AllocError> {
+fn wake_in_two(alloc: Global, first_out: bool, atom: Atom) -> Result<Agenda, AllocError> {
     let plan = plan_of_two(alloc)?;
-    let agenda = who_is_woken(alloc, &plan, atom);
+    let agenda = who_is_woken(alloc, &plan, SecondText { first_out }, atom);
     drop(plan);
     agenda
 }
@@ -190,8 +202,7 @@ fn a_rule_that_waits_does_not_begin(rt: HostRuntime) -> Result<(), Fail> {
 
 #[test]
 fn a_value_wakes_who_waits_for_it(rt: HostRuntime) -> Result<(), Fail> {
-    let mut agenda = wake_in_two(rt.alloc(), Atom::Is(0, Value::Text(1)))?;
-    assert_eq!(rt; agenda.pop(), Some(Giver::Entry(0)));
+    let mut agenda = wake_in_two(rt.alloc(), true, Atom::Is(0, Value::Text(1)))?;
     assert_eq!(rt; agenda.pop(), Some(Giver::User(0)));
     assert_eq!(rt; agenda.pop(), Some(Giver::Rule(0)));
     assert_eq!(rt; agenda.pop(), Some(Giver::Rule(1)));
@@ -201,10 +212,16 @@ fn a_value_wakes_who_waits_for_it(rt: HostRuntime) -> Result<(), Fail> {
 
 #[test]
 fn a_rule_is_woken_by_what_it_touches_besides(rt: HostRuntime) -> Result<(), Fail> {
-    let mut agenda = wake_in_two(rt.alloc(), Atom::Is(1, Value::Text(0)))?;
-    assert_eq!(rt; agenda.pop(), Some(Giver::Entry(1)));
-    assert_eq!(rt; agenda.pop(), Some(Giver::User(1)));
+    let mut agenda = wake_in_two(rt.alloc(), true, Atom::Is(1, Value::Text(0)))?;
     assert_eq!(rt; agenda.pop(), Some(Giver::Rule(0)));
+    assert_eq!(rt; agenda.pop(), None);
+    Ok(())
+}
+
+#[test]
+fn who_rests_is_not_woken(rt: HostRuntime) -> Result<(), Fail> {
+    let mut agenda = wake_in_two(rt.alloc(), false, Atom::Is(0, Value::Text(1)))?;
+    assert_eq!(rt; agenda.pop(), Some(Giver::User(0)));
     assert_eq!(rt; agenda.pop(), None);
     Ok(())
 }

@@ -13,6 +13,7 @@ use Rattle.vc_plan.specs.declared.plans.Plan.{Plan}
 use Rattle.vc_plan.specs.Domains.{numbers_below}
 use Rattle.vc_plan.specs.Gives.{Giver, by_entry, by_rule, by_user, givers_of}
 use Rattle.vc_plan.specs.Seen.{Seen}
+use Rattle.vc_plan.specs.Sources.{Sources}
 use Rattle.vc_plan_reasons.specs.Things.{var_at}
 use Rattle.vc_net_laws.specs.declared.triggers.Trigger.{Trigger}
 use Rattle.vc_net_laws.specs.Triggers.{trigger_by}
@@ -29,8 +30,8 @@ use Rattle.vc_net_readers.proofs.AskedLaws.{common_there}
 use Rattle.vc_net_readers.proofs.TriggerLemmas.{free_are}
 use Rattle.vc_net_waking.specs.Beginning.{all_sources, untriggered_below}
 use Rattle.vc_net_waking.specs.Laws.{IsAgendaOf, OthersWaitOn, SizesStay}
-use Rattle.vc_net_waking.specs.Waking.{is_met, is_var_of, met_rules, rules_in, sources_in_slot}
-use Rattle.vc_net_waking.specs.Waking.{sources_of, with_givers}
+use Rattle.vc_net_waking.specs.Waking.{is_met, is_stirred, is_var_of, may_say, rules_in, sources_of}
+use Rattle.vc_net_waking.specs.Waking.{stirred_rules, telling, telling_in_slot, with_givers}
 
 -- two lists of givers one after another
 pub both_parts : (agenda : Awaited) (xs ys : List Giver)
@@ -39,12 +40,13 @@ both_parts agenda [] ys = refl
 both_parts agenda (x ∷ xs) ys = both_parts (added agenda x) xs ys
 
 -- with one variable more
-pub slot_next : (agenda : Awaited) (plan : Plan) (i n : ℕ)
-    → with_givers agenda (sources_in_slot plan i (n + 1))
-    ≡ with_givers (with_givers agenda (sources_in_slot plan i n)) (if is_var_of plan i n then sources_of n else [])
-slot_next agenda plan i n =
-    ap (λ m. with_givers agenda (sources_in_slot plan i m)) (add-one n)
-    ∙ both_parts agenda (sources_in_slot plan i n) (if is_var_of plan i n then sources_of n else [])
+pub slot_next : (agenda : Awaited) (plan : Plan) (sources : Sources) (i n : ℕ)
+    → with_givers agenda (telling_in_slot plan sources i (n + 1))
+    ≡ with_givers (with_givers agenda (telling_in_slot plan sources i n))
+    (if is_var_of plan i n then telling sources n else [])
+slot_next agenda plan sources i n =
+    ap (λ m. with_givers agenda (telling_in_slot plan sources i m)) (add-one n)
+    ∙ both_parts agenda (telling_in_slot plan sources i n) (if is_var_of plan i n then telling sources n else [])
 
 pub sources_next : (agenda : Awaited) (n : ℕ)
     → with_givers agenda (all_sources (n + 1)) ≡ with_givers (with_givers agenda (all_sources n)) (sources_of n)
@@ -58,17 +60,17 @@ untriggered_next plan n = ap (untriggered_below plan) (add-one n)
 
 -- whom rules of two lists wake
 pub met_both : (plan : Plan) (seen : Seen) (xs ys : List ℕ)
-    → met_rules plan seen (xs ++ ys) ≡ met_rules plan seen xs ++ met_rules plan seen ys
+    → stirred_rules plan seen (xs ++ ys) ≡ stirred_rules plan seen xs ++ stirred_rules plan seen ys
 met_both plan seen xs ys =
-    let p : ℕ → Bool = λ r. is_met seen (trigger_by plan (by_rule r)) in
+    let p : ℕ → Bool = is_stirred plan seen in
     ap (map by_rule) (filter-append p xs ys) ∙ map-append by_rule (filter p xs) (filter p ys)
 
 -- those that pass a test, of two lists
 pub met_passing : (plan : Plan) (seen : Seen) (test : ℕ → Bool) (xs ys : List ℕ)
-    → met_rules plan seen (filter test (xs ++ ys))
-    ≡ met_rules plan seen (filter test xs) ++ met_rules plan seen (filter test ys)
+    → stirred_rules plan seen (filter test (xs ++ ys))
+    ≡ stirred_rules plan seen (filter test xs) ++ stirred_rules plan seen (filter test ys)
 met_passing plan seen test xs ys =
-    ap (met_rules plan seen) (filter-append test xs ys) ∙ met_both plan seen (filter test xs) (filter test ys)
+    ap (stirred_rules plan seen) (filter-append test xs ys) ∙ met_both plan seen (filter test xs) (filter test ys)
 
 pub ruleset parts = (both_parts, met_both, met_passing)
 
@@ -77,26 +79,32 @@ met_free : (seen : Seen) (o : Option Trigger) → is_free o ≡ true → is_met 
 met_free seen None e = refl
 met_free seen (Some trigger) e = absurd (cc)
 
-all_pass : (p q : ℕ → Bool) → ((r : ℕ) → p r ≡ true → q r ≡ true) → (xs : List ℕ)
-    → filter q (filter p xs) ≡ filter p xs
-all_pass p q follows [] = refl
-all_pass p q follows (x ∷ xs) = by (p x) refl (all_pass p q follows xs)
+all_pass : (p q s : ℕ → Bool) → ((r : ℕ) → p r ≡ true → q r ≡ true) → (xs : List ℕ)
+    → filter (λ r. q r && s r) (filter p xs) ≡ filter s (filter p xs)
+all_pass p q s follows [] = refl
+all_pass p q s follows (x ∷ xs) = by (p x) refl (all_pass p q s follows xs)
   where
-    by : (b : Bool) → p x ≡ b → filter q (filter p xs) ≡ filter p xs
-        → filter q (cond b (x ∷ filter p xs) (filter p xs)) ≡ cond b (x ∷ filter p xs) (filter p xs)
+    both : ℕ → Bool
+    both r = q r && s r
+
+    by : (b : Bool) → p x ≡ b → filter both (filter p xs) ≡ filter s (filter p xs)
+        → filter both (cond b (x ∷ filter p xs) (filter p xs)) ≡ filter s (cond b (x ∷ filter p xs) (filter p xs))
     by true e later =
-        ap (λ t. cond t (x ∷ filter q (filter p xs)) (filter q (filter p xs))) (follows x e) ∙ ap (λ ys. x ∷ ys) later
+        ap (λ t. cond (t && s x) (x ∷ filter both (filter p xs)) (filter both (filter p xs))) (follows x e)
+        ∙ ap (λ ys. cond (s x) (x ∷ ys) ys) later
     by false e later = later
 
 pub free_met : (plan : Plan) (seen : Seen) (v : ℕ)
-    → met_rules plan seen (list_at (readers_of plan).free v) ≡ rules_in (list_at (readers_of plan).free v)
+    → stirred_rules plan seen (list_at (readers_of plan).free v)
+    ≡ rules_in (filter (may_say plan seen) (list_at (readers_of plan).free v))
 free_met plan seen v =
     let own = free_are plan v in
     let rules = numbers_below (length plan.rules) in
     let met : ℕ → Bool = λ r. is_met seen (trigger_by plan (by_rule r)) in
-    ap (met_rules plan seen) own.1
-    ∙ (ap rules_in (all_pass own.0 met (λ r e. met_free seen (trigger_by plan (by_rule r)) (own.2 r e)) rules)
-    ∙ ap rules_in (sym own.1))
+    ap (stirred_rules plan seen) own.1
+    ∙ (ap rules_in (all_pass own.0 met (may_say plan seen) (λ r e. met_free seen (trigger_by plan (by_rule r))
+    (own.2 r e)) rules)
+    ∙ ap (λ rs. rules_in (filter (may_say plan seen) rs)) (sym own.1))
 
 -- a variable's readers that wait for a value of another are those of the waiting that touch it
 pub common_at : (plan : Plan) (seen : Seen) (v u : ℕ) (rules readers : List ℕ) → v < length plan.vars
@@ -115,25 +123,25 @@ waiting_with plan seen u o rules is waits =
     waits ∙ ap (λ p. waiting_in (readers_of plan) (place_in_grain (index_of plan) u (grain_held plan u p))) is
 
 pub come_with : (plan : Plan) (seen : Seen) (v : ℕ) (rules others : List ℕ) (old new : Awaited) → rules ≡ others
-    → new ≡ with_givers old (met_rules plan seen (filter (is_reader plan (var_at v)) rules))
-    → new ≡ with_givers old (met_rules plan seen (filter (is_reader plan (var_at v)) others))
+    → new ≡ with_givers old (stirred_rules plan seen (filter (is_reader plan (var_at v)) rules))
+    → new ≡ with_givers old (stirred_rules plan seen (filter (is_reader plan (var_at v)) others))
 come_with plan seen v rules others old new same come =
-    come ∙ ap (λ rs. with_givers old (met_rules plan seen (filter (is_reader plan (var_at v)) rs))) same
+    come ∙ ap (λ rs. with_givers old (stirred_rules plan seen (filter (is_reader plan (var_at v)) rs))) same
 
 -- those that wait for a value of the first of some variables come, then those for the rest
 pub awaiting_rest : (plan : Plan) (seen : Seen) (v : ℕ) (rest : List ℕ) (d : ℕ) (old new : Awaited) → 1 ≤ length rest
     → new ≡ with_givers old
-    (met_rules plan seen (filter (is_reader plan (var_at v)) (waiting_on plan seen (get_or rest 0 d))))
-    → with_givers new (met_rules plan seen (filter (is_reader plan (var_at v))
+    (stirred_rules plan seen (filter (is_reader plan (var_at v)) (waiting_on plan seen (get_or rest 0 d))))
+    → with_givers new (stirred_rules plan seen (filter (is_reader plan (var_at v))
     (flat_map (waiting_on plan seen) (take (length rest - 1) (drop 1 rest)))))
     ≡ with_givers old
-    (met_rules plan seen (filter (is_reader plan (var_at v)) (flat_map (waiting_on plan seen) rest)))
+    (stirred_rules plan seen (filter (is_reader plan (var_at v)) (flat_map (waiting_on plan seen) rest)))
 awaiting_rest plan seen v [] d old new some e = absurd (omega arith)
 awaiting_rest plan seen v (u ∷ rest) d old new some e =
     let touches = is_reader plan (var_at v) in
-    let here = met_rules plan seen (filter touches (waiting_on plan seen u)) in
-    let later = met_rules plan seen (filter touches (flat_map (waiting_on plan seen) rest)) in
-    ap (λ us. with_givers new (met_rules plan seen (filter touches (flat_map (waiting_on plan seen) us))))
+    let here = stirred_rules plan seen (filter touches (waiting_on plan seen u)) in
+    let later = stirred_rules plan seen (filter touches (flat_map (waiting_on plan seen) rest)) in
+    ap (λ us. with_givers new (stirred_rules plan seen (filter touches (flat_map (waiting_on plan seen) us))))
     (take_all (length (u ∷ rest) - 1) rest (omega arith))
     ∙ (ap (λ a. with_givers a later) e
     ∙ (sym (both_parts old here later)

@@ -1,15 +1,17 @@
 -- Whom an atom wakes when it has come.
-use Rattle.std.specs.Prelude.{ℕ, zero, suc, Bool, true, false, ◌==◌, if◌then◌else◌, List, [], ◌∷◌, ◌++◌, length}
-use Rattle.std.specs.Prelude.{map, slice_get, Option, None, Some}
+use Rattle.std.specs.Prelude.{ℕ, zero, suc, Bool, true, false, not, ◌&&◌, ◌==◌, if◌then◌else◌, List, [], ◌∷◌, ◌++◌}
+use Rattle.std.specs.Prelude.{length, map, slice_get, Option, None, Some}
 use Rattle.std.specs.List.{filter}
 use Rattle.vc_plan.specs.declared.plans.Plan.{Plan}
 use Rattle.vc_plan.specs.Gives.{Giver, by_entry, by_rule, by_user}
 use Rattle.vc_plan.specs.Seen.{Seen, is_value, slot_in}
+use Rattle.vc_plan.specs.Sources.{Sources}
 use Rattle.vc_plan_reasons.specs.Things.{Thing, slot_at, var_at}
 use Rattle.vc_net_laws.specs.declared.triggers.Trigger.{Trigger}
 use Rattle.vc_net_laws.specs.Triggers.{trigger_by}
 use Rattle.vc_net_agenda.specs.Agendas.{Awaited, added}
 use Rattle.vc_net_readers.specs.Laws.{asked}
+use Rattle.vc_net_sources.specs.Asking.{rests_at, tells_nothing}
 
 -- the agenda with each of the givers, as far as the plan has them and they don't wait yet
 abbrev pub with_givers : Awaited → List Giver → Awaited
@@ -25,13 +27,26 @@ abbrev pub is_met : Seen → Option Trigger → Bool
 is_met seen None = true
 is_met seen (Some trigger) = is_value trigger.value (seen.value trigger.var)
 
-abbrev pub met_rules : Plan → Seen → List ℕ → List Giver
-met_rules plan seen rules = rules_in (filter (λ r. is_met seen (trigger_by plan (by_rule r))) rules)
+-- whether it isn't told at a glance that a rule says nothing new; and is met besides
+abbrev pub may_say : Plan → Seen → ℕ → Bool
+may_say plan seen r = not (rests_at plan seen r)
 
--- the sources of a variable; those of the variables of a slot, of the first so many variables; and those that touch
--- a thing
+abbrev pub is_stirred : Plan → Seen → ℕ → Bool
+is_stirred plan seen r = is_met seen (trigger_by plan (by_rule r)) && may_say plan seen r
+
+abbrev pub stirred_rules : Plan → Seen → List ℕ → List Giver
+stirred_rules plan seen rules = rules_in (filter (is_stirred plan seen) rules)
+
+-- the sources of a variable, and those of them that tell something; the latter of the variables of a slot, of the first
+-- so many variables; and those that touch a thing
 abbrev pub sources_of : ℕ → List Giver
 sources_of v = by_user v ∷ by_entry v ∷ []
+
+abbrev pub tells : Sources → Giver → Bool
+tells sources giver = not (tells_nothing sources giver)
+
+abbrev pub telling : Sources → ℕ → List Giver
+telling sources v = filter (tells sources) (sources_of v)
 
 abbrev pub is_slot : ℕ → Option ℕ → Bool
 is_slot i None = false
@@ -40,14 +55,16 @@ is_slot i (Some j) = i == j
 abbrev pub is_var_of : Plan → ℕ → ℕ → Bool
 is_var_of plan i v = is_slot i (slot_in (slice_get plan.vars v))
 
-abbrev pub sources_in_slot : Plan → ℕ → ℕ → List Giver
-sources_in_slot plan i zero = []
-sources_in_slot plan i (suc n) = sources_in_slot plan i n ++ (if is_var_of plan i n then sources_of n else [])
+abbrev pub telling_in_slot : Plan → Sources → ℕ → ℕ → List Giver
+telling_in_slot plan sources i zero = []
+telling_in_slot plan sources i (suc n) =
+    telling_in_slot plan sources i n ++ (if is_var_of plan i n then telling sources n else [])
 
-abbrev pub sources_at : Plan → Thing → List Giver
-sources_at plan (slot_at i) = sources_in_slot plan i (length plan.vars)
-sources_at plan (var_at v) = sources_of v
+abbrev pub telling_at : Plan → Sources → Thing → List Giver
+telling_at plan sources (slot_at i) = telling_in_slot plan sources i (length plan.vars)
+telling_at plan sources (var_at v) = telling sources v
 
--- the rules and sources that touch a thing; of the rules only those that wait for no value, or for one that stands
-abbrev pub waking : Plan → Seen → Thing → List Giver
-waking plan seen thing = met_rules plan seen (asked plan seen thing) ++ sources_at plan thing
+-- the rules and sources that touch a thing, but for those at rest; of the rules only those that wait for no value, or
+-- for one that stands
+abbrev pub waking : Plan → Sources → Seen → Thing → List Giver
+waking plan sources seen thing = stirred_rules plan seen (asked plan seen thing) ++ telling_at plan sources thing

@@ -8,7 +8,8 @@ pub fn others_wait_on()
     ensures sizes { SizesStay }
 {}
 
-/// All who are woken when an atom has come wait then; and no more come on the agenda than touch the atom's thing.
+/// All who are woken when an atom has come wait then or are quiet; and no more come on the agenda than touch the atom's
+/// thing.
 pub fn woken_wait()
     ensures all { WokenWait }
     ensures few { WakingIsFew }

@@ -14,8 +14,8 @@ ghost use Rattle.vc_net_readers.specs.Laws.{waiting_in, waiting_on};
 ghost use Rattle.vc_net_readers.specs.Readers.{is_reader, readers_of};
 ghost use Rattle.vc_net_readers.specs.Rising.{IsRising};
 ghost use Rattle.vc_net_readers.specs.Waiting.{grain_held, place_in_grain};
-ghost use Rattle.vc_net_waking.specs.Waking.{is_met, is_var_of, met_rules, rules_in, sources_of, sources_in_slot};
-ghost use Rattle.vc_net_waking.specs.Waking.{waking, with_givers};
+ghost use Rattle.vc_net_waking.specs.Waking.{is_met, is_var_of, may_say, rules_in, sources_of, stirred_rules};
+ghost use Rattle.vc_net_waking.specs.Waking.{telling, telling_in_slot, waking, with_givers};
 
 use vc_net_agenda::{Agenda, Giver};
 use vc_net_laws::Trigger;
@@ -24,7 +24,9 @@ use vc_net_readers::Readers;
 use vc_net_readers::halves::is_among;
 use vc_net_readers::touching::touches_by;
 use vc_net_readers::triggers::grain_held;
+use vc_net_sources::{rests_at, tells_nothing};
 use vc_plan::{Atom, Plan, View};
+use vc_plan_sources::Sources;
 use vc_rule_terms::elements::element;
 use vc_rule_yield::atoms::same_value;
 use vc_value::Value;
@@ -37,12 +39,14 @@ struct Held {
 }
 
 /// Lets all wait whom the atom wakes, which stands in the view: the rules and sources that touch its thing, but of the
-/// rules only those that wait for no value, or for one that stands.
+/// rules only those that wait for no value, or for one that stands. Who is told at a glance to say nothing new isn't
+/// woken: a rule that rests, a source that tells nothing.
 pub fn wake<V: View>(
     plan: &Plan,
     readers: &Readers,
     index: &Places,
     view: &V,
+    sources: &Sources,
     atom: Atom,
     agenda: &mut Agenda,
 )
@@ -50,23 +54,30 @@ pub fn wake<V: View>(
     requires vars { length plan.now.vars < 2 ^ 32 }
     requires index { index.now ≡ index_of plan.now }
     requires readers { readers.now ≡ readers_of plan.now }
-    ensures { agenda.new ≡ with_givers agenda.old (waking plan.now (V.seen view.now) (thing_of atom)) }
+    ensures { agenda.new ≡ with_givers agenda.old (waking plan.now sources.now (V.seen view.now) (thing_of atom)) }
 {
     match atom {
-        Atom::Here(slot) => wake_at_slot(plan, readers, view, slot, agenda),
-        Atom::Out(var, _) => wake_at_var(plan, readers, index, view, var, agenda),
-        Atom::Is(var, _) => wake_at_var(plan, readers, index, view, var, agenda),
+        Atom::Here(slot) => wake_at_slot(plan, readers, view, sources, slot, agenda),
+        Atom::Out(var, _) => wake_at_var(plan, readers, index, view, sources, var, agenda),
+        Atom::Is(var, _) => wake_at_var(plan, readers, index, view, sources, var, agenda),
     }
 }
 
 #[tactic(auto, using(crate::proofs::GiverLaws::both_parts))]
-fn wake_at_slot<V: View>(plan: &Plan, readers: &Readers, view: &V, slot: u32, agenda: &mut Agenda)
+fn wake_at_slot<V: View>(
+    plan: &Plan,
+    readers: &Readers,
+    view: &V,
+    sources: &Sources,
+    slot: u32,
+    agenda: &mut Agenda,
+)
     requires vars { length plan.now.vars < 2 ^ 32 }
     requires readers { readers.now ≡ readers_of plan.now }
-    ensures { agenda.new ≡ with_givers agenda.old (waking plan.now (V.seen view.now) (slot_at slot)) }
+    ensures { agenda.new ≡ with_givers agenda.old (waking plan.now sources.now (V.seen view.now) (slot_at slot)) }
 {
     push_met(plan, readers, view, readers.of_slot(slot), agenda);
-    push_sources_in(plan, slot, agenda);
+    push_telling_in(plan, sources, slot, agenda);
 }
 
 #[tactic(auto, using(crate::proofs::GiverLaws::parts, vc_net_readers::proofs::AskedLaws::none_awaited))]
@@ -75,29 +86,44 @@ fn wake_at_var<V: View>(
     readers: &Readers,
     index: &Places,
     view: &V,
+    sources: &Sources,
     var: u32,
     agenda: &mut Agenda,
 )
     requires grains { GrainsFit plan.now }
     requires index { index.now ≡ index_of plan.now }
     requires readers { readers.now ≡ readers_of plan.now }
-    ensures { agenda.new ≡ with_givers agenda.old (waking plan.now (V.seen view.now) (var_at var)) }
+    ensures { agenda.new ≡ with_givers agenda.old (waking plan.now sources.now (V.seen view.now) (var_at var)) }
 {
     push_free(plan, readers, view, var, agenda);
     if (var as usize) < plan.vars.len() {
         let awaited = readers.awaited(var);
         push_awaiting(plan, readers, index, view, awaited, var, agenda);
     }
-    push_sources(var, agenda);
+    push_telling(sources, var, agenda);
 }
 
-// Lets the rules wait that touch the variable and wait for no value: of these none is to be asked what it waits for.
+// Lets the rules wait that touch the variable and wait for no value, but for those that rest: none of them is to be
+// asked what it waits for.
 fn push_free<V: View>(plan: &Plan, readers: &Readers, view: &V, var: u32, agenda: &mut Agenda)
     requires readers { readers.now ≡ readers_of plan.now }
     ensures { agenda.new ≡ with_givers agenda.old
-        (met_rules plan.now (V.seen view.now) (list_at (readers_of plan.now).free var)) }
+        (stirred_rules plan.now (V.seen view.now) (list_at (readers_of plan.now).free var)) }
 {
-    push_rules(readers.free(var), agenda);
+    push_unless_at_rest(plan, view, readers.free(var), agenda);
+}
+
+// Lets those of the rules wait that don't rest.
+fn push_unless_at_rest<V: View>(plan: &Plan, view: &V, rules: &[u32], agenda: &mut Agenda)
+    ensures { agenda.new ≡ with_givers agenda.old (rules_in (filter (may_say plan.now (V.seen view.now)) rules.now)) }
+{
+    let mut rest = rules;
+    while let [rule, more @ ..] = rest {
+        if !rests_at(plan, view, *rule) {
+            agenda.push(Giver::Rule(*rule));
+        }
+        rest = more;
+    }
 }
 
 /// Lets the rules of these numbers wait.
@@ -111,7 +137,7 @@ pub fn push_rules(rules: &[u32], agenda: &mut Agenda)
     }
 }
 
-// Lets those of the rules wait that touch the variable, and wait for a value of one of these that stands.
+// Lets those of the rules wait that touch the variable, wait for a value of one of these that stands, and don't rest.
 #[tactic(auto, using(crate::proofs::GiverLaws::parts))]
 fn push_awaiting<V: View>(
     plan: &Plan,
@@ -126,7 +152,7 @@ fn push_awaiting<V: View>(
     requires there { var < length plan.now.vars }
     requires index { index.now ≡ index_of plan.now }
     requires readers { readers.now ≡ readers_of plan.now }
-    ensures { agenda.new ≡ with_givers agenda.old (met_rules plan.now (V.seen view.now)
+    ensures { agenda.new ≡ with_givers agenda.old (stirred_rules plan.now (V.seen view.now)
         (filter (is_reader plan.now (var_at var)) (flat_map (waiting_on plan.now (V.seen view.now)) awaited.now))) }
 {
     let mut rest = awaited;
@@ -136,7 +162,7 @@ fn push_awaiting<V: View>(
     }
 }
 
-// Lets those of the rules wait that touch the variable, and wait for the value that the other one has.
+// Lets those of the rules wait that touch the variable, wait for the value that the other one has, and don't rest.
 fn push_waiting<V: View>(
     plan: &Plan,
     readers: &Readers,
@@ -150,7 +176,7 @@ fn push_waiting<V: View>(
     requires there { var < length plan.now.vars }
     requires index { index.now ≡ index_of plan.now }
     requires readers { readers.now ≡ readers_of plan.now }
-    ensures { agenda.new ≡ with_givers agenda.old (met_rules plan.now (V.seen view.now)
+    ensures { agenda.new ≡ with_givers agenda.old (stirred_rules plan.now (V.seen view.now)
         (filter (is_reader plan.now (var_at var)) (waiting_on plan.now (V.seen view.now) other))) }
 {
     let held = view.value(other);
@@ -169,8 +195,8 @@ fn push_waiting<V: View>(
     );
 }
 
-// Lets those of the rules wait that touch the variable: the shorter of the rules' list and its readers' is gone
-// through.
+// Lets those of the rules wait that touch the variable, are met and don't rest: the shorter of the rules' list and its
+// readers' is gone through.
 fn push_common<V: View>(
     plan: &Plan,
     readers: &Readers,
@@ -186,7 +212,7 @@ fn push_common<V: View>(
     requires common { filter (has nat_eq rules.now) (list_at readers.now.by_var var)
         ≡ filter (is_reader plan.now (var_at var)) rules.now }
     ensures { agenda.new ≡ with_givers agenda.old
-        (met_rules plan.now (V.seen view.now) (filter (is_reader plan.now (var_at var)) rules.now)) }
+        (stirred_rules plan.now (V.seen view.now) (filter (is_reader plan.now (var_at var)) rules.now)) }
 {
     let of_var = readers.of_var(var);
     if rules.len() <= of_var.len() {
@@ -196,7 +222,7 @@ fn push_common<V: View>(
     }
 }
 
-// Lets those of the variable's readers wait that are among the rules.
+// Lets those of the variable's readers wait that are among the rules, are met and don't rest.
 fn push_among<V: View>(
     plan: &Plan,
     readers: &Readers,
@@ -210,12 +236,15 @@ fn push_among<V: View>(
     requires held { (V.seen view.now).value held.var ≡ held.value }
     requires rising { IsRising rules.now }
     ensures { agenda.new ≡ with_givers agenda.old
-        (met_rules plan.now (V.seen view.now) (filter (has nat_eq rules.now) of_var.now)) }
+        (stirred_rules plan.now (V.seen view.now) (filter (has nat_eq rules.now) of_var.now)) }
 {
     let mut rest = of_var;
     while let [rule, more @ ..] = rest {
         let trigger = trigger_of(plan, readers, *rule);
-        if is_met_beside(view, held, trigger) && is_among(rules, *rule) {
+        if is_met_beside(view, held, trigger)
+            && is_among(rules, *rule)
+            && !rests_at(plan, view, *rule)
+        {
             agenda.push(Giver::Rule(*rule));
         }
         rest = more;
@@ -242,7 +271,7 @@ fn waiting<'a>(
     }
 }
 
-// Lets those of the rules wait that touch the variable and wait for no value, or for one that stands.
+// Lets those of the rules wait that touch the variable, wait for no value or for one that stands, and don't rest.
 fn push_touching<V: View>(
     plan: &Plan,
     readers: &Readers,
@@ -255,26 +284,29 @@ fn push_touching<V: View>(
     requires readers { readers.now ≡ readers_of plan.now }
     requires held { (V.seen view.now).value held.var ≡ held.value }
     ensures { agenda.new ≡ with_givers agenda.old
-        (met_rules plan.now (V.seen view.now) (filter (is_reader plan.now (var_at var)) rules.now)) }
+        (stirred_rules plan.now (V.seen view.now) (filter (is_reader plan.now (var_at var)) rules.now)) }
 {
     let mut rest = rules;
     while let [rule, more @ ..] = rest {
         let trigger = trigger_of(plan, readers, *rule);
-        if is_met_beside(view, held, trigger) && touches_by(plan, *rule, trigger, var) {
+        if is_met_beside(view, held, trigger)
+            && touches_by(plan, *rule, trigger, var)
+            && !rests_at(plan, view, *rule)
+        {
             agenda.push(Giver::Rule(*rule));
         }
         rest = more;
     }
 }
 
-// Lets those of the rules wait that wait for no value, or for one that stands.
+// Lets those of the rules wait that wait for no value or for one that stands, and don't rest.
 fn push_met<V: View>(plan: &Plan, readers: &Readers, view: &V, rules: &[u32], agenda: &mut Agenda)
     requires readers { readers.now ≡ readers_of plan.now }
-    ensures { agenda.new ≡ with_givers agenda.old (met_rules plan.now (V.seen view.now) rules.now) }
+    ensures { agenda.new ≡ with_givers agenda.old (stirred_rules plan.now (V.seen view.now) rules.now) }
 {
     let mut rest = rules;
     while let [rule, more @ ..] = rest {
-        if is_met(view, trigger_of(plan, readers, *rule)) {
+        if is_met(view, trigger_of(plan, readers, *rule)) && !rests_at(plan, view, *rule) {
             agenda.push(Giver::Rule(*rule));
         }
         rest = more;
@@ -341,6 +373,18 @@ pub fn push_sources(var: u32, agenda: &mut Agenda)
     agenda.push(Giver::Entry(var));
 }
 
+// Lets those of the variable's sources wait that tell something.
+fn push_telling(sources: &Sources, var: u32, agenda: &mut Agenda)
+    ensures { agenda.new ≡ with_givers agenda.old (telling sources.now var) }
+{
+    if !tells_nothing(sources, Giver::User(var)) {
+        agenda.push(Giver::User(var));
+    }
+    if !tells_nothing(sources, Giver::Entry(var)) {
+        agenda.push(Giver::Entry(var));
+    }
+}
+
 // Whether the variable is of the slot.
 fn is_var_of(plan: &Plan, slot: u32, var: u32) -> bool
     ensures { result ≡ is_var_of plan.now slot var }
@@ -351,15 +395,15 @@ fn is_var_of(plan: &Plan, slot: u32, var: u32) -> bool
     }
 }
 
-// Lets the sources of the slot's variables wait.
+// Lets those of the sources of the slot's variables wait that tell something.
 #[tactic(auto, using(crate::proofs::GiverLaws::slot_next))]
-fn push_sources_in(plan: &Plan, slot: u32, agenda: &mut Agenda)
+fn push_telling_in(plan: &Plan, sources: &Sources, slot: u32, agenda: &mut Agenda)
     requires { length plan.now.vars < 2 ^ 32 }
-    ensures { agenda.new ≡ with_givers agenda.old (sources_in_slot plan.now slot (length plan.now.vars)) }
+    ensures { agenda.new ≡ with_givers agenda.old (telling_in_slot plan.now sources.now slot (length plan.now.vars)) }
 {
     for var in 0..plan.vars.len() {
         if is_var_of(plan, slot, var as u32) {
-            push_sources(var as u32, agenda);
+            push_telling(sources, var as u32, agenda);
         }
     }
 }

@@ -18,6 +18,7 @@ use Rattle.vc_plan.specs.declared.rules.Rule.{Rule}
 use Rattle.vc_plan.specs.Domains.{numbers_below}
 use Rattle.vc_plan.specs.Gives.{Giver, by_rule, by_user, by_entry, givers_of}
 use Rattle.vc_plan.specs.Seen.{Seen}
+use Rattle.vc_plan.specs.Sources.{Sources}
 use Rattle.vc_plan.specs.Valid.{IsValid}
 use Rattle.vc_plan_reasons.specs.Things.{Thing, slot_at, var_at, same_thing, has_thing, thing_of, touches, vars_of_kind}
 use Rattle.vc_plan_reasons.specs.Things.{giver_writes, kind_writes, reads_in, rule_reads, rule_writes}
@@ -36,12 +37,12 @@ use Rattle.vc_net_laws.proofs.NetLaws.Wakings.{work_is_enough}
 use Rattle.vc_net_waking.specs.Laws.{IsAgendaOf}
 use Rattle.vc_net_readers.specs.Laws.{asked}
 use Rattle.vc_net_readers.specs.Readers.{readers_at}
-use Rattle.vc_net_waking.specs.Waking.{is_var_of, met_rules, sources_at}
-use Rattle.vc_net_waking.specs.Waking.{sources_in_slot, sources_of, waking, with_givers}
+use Rattle.vc_net_waking.specs.Waking.{is_var_of, sources_of, stirred_rules, telling, telling_at, telling_in_slot}
+use Rattle.vc_net_waking.specs.Waking.{waking, with_givers}
 use Rattle.vc_net_waking.proofs.GiverLaws.{sizes_stay}
 use Rattle.vc_net_waking.proofs.ComingLaws.{few_come}
-use Rattle.vc_net_waking.proofs.WakingLaws.{below, entry_below, entry_there, in_mapped, met_read, rule_below}
-use Rattle.vc_net_waking.proofs.WakingLaws.{rule_there, user_below, user_there, woken_touch}
+use Rattle.vc_net_waking.proofs.WakingLaws.{below, entry_below, entry_there, in_mapped, rule_below, rule_there}
+use Rattle.vc_net_waking.proofs.WakingLaws.{stirred_read, telling_are, user_below, user_there, woken_touch}
 use Rattle.vc_net_work.specs.Spending.{AreOn, ConclusionsAreOfThings, HoldsWhatIsWritten, ReachHoldsWhatIsWritten}
 use Rattle.vc_net_work.specs.Spending.{RulesAreWithinWork, RulesWokenAreFew, WokenAreOn, is_rule}
 use Rattle.vc_net_work.specs.Spending.{touches_one}
@@ -132,24 +133,24 @@ source_no_rule v giver h =
       ]
     ]
 
-slot_no_rule : (plan : Plan) (i n : ℕ) (giver : Giver) → has same_giver (sources_in_slot plan i n) giver ≡ true
-    → is_rule giver ≡ false
-slot_no_rule plan i zero giver h = absurd (cc)
-slot_no_rule plan i (suc n) giver h =
-    elim (has_either same_giver giver_exact giver_itself (sources_in_slot plan i n)
-    (if is_var_of plan i n then sources_of n else []) giver h) [
-      | inl k ↦ slot_no_rule plan i n giver k
+slot_no_rule : (plan : Plan) (sources : Sources) (i n : ℕ) (giver : Giver)
+    → has same_giver (telling_in_slot plan sources i n) giver ≡ true → is_rule giver ≡ false
+slot_no_rule plan sources i zero giver h = absurd (cc)
+slot_no_rule plan sources i (suc n) giver h =
+    elim (has_either same_giver giver_exact giver_itself (telling_in_slot plan sources i n)
+    (if is_var_of plan i n then telling sources n else []) giver h) [
+      | inl k ↦ slot_no_rule plan sources i n giver k
       | inr k ↦ by (is_var_of plan i n) k
     ]
   where
-    by : (b : Bool) → has same_giver (if b then sources_of n else []) giver ≡ true → is_rule giver ≡ false
+    by : (b : Bool) → has same_giver (if b then telling sources n else []) giver ≡ true → is_rule giver ≡ false
     by false k = absurd (cc)
-    by true k = source_no_rule n giver k
+    by true k = source_no_rule n giver (telling_are sources n giver k)
 
-no_rule : (plan : Plan) (thing : Thing) (giver : Giver) → has same_giver (sources_at plan thing) giver ≡ true
-    → is_rule giver ≡ false
-no_rule plan (slot_at i) giver h = slot_no_rule plan i (length plan.vars) giver h
-no_rule plan (var_at v) giver h = source_no_rule v giver h
+no_rule : (plan : Plan) (sources : Sources) (thing : Thing) (giver : Giver)
+    → has same_giver (telling_at plan sources thing) giver ≡ true → is_rule giver ≡ false
+no_rule plan sources (slot_at i) giver h = slot_no_rule plan sources i (length plan.vars) giver h
+no_rule plan sources (var_at v) giver h = source_no_rule v giver (telling_are sources v giver h)
 
 -- rules that are woken read the thing
 readers_counted : (plan : Plan) (atom : Atom) → length (readers_at plan (thing_of atom)) ≡ rules_at plan atom
@@ -159,24 +160,24 @@ readers_counted plan atom =
     (λ i rule e. ap (λ n. giver_touches plan (by_rule n) (thing_of atom)) (omega arith)
     ∙ rules_touch plan i rule (thing_of atom) e)
 
-woken_read : (plan : Plan) (seen : Seen) (thing : Thing) (giver : Giver)
-    → has same_giver (waking plan seen thing) giver ≡ true → is_rule giver ≡ true
+woken_read : (plan : Plan) (sources : Sources) (seen : Seen) (thing : Thing) (giver : Giver)
+    → has same_giver (waking plan sources seen thing) giver ≡ true → is_rule giver ≡ true
     → has same_giver (map by_rule (readers_at plan thing)) giver ≡ true
-woken_read plan seen thing giver h e =
-    elim (has_either same_giver giver_exact giver_itself (met_rules plan seen (asked plan seen thing))
-    (sources_at plan thing) giver h) [
+woken_read plan sources seen thing giver h e =
+    elim (has_either same_giver giver_exact giver_itself (stirred_rules plan seen (asked plan seen thing))
+    (telling_at plan sources thing) giver h) [
       | inl k ↦
-          let r = met_read plan seen thing giver k in
+          let r = stirred_read plan seen thing giver k in
           ap (has same_giver (map by_rule (readers_at plan thing))) r.1
           ∙ in_mapped by_rule (readers_at plan thing) r.0 r.2
-      | inr k ↦ absurd (both e (no_rule plan thing giver k))
+      | inr k ↦ absurd (both e (no_rule plan sources thing giver k))
     ]
 
 pub rules_woken_are_few : RulesWokenAreFew
-rules_woken_are_few plan agenda seen atom =
+rules_woken_are_few plan sources agenda seen atom =
     let thing = thing_of atom in
-    let come = few_come is_rule agenda (waking plan seen thing) (map by_rule (readers_at plan thing))
-    (λ giver h e. inr (woken_read plan seen thing giver h e)) in
+    let come = few_come is_rule agenda (waking plan sources seen thing) (map by_rule (readers_at plan thing))
+    (λ giver h e. inr (woken_read plan sources seen thing giver h e)) in
     let mapped = length-map (readers_at plan thing) by_rule in
     let counted = readers_counted plan atom in
     omega (arith, come, mapped, counted)
@@ -208,15 +209,15 @@ given_are plan agenda (giver ∷ givers) other sizes h =
     ]
 
 pub woken_are_on : WokenAreOn
-woken_are_on plan things agenda seen thing sizes reached on = record {
-  once = givers_once agenda (waking plan seen thing) on.once;
-  there = λ giver h. elim (given_are plan agenda (waking plan seen thing) giver sizes h) [
+woken_are_on plan sources things agenda seen thing sizes reached on = record {
+  once = givers_once agenda (waking plan sources seen thing) on.once;
+  there = λ giver h. elim (given_are plan agenda (waking plan sources seen thing) giver sizes h) [
     | inl k ↦ on.there giver k
     | inr k ↦ k.1
   ];
-  touch = λ giver h. elim (given_are plan agenda (waking plan seen thing) giver sizes h) [
+  touch = λ giver h. elim (given_are plan agenda (waking plan sources seen thing) giver sizes h) [
     | inl k ↦ on.touch giver k
-    | inr k ↦ any_thing (giver_touches plan giver) things thing reached (woken_touch plan seen thing giver k.0)
+    | inr k ↦ any_thing (giver_touches plan giver) things thing reached (woken_touch plan sources seen thing giver k.0)
   ];
 }
 

@@ -61,13 +61,13 @@ ConclusionsAreOfThings = (plan : Plan) (sources : Sources) (things : List Thing)
 -- whom an atom of a thing wakes touches that thing: an agenda stays on the things, and has no more rules more than
 -- touch the atom's
 abbrev pub WokenAreOn : Type 0
-WokenAreOn = (plan : Plan) (things : List Thing) (agenda : Awaited) (seen : Seen) (thing : Thing)
+WokenAreOn = (plan : Plan) (sources : Sources) (things : List Thing) (agenda : Awaited) (seen : Seen) (thing : Thing)
     → IsAgendaOf plan agenda → has_thing things thing ≡ true → AreOn plan things agenda.givers
-    → AreOn plan things (with_givers agenda (waking plan seen thing)).givers
+    → AreOn plan things (with_givers agenda (waking plan sources seen thing)).givers
 
 abbrev pub RulesWokenAreFew : Type 0
-RulesWokenAreFew = (plan : Plan) (agenda : Awaited) (seen : Seen) (atom : Atom)
-    → rules_among (with_givers agenda (waking plan seen (thing_of atom))).givers
+RulesWokenAreFew = (plan : Plan) (sources : Sources) (agenda : Awaited) (seen : Seen) (atom : Atom)
+    → rules_among (with_givers agenda (waking plan sources seen (thing_of atom))).givers
     ≤ rules_among agenda.givers + rules_at plan atom
 
 -- the rules on an agenda, and as often as distinct atoms of the things wake one, are within the work on the things

@@ -2,7 +2,7 @@
 use Rattle.std.proofs.Common.{◌≡◌, Bool, true, false, ◌||◌, ◌⊎◌, List, [], ◌∷◌, ◌++◌, refl, sym, ◌∙◌, ap, subst, inl}
 use Rattle.std.proofs.Common.{inr}
 use Rattle.std.specs.List.{AllByRecursion, IsDistinct, filter}
-use Rattle.std.proofs.lemmas.Bool.{and_from, eq-eqb, eqb-true, or_left, or_parts}
+use Rattle.std.proofs.lemmas.Bool.{and_from, eq-eqb, eqb-true, or_cases, or_left, or_parts}
 use Rattle.vc_base.specs.Rounds.{Given, clash, atoms, atoms_of, is_clash}
 use Rattle.vc_base.specs.Sets.{has, Within}
 use Rattle.vc_base.proofs.SetLaws.{both, filter_has, has_cases, has_either, has_first, has_front, has_more, told}
@@ -20,8 +20,8 @@ use Rattle.vc_plan_reasons.proofs.ReasonLaws.Givers.{clashing_in, giving_in}
 use Rattle.vc_net_laws.specs.Forced.{is_quiet}
 use Rattle.vc_net_laws.specs.Triggers.{stands_in, trigger_by}
 use Rattle.vc_net_laws.specs.Waking.{IsSplit, giver_differs, is_woken, touches_some}
-use Rattle.vc_net_laws.specs.Working.{AgendasMayGrow, AtomsCome, IsWorking, QuietMayLeave, WorkBegins, WorkEnds}
-use Rattle.vc_net_laws.specs.Working.{WorkIsKept, disturbed, is_disturbed, same_giver, woken}
+use Rattle.vc_net_laws.specs.Working.{AgendasMayGrow, AreAskedOrQuiet, AtomsCome, IsWorking, QuietMayLeave}
+use Rattle.vc_net_laws.specs.Working.{WorkBegins, WorkEnds, WorkIsKept, is_disturbed, same_giver}
 use Rattle.vc_net_laws.proofs.NetLaws.Forced.{closed_settles, logs_are_forced, quiet_closed, sound_sets_grow}
 use Rattle.vc_net_laws.proofs.NetLaws.Triggers.{triggers_are_needed}
 use Rattle.vc_net_laws.proofs.NetLaws.Waking.{unchanged_gives_the_same, woken_is_enough}
@@ -77,13 +77,20 @@ part_lacks part whole w giver e =
       | inr h ↦ h
     ]
 
--- a giver of the plan that a filter of them lacks fails the test
-lacks_fails : (plan : Plan) (p : Giver → Bool) (giver : Giver) → has same_giver (givers_of plan) giver ≡ true
-    → has same_giver (filter p (givers_of plan)) giver ≡ false → p giver ≡ false
-lacks_fails plan p giver i e =
+-- of the givers of the plan that pass a test, one that is asked or quiet is quiet where it isn't asked
+unasked_quiet : (plan : Plan) (sources : Sources) (agenda : List Giver) (set : List Atom) (p : Giver → Bool)
+    (giver : Giver)
+    → AreAskedOrQuiet plan sources agenda set (filter p (givers_of plan)) → has same_giver (givers_of plan) giver ≡ true
+    → has same_giver agenda giver ≡ false → (p giver ≡ false → is_quiet plan sources set giver ≡ true)
+    → is_quiet plan sources set giver ≡ true
+unasked_quiet plan sources agenda set p giver asked there off others =
     elim (told (p giver)) [
-      | inl h ↦ absurd (both (filter_has same_giver giver_exact giver_itself p (givers_of plan) giver i h) e)
-      | inr h ↦ h
+      | inl h ↦ elim (or_cases (has same_giver agenda giver) (is_quiet plan sources set giver)
+          (asked giver (filter_has same_giver giver_exact giver_itself p (givers_of plan) giver there h))) [
+            | inl on ↦ absurd (both on off)
+            | inr quiet ↦ quiet
+          ]
+      | inr h ↦ others h
     ]
 
 pub work_begins : WorkBegins
@@ -125,9 +132,9 @@ atoms_come plan sources agenda later set atom work forced new clear stay wake = 
   distinct = distinct_more same_atom atom_exact atom_itself set atom work.distinct new;
   quiet = λ giver e. elim (told (has same_giver (givers_of plan) giver)) [
     | inl i ↦
-        woken_is_enough plan sources set atom giver work.sound.clear
-        (work.quiet giver (part_lacks agenda later stay giver e))
-        (lacks_fails plan (is_woken plan set atom) giver i (part_lacks (woken plan set atom) later wake giver e))
+        unasked_quiet plan sources later (set ++ atom ∷ []) (is_woken plan set atom) giver wake i e
+        (woken_is_enough plan sources set atom giver work.sound.clear
+        (work.quiet giver (part_lacks agenda later stay giver e)))
     | inr i ↦ stranger_quiet plan sources (set ++ atom ∷ []) giver i
   ];
 }
@@ -188,9 +195,9 @@ work_is_kept plan old new agenda later set kept dropped work split forced root d
   distinct = distinct;
   quiet = λ giver e. elim (told (has same_giver (givers_of plan) giver)) [
     | inl i ↦
-        undisturbed_quiet plan old new agenda set kept dropped giver work split (part_lacks agenda later stay giver e)
-        (lacks_fails plan (is_disturbed plan old new kept dropped) giver i
-        (part_lacks (disturbed plan old new kept dropped) later wake giver e))
+        unasked_quiet plan new later kept (is_disturbed plan old new kept dropped) giver wake i e
+        (undisturbed_quiet plan old new agenda set kept dropped giver work split
+        (part_lacks agenda later stay giver e))
     | inr i ↦ stranger_quiet plan new kept giver i
   ];
 }

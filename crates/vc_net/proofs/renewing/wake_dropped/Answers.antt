@@ -20,10 +20,10 @@ loop-rest-preserved-then-not-has c =
     let plan = c.args.plan.now in
     let stand = concluded c.args.log.now.steps in
     let fact : Fact = get_or c.loop-rest.rest.now 0 nobody in
-    dropped_rest plan stand c.loop-rest.rest.now nobody c.loop-rest.agenda c.wake.new.agenda
+    dropped_rest plan c.args.sources.now stand c.loop-rest.rest.now nobody c.loop-rest.agenda c.wake.new.agenda
     c.in-len1-up.len_at_least
     (c.wake.ensures
     ∙ sym (ap (λ b. with_givers c.loop-rest.agenda
-    (if b then [] else waking plan (seen_of (set_with stand)) (thing_of fact.atom)))
+    (if b then [] else waking plan c.args.sources.now (seen_of (set_with stand)) (thing_of fact.atom)))
     (sym c.has.ensures ∙ c.if-not-has.true)))
     ∙ c.loop-rest.invariant

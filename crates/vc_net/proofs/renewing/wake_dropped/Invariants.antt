@@ -8,8 +8,8 @@ use Rattle.vc_net.proofs.renewing.wake_dropped.Given as goal
 
 abbrev pub invariant-loop-rest : goal.invariant-loop-rest
 invariant-loop-rest l =
-    with_givers l.agenda (dropped_wake l.plan (concluded l.log.steps) (atoms_of l.rest))
-    ≡ with_givers l.fn.agenda (dropped_wake l.plan (concluded l.log.steps) (atoms_of l.facts))
+    with_givers l.agenda (dropped_wake l.plan l.sources (concluded l.log.steps) (atoms_of l.rest))
+    ≡ with_givers l.fn.agenda (dropped_wake l.plan l.sources (concluded l.log.steps) (atoms_of l.facts))
 
 abbrev pub decreases-loop-rest : goal.decreases-loop-rest
 decreases-loop-rest l = length l.rest

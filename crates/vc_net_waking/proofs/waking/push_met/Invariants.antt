@@ -1,12 +1,12 @@
 -- What waits so far, with those of the rules from here on, is what is to wait.
 use Rattle.std.proofs.Common.{◌≡◌, length}
-use Rattle.vc_net_waking.specs.Waking.{met_rules, with_givers}
+use Rattle.vc_net_waking.specs.Waking.{stirred_rules, with_givers}
 use Rattle.vc_net_waking.proofs.waking.push_met.Given as goal
 
 abbrev pub invariant-loop-rest : goal.invariant-loop-rest
 invariant-loop-rest g l =
-    with_givers l.agenda (met_rules l.plan (g.V.View.seen l.view) l.rest)
-    ≡ with_givers l.fn.agenda (met_rules l.plan (g.V.View.seen l.view) l.rules)
+    with_givers l.agenda (stirred_rules l.plan (g.V.View.seen l.view) l.rest)
+    ≡ with_givers l.fn.agenda (stirred_rules l.plan (g.V.View.seen l.view) l.rules)
 
 abbrev pub decreases-loop-rest : goal.decreases-loop-rest
 decreases-loop-rest g l = length l.rest

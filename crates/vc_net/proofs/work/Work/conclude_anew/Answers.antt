@@ -27,8 +27,8 @@ returns-then-may_come c =
     let work = c.args.self.now in
     subst (λ w. HasCome plan c.args.sources.now (meant c.args.giver) c.args.atom work w)
     (sym (c.add.ensures
-    ∙ ap (λ o. let fact : Fact = record { atom = c.args.atom; origin = o } in with_conclusion plan work fact
-    c.args.premises.now)
+    ∙ ap (λ o. let fact : Fact = record { atom = c.args.atom; origin = o } in
+    with_conclusion plan c.args.sources.now work fact c.args.premises.now)
     c.origin_of-origin.ensures))
     (comes plan c.args.sources.now work (meant c.args.giver) c.args.atom c.args.premises.now c.requires.going
     c.requires.may
