@@ -11,7 +11,7 @@ use crate::resting::rests;
 use std::sync::ledger::Ledger;
 use vc_plan::{Kind, Plan, Rule, View};
 use vc_rule_grains::{say_last, say_line, say_never};
-use vc_rule_premises::{acts, cite_why_it_acts};
+use vc_rule_premises::cite_if_it_acts;
 use vc_rule_sides::{say_compare, say_equate};
 use vc_rule_table_saying::say_table;
 use vc_rule_terms::elements::element;
@@ -49,8 +49,7 @@ fn say_if_it_acts<V: View>(plan: &Plan, view: &V, rule: &Rule, out: &mut Yield)
     requires values { LiesInGrains plan.now (V.seen view.now) }
     ensures { out.new ≡ taken_from plan.now (V.seen view.now) rule.now out.old }
 {
-    if acts(plan, view, rule) {
-        cite_why_it_acts(plan, view, rule, out);
+    if cite_if_it_acts(plan, view, rule, out) {
         say_kind(plan, view, rule, out);
     }
 }

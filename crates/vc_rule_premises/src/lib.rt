@@ -5,5 +5,5 @@ pub mod acting;
 pub mod citing;
 pub mod laws;
 
-pub use acting::{acts, cite_why_it_acts};
+pub use acting::cite_if_it_acts;
 pub use citing::{cite_deciding, cite_term, cite_value};

@@ -7,7 +7,7 @@ use std::alloc::Global;
 use std::process::Abort;
 use std::test::Fail;
 use vc_plan::{Atom, Condition, Kind, Operator, Plan, Rule, Term, View};
-use vc_rule_premises::{acts, cite_deciding, cite_term, cite_value, cite_why_it_acts};
+use vc_rule_premises::{cite_deciding, cite_if_it_acts, cite_term, cite_value};
 use vc_rule_yield::Yield;
 use vc_value::{Listed, Value, Word};
 
@@ -143,12 +143,11 @@ fn rule_at<R: Abort>(rt: &R, alloc: Global, last: u32) -> Rule {
 fn cites_why_a_rule_acts(rt: HostRuntime) -> Result<(), Fail> {
     let plan = plan_of_one(&rt, rt.alloc());
     let rule = rule_at(&rt, rt.alloc(), 2);
-    assert!(rt; acts(&plan, &Slots, &rule));
     let mut out = Yield::new(rt.alloc(), 9, 9, 9)?;
-    cite_why_it_acts(&plan, &Slots, &rule, &mut out);
+    let elsewhere = rule_at(&rt, rt.alloc(), 3);
+    assert!(rt; !cite_if_it_acts(&plan, &Slots, &elsewhere, &mut out));
+    assert!(rt; cite_if_it_acts(&plan, &Slots, &rule, &mut out));
     out.clash_now();
     assert_eq!(rt; out.clash().ok_or("no clash")?, [Atom::Here(2)].as_slice());
-    let elsewhere = rule_at(&rt, rt.alloc(), 3);
-    assert!(rt; !acts(&plan, &Slots, &elsewhere));
     Ok(())
 }
