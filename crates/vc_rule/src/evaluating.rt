@@ -7,7 +7,6 @@ ghost use Rattle.vc_rule_premises.specs.Saying.{held, taken, HasRoomFor};
 ghost use Rattle.vc_rule.specs.Evaluating.{kind_said, found_at, taken_from, RulesFit};
 
 use crate::giving::say_among_or_text;
-use crate::resting::rests;
 use std::sync::ledger::Ledger;
 use vc_plan::{Kind, Plan, Rule, View};
 use vc_rule_grains::{say_last, say_line, say_never};
@@ -38,9 +37,7 @@ pub fn evaluate<V: View, L: Ledger>(
     steps.tick();
     out.clear();
     if let Some(rule) = element(plan.rules.as_slice(), rule) {
-        if !rests(plan, view, &rule.kind) {
-            say_if_it_acts(plan, view, rule, out);
-        }
+        say_if_it_acts(plan, view, rule, out);
     }
 }
 

@@ -9,8 +9,8 @@ use vc_rule_grains::grains::is_restrictable;
 use vc_value::Value;
 
 /// Whether it gives a variable that isn't restrictable the text that this has, or is the rule of a variable's last
-/// grain and two are left. Each atom wakes the rule that gave it, and that of its variable's last grain, so most turns
-/// may end here.
+/// grain and two are left. So it is with the rule that gave an atom and with that of its variable's last grain: a net
+/// passes them over when the atom wakes its readers.
 pub fn rests<V: View>(plan: &Plan, view: &V, kind: &Kind) -> bool
     ensures { result ≡ rests plan.now (V.seen view.now) kind.now }
 {
