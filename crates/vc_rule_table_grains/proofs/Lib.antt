@@ -1,3 +1,4 @@
+pub mod CallLaws
 pub mod ChainLemmas
 pub mod ConcludingSteps
 pub mod KeyLemmas

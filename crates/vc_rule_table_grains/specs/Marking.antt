@@ -1,5 +1,5 @@
 -- Marks by the keys of grains, and rows with one key chained in order.
-use Rattle.std.specs.Prelude.{◌≡◌, ℕ, ◌+◌, ◌<◌, ◌≤◌, Bool, true, false, not, ◌&&◌, ◌||◌, if◌then◌else◌, List, [], ◌∷◌}
+use Rattle.std.specs.Prelude.{◌≡◌, ℕ, ◌+◌, ◌<◌, ◌≤◌, Bool, true, false, ◌||◌, if◌then◌else◌, List, [], ◌∷◌}
 use Rattle.std.specs.Prelude.{drop, length}
 use Rattle.std.specs.Prelude.{slice_get, slice_set, Option, None, Some}
 use Rattle.std.specs.List.{filter}
@@ -11,7 +11,6 @@ use Rattle.vc_plan.specs.Domains.{domain_of}
 use Rattle.vc_plan.specs.Seen.{Seen}
 use Rattle.vc_plan.specs.TableRows.{columns_of, is_possible_in, other_columns}
 use Rattle.vc_rule_yield.specs.declared.scratch.Marks.{Marks}
-use Rattle.vc_rule_table.specs.Cells.{is_missing}
 use Rattle.vc_rule_table.specs.TableSaid.{has_column}
 use Rattle.vc_rule_table_grains.specs.Keys.{IsApart, grain_key, row_key, same_key, some_has_key}
 
@@ -92,9 +91,3 @@ pub record IsMarked (plan : Plan) (seen : Seen) (columns : List Binding) (v : �
   pub tells : AreMarks domain (columns_of v columns) (is_possible_in plan seen (other_columns v columns)) rows
       (had_in marks)
   pub chains : chained ≡ true → AreChains domain (columns_of v columns) rows (heads_in marks) (next_in marks)
-
--- whether no possible row has the grain, and it isn't out
-abbrev pub is_newly_missing : Plan → Seen → List (List Value) → List Binding → ℕ → ℕ → Bool
-is_newly_missing plan seen rows columns v g =
-    not (seen.out v g)
-    && is_missing plan v (columns_of v columns) (filter (is_possible_in plan seen (other_columns v columns)) rows) g

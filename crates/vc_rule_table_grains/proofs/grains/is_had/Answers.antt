@@ -6,8 +6,10 @@ use Rattle.vc_rule_table_grains.proofs.grains.is_had.Goals as goal
 
 pub returns-in-Some : goal.returns-in-Some
 returns-in-Some g c =
-    mark_is c.args.plan.now (g.V.View.seen c.args.view.now) c.args.columns.now c.args.var c.args.domain.now
-    c.args.rows.now c.args.marks.now c.args.chained c.args.grain c.in-Some.mark c.requires.marked
+    let marked = c.args.marked.now in
+    let call = marked.call.now in
+    mark_is call.plan.now (g.V.View.seen call.view.now) call.columns.now call.var call.domain.now call.rows.now
+    marked.marks.now marked.chained c.args.grain c.in-Some.mark c.requires.call.1
     (sym (ap (λ o. at_key o c.had_in.result.now) c.grain_key.ensures
-    ∙ ap (at_key (grain_key c.args.domain.now c.args.grain)) c.had_in.ensures)
+    ∙ ap (at_key (grain_key call.domain.now c.args.grain)) c.had_in.ensures)
     ∙ (sym c.mark_at.ensures ∙ c.in-Some.is))

@@ -1,31 +1,28 @@
 use Rattle.std.proofs.Common.{sym, ◌∙◌, arith}
 use Rattle.vc_plan.specs.Domains.{count_of}
 use Rattle.vc_rule_table.proofs.CellLemmas.{any_next, any_found, any_ends}
-use Rattle.vc_rule_table_grains.specs.Marking.{is_newly_missing}
+use Rattle.vc_rule_table_grains.specs.Calls.{is_new}
 use Rattle.vc_rule_table_grains.proofs.grains.some_newly_missing.Goals as goal
 
 pub returns-then-is_newly_missing : goal.returns-then-is_newly_missing
 returns-then-is_newly_missing g c =
-    let test = is_newly_missing c.args.plan.now (g.V.View.seen c.args.view.now) c.args.rows.now c.args.columns.now
-    c.args.var in
-    sym (any_found test c.loop-grain.grain (count_of c.args.plan.now c.args.var)
+    let call = c.args.marked.now.call.now in
+    sym (any_found (is_new g.V.View.seen call) c.loop-grain.grain (count_of call.plan.now call.var)
     (omega (arith, c.loop-grain-test.true, c.count_of-grain-end.ensures))
     (sym c.is_newly_missing.ensures ∙ c.if-is_newly_missing.true))
     ∙ c.loop-grain.invariant
 
 pub loop-grain-preserved : goal.loop-grain-preserved
 loop-grain-preserved g c =
-    let test = is_newly_missing c.args.plan.now (g.V.View.seen c.args.view.now) c.args.rows.now c.args.columns.now
-    c.args.var in
-    sym (any_next test c.loop-grain.grain (count_of c.args.plan.now c.args.var)
+    let call = c.args.marked.now.call.now in
+    sym (any_next (is_new g.V.View.seen call) c.loop-grain.grain (count_of call.plan.now call.var)
     (omega (arith, c.loop-grain-test.true, c.count_of-grain-end.ensures))
     (sym c.is_newly_missing.ensures ∙ c.if-is_newly_missing.false))
     ∙ c.loop-grain.invariant
 
 pub returns : goal.returns
 returns g c =
-    let test = is_newly_missing c.args.plan.now (g.V.View.seen c.args.view.now) c.args.rows.now c.args.columns.now
-    c.args.var in
-    sym (any_ends test c.loop-grain.grain (count_of c.args.plan.now c.args.var)
+    let call = c.args.marked.now.call.now in
+    sym (any_ends (is_new g.V.View.seen call) c.loop-grain.grain (count_of call.plan.now call.var)
     (omega (arith, c.loop-grain-test.false, c.count_of-grain-end.ensures)))
     ∙ c.loop-grain.invariant
