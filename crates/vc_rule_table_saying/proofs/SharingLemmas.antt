@@ -131,15 +131,15 @@ concluded_rooms y a =
     elim (may_conclude y y.clash) as (λ b. (concluded_if b y a).rooms ≡ y.rooms) [ true ↦ refl | false ↦ refl ]
 
 -- a conclusion from what is cited once
-module _ (base : ℕ) (reasons own : List Atom) (y z n : Yielded) (a : Atom) (low : base ≤ length y.cites)
+module _ (base : ℕ) (reasons : List Atom) (y z n : Yielded) (a : Atom) (low : base ≤ length y.cites)
     (cites : z ≡ cited_all (kept base y) reasons)
-    (concludes : n ≡ concluded z a)
-    (same : own ≡ reasons) where
+    (concludes : n ≡ concluded z a) where
   count_first : length (kept base y).cites ≡ base
   count_first = length_kept base y low
 
-  pub shared_takes : kept base n ≡ take_conclusions (kept base y) (conclusion_from own a ∷ [])
-  shared_takes =
+  pub shared_takes : (own : List Atom) → own ≡ reasons
+      → kept base n ≡ take_conclusions (kept base y) (conclusion_from own a ∷ [])
+  shared_takes own same =
       conclusion_taken (kept base y) z n (kept base n) own a
       (cites ∙ sym (ap (cited_all (kept base y)) same)) concludes
       (ap (λ (m : ℕ). with_cites n (take m n.cites)) (sym count_first))

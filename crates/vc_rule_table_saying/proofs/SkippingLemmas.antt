@@ -1,7 +1,7 @@
 -- Walks past rows that are given up find what walks over all rows find.
 use Rattle.std.proofs.Common.{◌≡◌, ℕ, zero, suc, ◌-◌, ◌≤◌, Bool, true, false, cond, not, ◌&&◌, List, [], ◌∷◌}
 use Rattle.std.proofs.Common.{length, take, drop, get_or, arith}
-use Rattle.std.proofs.Common.{refl, sym, ◌∙◌, ap}
+use Rattle.std.proofs.Common.{refl, sym, ◌∙◌, ap, subst}
 use Rattle.std.specs.Prelude.{Option, None, Some, is_none, if◌then◌else◌, slice_get}
 use Rattle.std.specs.List.{filter, find, list_all}
 use Rattle.std.proofs.lemmas.List.{take_all}
@@ -67,26 +67,26 @@ module _ (plan : Plan) (seen : Seen) (columns : List Binding) (v : ℕ) where
           ∙ sym (ap (λ c. cond c (row ∷ filter possible rows) (filter possible rows)) (fails row note are.0 e))
       by false e later = refl
 
+  -- the first that passes is the first of those that do
   pub found_past : (rows : List (List Value)) (notes : List Note)
       → AreNotesOf plan seen columns columns rows notes
       → find possible (drop (given_up columns notes) rows) ≡ find possible rows
-  found_past [] notes are = none (given_up columns notes)
+  found_past rows notes are =
+      found_first (drop (given_up columns notes) rows)
+      ∙ (ap first_of (possible_past rows notes are) ∙ sym (found_first rows))
     where
-      none : (n : ℕ) → find possible (drop n []) ≡ find possible []
-      none zero = refl
-      none (suc n) = refl
-  found_past (row ∷ rows) [] are = refl
-  found_past (row ∷ rows) (note ∷ notes) are =
-      by (is_given_up columns note) refl (found_past rows notes are.1)
-    where
-      by : (b : Bool) → is_given_up columns note ≡ b
-          → find possible (drop (given_up columns notes) rows) ≡ find possible rows
-          → find possible (drop (if b then suc (given_up columns notes) else 0) (row ∷ rows))
-          ≡ find possible (row ∷ rows)
-      by true e later =
-          later
-          ∙ sym (ap (λ c. cond c (Some row) (find possible rows)) (fails row note are.0 e))
-      by false e later = refl
+      first_of : List (List Value) → Option (List Value)
+      first_of [] = None
+      first_of (row ∷ rows) = Some row
+
+      found_first : (xs : List (List Value)) → find possible xs ≡ first_of (filter possible xs)
+      found_first [] = refl
+      found_first (x ∷ xs) =
+          elim (possible x) as (λ b. cond b (Some x) (find possible xs)
+          ≡ first_of (cond b (x ∷ filter possible xs) (filter possible xs))) [
+            | true ↦ refl
+            | false ↦ found_first xs
+          ]
 
 pub notes_past : (plan : Plan) (seen : Seen) (columns : List Binding) (n : ℕ) (rows : List (List Value))
     (notes : List Note) → AreNotesOf plan seen columns columns rows notes
@@ -96,6 +96,23 @@ notes_past plan seen columns (suc n) [] notes are = tt
 notes_past plan seen columns (suc n) (row ∷ rows) [] are = no_notes plan seen columns (drop n rows)
 notes_past plan seen columns (suc n) (row ∷ rows) (note ∷ notes) are =
     notes_past plan seen columns n rows notes are.1
+
+-- a walk that finds behind the rows that are given up what it finds over all goes past them
+pub walks_past : {R : Type 0} (plan : Plan) (seen : Seen) (columns : List Binding) (walk : List (List Value) → R)
+    → ((rows : List (List Value)) (notes : List Note) → AreNotesOf plan seen columns columns rows notes
+    → walk (drop (given_up columns notes) rows) ≡ walk rows)
+    → (rows later : List (List Value)) (notes beside : List Note) (n : ℕ)
+    → AreNotesOf plan seen columns columns rows notes
+    → n ≡ given_up columns notes
+    → later ≡ drop n rows
+    → beside ≡ drop n notes
+    → (walk later ≡ walk rows) × AreNotesOf plan seen columns columns later beside
+walks_past plan seen columns walk past rows later notes beside n are count rest noted = (
+  ap walk (rest ∙ ap (λ m. drop m rows) count) ∙ past rows notes are,
+  subst (λ rs. AreNotesOf plan seen columns columns rs beside) (sym rest)
+      (subst (λ ns. AreNotesOf plan seen columns columns (drop n rows) ns) (sym noted)
+      (notes_past plan seen columns n rows notes are)),
+)
 
 -- what the rows behind the first say, where it passes or isn't asked
 pub agree_behind : {A : Type 0} (p q : A → Bool) (rest : List A) (x : A) → 1 ≤ length rest → x ≡ get_or rest 0 x

@@ -6,15 +6,15 @@ ghost use Rattle.vc_plan.specs.Answers.{value_atoms};
 ghost use Rattle.vc_plan.specs.Domains.{grains_in, grains_of};
 ghost use Rattle.vc_plan.specs.Pieces.{lies_in_some, same_value};
 ghost use Rattle.vc_plan.specs.Seen.{says};
-ghost use Rattle.vc_plan.specs.TableRows.{columns_of, other_columns, is_possible_in, cell_passes};
-ghost use Rattle.vc_plan.specs.TableRows.{has_cell, value_if, agreed};
+ghost use Rattle.vc_plan.specs.TableRows.{columns_of, cell_passes, has_cell, value_if, agreed};
 ghost use Rattle.vc_rule_premises.specs.Saying.{take_conclusions};
 ghost use Rattle.vc_rule_table.specs.Cells.{FewGrains, agrees};
-ghost use Rattle.vc_rule_table.specs.Noting.{AreNotes, HasNote};
-ghost use Rattle.vc_rule_table.specs.Reasons.{rows_reasons};
-ghost use Rattle.vc_rule_table.specs.TableSaid.{cell_agreed, new_conclusions};
+ghost use Rattle.vc_rule_table.specs.Noting.{HasNote};
+ghost use Rattle.vc_rule_table.specs.TableSaid.{new_conclusions};
+ghost use Rattle.vc_rule_table_saying.specs.Calls.{IsNoted, agreement, is_possible_for, reasons_of, rows_for};
 ghost use Rattle.vc_rule_table_saying.specs.Sharing.{IsCiting, kept};
 
+use crate::calls::NotedCall;
 use crate::sharing::conclude_is;
 use crate::skipping::{given_up, notes_past, rows_past};
 use vc_plan::{Binding, Plan, View};
@@ -26,39 +26,36 @@ use vc_rule_table_grains::misfits::is_possible_in;
 use vc_rule_yield::Yield;
 use vc_rule_yield::atoms::same_value;
 use vc_rule_yield::scratch::Note;
-use vc_value::{Domain, Listed, Value};
+use vc_value::{Domain, Value};
 
-fn first_possible<'a, V: View>(
-    plan: &Plan,
-    view: &V,
-    columns: &[Binding],
+// Whether the row is possible in the other columns.
+fn is_possible_for<V: View>(
+    call: &NotedCall<V>,
     var: u32,
-    rows: &'a [Listed<Value>],
-    notes: &[Note],
-) -> Option<&'a [Value]>
-    requires few { FewGrains plan.now }
-    requires noted { AreNotes plan.now (V.seen view.now) columns.now rows.now notes.now }
-    ensures some { IfSome result (λ row. find (is_possible_in plan.now (V.seen view.now)
-        (other_columns var columns.now)) rows.now ≡ Some row.now) }
-    ensures none { IfNone result (find (is_possible_in plan.now (V.seen view.now)
-        (other_columns var columns.now)) rows.now ≡ None) }
+    row: &[Value],
+    note: Option<Note>,
+) -> bool
+    requires few { FewGrains call.now.plan.now }
+    requires noted { HasNote call.now.plan.now (V.seen call.now.view.now) call.now.columns.now row.now note }
+    ensures { result ≡ is_possible_for V.seen call.now var row.now }
 {
-    let front = given_up(columns, notes);
-    let mut rest = rows_past(rows, front);
-    let mut noted = notes_past(notes, front);
+    is_possible_in(call.plan, call.view, call.columns, Some(var), row, note)
+}
+
+fn first_possible<'a, V: View>(call: &NotedCall<'a, V>, var: u32) -> Option<&'a [Value]>
+    requires call { IsNoted V.seen call.now }
+    ensures some { IfSome result (λ row. find (is_possible_for V.seen call.now var) call.now.rows.now ≡ Some row.now) }
+    ensures none { IfNone result (find (is_possible_for V.seen call.now var) call.now.rows.now ≡ None) }
+{
+    let front = given_up(call.columns, call.notes);
+    let mut rest = rows_past(call.rows, front);
+    let mut noted = notes_past(call.notes, front);
     while let [row, more @ ..] = rest {
-        if is_possible_in(
-            plan,
-            view,
-            columns,
-            Some(var),
-            row.as_slice(),
-            first_note(noted),
-        ) {
+        if is_possible_for(call, var, row.as_slice(), first_note(noted)) {
             return Some(row.as_slice());
         }
         let later = behind(noted);
-        let skipped = given_up(columns, later);
+        let skipped = given_up(call.columns, later);
         rest = rows_past(more, skipped);
         noted = notes_past(later, skipped);
     }
@@ -89,53 +86,33 @@ fn has_cell(columns: &[Binding], var: u32, value: Value, row: &[Value]) -> bool
 
 // Whether the row is possible in the other columns, and has another cell for the variable.
 fn disagrees<V: View>(
-    plan: &Plan,
-    view: &V,
-    columns: &[Binding],
+    call: &NotedCall<V>,
     var: u32,
     value: Value,
     row: &[Value],
     note: Option<Note>,
 ) -> bool
-    requires few { FewGrains plan.now }
-    requires noted { HasNote plan.now (V.seen view.now) columns.now row.now note }
-    ensures { result ≡ (is_possible_in plan.now (V.seen view.now) (other_columns var columns.now) row.now
-        && not (has_cell (columns_of var columns.now) value row.now)) }
+    requires few { FewGrains call.now.plan.now }
+    requires noted { HasNote call.now.plan.now (V.seen call.now.view.now) call.now.columns.now row.now note }
+    ensures { result ≡ (is_possible_for V.seen call.now var row.now
+        && not (has_cell (columns_of var call.now.columns.now) value row.now)) }
 {
-    is_possible_in(plan, view, columns, Some(var), row, note) && !has_cell(columns, var, value, row)
+    is_possible_for(call, var, row, note) && !has_cell(call.columns, var, value, row)
 }
 
-fn all_agree<V: View>(
-    plan: &Plan,
-    view: &V,
-    columns: &[Binding],
-    var: u32,
-    value: Value,
-    rows: &[Listed<Value>],
-    notes: &[Note],
-) -> bool
-    requires few { FewGrains plan.now }
-    requires noted { AreNotes plan.now (V.seen view.now) columns.now rows.now notes.now }
-    ensures { result ≡ list_all (has_cell (columns_of var columns.now) value)
-        (filter (is_possible_in plan.now (V.seen view.now) (other_columns var columns.now)) rows.now) }
+fn all_agree<V: View>(call: &NotedCall<V>, var: u32, value: Value) -> bool
+    requires call { IsNoted V.seen call.now }
+    ensures { result ≡ list_all (has_cell (columns_of var call.now.columns.now) value) (rows_for V.seen call.now var) }
 {
-    let front = given_up(columns, notes);
-    let mut rest = rows_past(rows, front);
-    let mut noted = notes_past(notes, front);
+    let front = given_up(call.columns, call.notes);
+    let mut rest = rows_past(call.rows, front);
+    let mut noted = notes_past(call.notes, front);
     while let [row, more @ ..] = rest {
-        if disagrees(
-            plan,
-            view,
-            columns,
-            var,
-            value,
-            row.as_slice(),
-            first_note(noted),
-        ) {
+        if disagrees(call, var, value, row.as_slice(), first_note(noted)) {
             return false;
         }
         let later = behind(noted);
-        let skipped = given_up(columns, later);
+        let skipped = given_up(call.columns, later);
         rest = rows_past(more, skipped);
         noted = notes_past(later, skipped);
     }
@@ -163,25 +140,14 @@ fn is_listed(plan: &Plan, var: u32, value: Value) -> bool
 }
 
 // The cell, if it is the variable's in all possible rows and in its list.
-fn if_agreed<V: View>(
-    plan: &Plan,
-    view: &V,
-    columns: &[Binding],
-    var: u32,
-    cell: Option<Value>,
-    rows: &[Listed<Value>],
-    notes: &[Note],
-) -> Option<Value>
-    requires few { FewGrains plan.now }
-    requires noted { AreNotes plan.now (V.seen view.now) columns.now rows.now notes.now }
-    ensures { value_atoms var result ≡ value_if (agrees plan.now var (columns_of var columns.now)
-        (filter (is_possible_in plan.now (V.seen view.now) (other_columns var columns.now)) rows.now)) var cell }
+fn if_agreed<V: View>(call: &NotedCall<V>, var: u32, cell: Option<Value>) -> Option<Value>
+    requires call { IsNoted V.seen call.now }
+    ensures { value_atoms var result ≡ value_if (agrees call.now.plan.now var (columns_of var call.now.columns.now)
+        (rows_for V.seen call.now var)) var cell }
 {
     match cell {
         Some(value) => {
-            if all_agree(plan, view, columns, var, value, rows, notes)
-                && is_listed(plan, var, value)
-            {
+            if all_agree(call, var, value) && is_listed(call.plan, var, value) {
                 Some(value)
             } else {
                 None
@@ -209,57 +175,36 @@ fn if_new<V: View>(view: &V, var: u32, value: Option<Value>) -> Option<Value>
 
 // The cell on which all possible rows agree, if the variable doesn't have it yet: this is asked first, as it costs no
 // walk.
-fn newly_agreed<V: View>(
-    plan: &Plan,
-    view: &V,
-    columns: &[Binding],
-    var: u32,
-    rows: &[Listed<Value>],
-    notes: &[Note],
-) -> Option<Value>
-    requires few { FewGrains plan.now }
-    requires noted { AreNotes plan.now (V.seen view.now) columns.now rows.now notes.now }
-    ensures { value_atoms var result ≡ filter (λ a. not (says (V.seen view.now) a))
-        (agreed plan.now var (columns_of var columns.now)
-        (filter (is_possible_in plan.now (V.seen view.now) (other_columns var columns.now)) rows.now)) }
+fn newly_agreed<V: View>(call: &NotedCall<V>, var: u32) -> Option<Value>
+    requires call { IsNoted V.seen call.now }
+    ensures { value_atoms var result ≡ filter (λ a. not (says (V.seen call.now.view.now) a))
+        (agreed call.now.plan.now var (columns_of var call.now.columns.now) (rows_for V.seen call.now var)) }
 {
-    match first_possible(plan, view, columns, var, rows, notes) {
-        Some(row) => if_agreed(
-            plan,
-            view,
-            columns,
-            var,
-            if_new(view, var, first_cell(columns, var, row)),
-            rows,
-            notes,
-        ),
+    match first_possible(call, var) {
+        Some(row) => {
+            let cell = if_new(call.view, var, first_cell(call.columns, var, row));
+            if_agreed(call, var, cell)
+        }
         None => None,
     }
 }
 
 fn conclude_if<V: View>(
-    plan: &Plan,
-    view: &V,
-    columns: &[Binding],
+    call: &NotedCall<V>,
     var: u32,
     value: Option<Value>,
-    rows: &[Listed<Value>],
-    notes: &[Note],
     base: usize,
     shared: bool,
     out: &mut Yield,
 ) -> bool
-    requires few { FewGrains plan.now }
-    requires noted { AreNotes plan.now (V.seen view.now) columns.now rows.now notes.now }
-    requires citing { IsCiting base (rows_reasons plan.now (V.seen view.now) columns.now rows.now) shared out.old }
+    requires call { IsNoted V.seen call.now }
+    requires citing { IsCiting base (reasons_of V.seen call.now) shared out.old }
     ensures takes { kept base out.new ≡ take_conclusions (kept base out.old)
-        (map (cell_agreed plan.now (V.seen view.now) rows.now columns.now var) (value_atoms var value)) }
-    ensures citing { IsCiting base (rows_reasons plan.now (V.seen view.now) columns.now rows.now) result out.new }
+        (map (agreement V.seen call.now var) (value_atoms var value)) }
+    ensures citing { IsCiting base (reasons_of V.seen call.now) result out.new }
 {
     match value {
-        Some(value) => conclude_is(
-            plan, view, columns, var, value, rows, notes, base, shared, out,
-        ),
+        Some(value) => conclude_is(call, var, value, base, shared, out),
         None => shared,
     }
 }
@@ -267,27 +212,19 @@ fn conclude_if<V: View>(
 /// Concludes that the variable has the cell on which all possible rows agree, if there is one. Why rows aren't possible
 /// may be cited already, behind so many premises; whether it is afterwards.
 pub fn conclude_agreed<V: View>(
-    plan: &Plan,
-    view: &V,
-    columns: &[Binding],
+    call: &NotedCall<V>,
     var: u32,
-    rows: &[Listed<Value>],
-    notes: &[Note],
     base: usize,
     shared: bool,
     out: &mut Yield,
 ) -> bool
-    requires few { FewGrains plan.now }
-    requires noted { AreNotes plan.now (V.seen view.now) columns.now rows.now notes.now }
-    requires citing { IsCiting base (rows_reasons plan.now (V.seen view.now) columns.now rows.now) shared out.old }
-    ensures takes { kept base out.new ≡ take_conclusions (kept base out.old) (new_conclusions (V.seen view.now)
-        (map (cell_agreed plan.now (V.seen view.now) rows.now columns.now var)
-        (agreed plan.now var (columns_of var columns.now)
-        (filter (is_possible_in plan.now (V.seen view.now) (other_columns var columns.now)) rows.now)))) }
-    ensures citing { IsCiting base (rows_reasons plan.now (V.seen view.now) columns.now rows.now) result out.new }
+    requires call { IsNoted V.seen call.now }
+    requires citing { IsCiting base (reasons_of V.seen call.now) shared out.old }
+    ensures takes { kept base out.new ≡ take_conclusions (kept base out.old)
+        (new_conclusions (V.seen call.now.view.now) (map (agreement V.seen call.now var)
+        (agreed call.now.plan.now var (columns_of var call.now.columns.now) (rows_for V.seen call.now var)))) }
+    ensures citing { IsCiting base (reasons_of V.seen call.now) result out.new }
 {
-    let value = newly_agreed(plan, view, columns, var, rows, notes);
-    conclude_if(
-        plan, view, columns, var, value, rows, notes, base, shared, out,
-    )
+    let value = newly_agreed(call, var);
+    conclude_if(call, var, value, base, shared, out)
 }

@@ -2,6 +2,7 @@
 #![tactic(auto)]
 
 pub mod agreed;
+mod calls;
 pub mod sharing;
 pub mod skipping;
 pub mod tables;

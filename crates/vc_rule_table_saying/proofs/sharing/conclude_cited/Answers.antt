@@ -8,11 +8,9 @@ use Rattle.vc_rule_table_saying.proofs.sharing.conclude_cited.Goals as goal
 
 pub returns : goal.returns
 returns g c =
-    let plan = c.args.plan.now in
-    let columns = c.args.columns.now in
-    let premises
-    = rows_reasons plan (g.V.View.seen c.args.view.now) (other_columns c.args.var columns) c.args.rows.now in
-    conclusion_taken c.args.out.now c.cite_rows.new.out c.conclude.new.self c.keep_cited.new.self premises
+    let call = c.args.call.now in
+    conclusion_taken c.args.out.now c.cite_rows.new.out c.conclude.new.self c.keep_cited.new.self
+    (rows_reasons call.plan.now (g.V.View.seen call.view.now) (other_columns c.args.var call.columns.now) call.rows.now)
     (Is c.args.var c.args.value)
     c.cite_rows.ensures c.conclude.ensures
     (c.keep_cited.ensures

@@ -6,6 +6,7 @@ use Rattle.vc_rule_table_saying.proofs.tables.is_possible.Goals as goal
 
 pub returns : goal.returns
 returns g c =
+    let call = c.args.call.now in
     c.is_possible_in.ensures
-    ∙ ap (λ (columns : List Binding). is_possible_in c.args.plan.now (g.V.View.seen c.args.view.now) columns
-    c.args.row.now) (all_columns c.args.columns.now)
+    ∙ ap (λ (columns : List Binding). is_possible_in call.plan.now (g.V.View.seen call.view.now) columns
+    c.args.row.now) (all_columns call.columns.now)

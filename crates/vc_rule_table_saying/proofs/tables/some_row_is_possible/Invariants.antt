@@ -7,9 +7,10 @@ use Rattle.vc_rule_table_saying.proofs.tables.some_row_is_possible.Given as goal
 
 abbrev pub invariant-loop-rest : goal.invariant-loop-rest
 invariant-loop-rest g l =
-    let possible = is_possible_in l.plan (g.V.View.seen l.view) l.columns in
-    (list_any possible l.rest ≡ list_any possible l.rows)
-    × AreNotes l.plan (g.V.View.seen l.view) l.columns l.rest l.noted
+    let seen = g.V.View.seen l.call.view.now in
+    let possible = is_possible_in l.call.plan.now seen l.call.columns.now in
+    (list_any possible l.rest ≡ list_any possible l.call.rows.now)
+    × AreNotes l.call.plan.now seen l.call.columns.now l.rest l.noted
 
 abbrev pub decreases-loop-rest : goal.decreases-loop-rest
 decreases-loop-rest g l = length l.rest
