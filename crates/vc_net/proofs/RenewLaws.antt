@@ -81,15 +81,17 @@ dropped_there plan sources stand (b ∷ atoms) a giver h gone woken =
       | inl is ↦
           has_front same_giver giver_exact giver_itself (own b) (dropped_wake plan sources stand atoms) giver
           (subst (λ c. has same_giver (own c) giver ≡ true) is
-          (ap (λ t. has same_giver (if t then [] else waking plan sources (seen_of (set_with stand)) (thing_of a)) giver)
-          gone ∙ woken))
+          (ap (λ t. has same_giver (unless t a) giver) gone ∙ woken))
       | inr later ↦
           has_back same_giver giver_exact giver_itself (own b) (dropped_wake plan sources stand atoms) giver
           (dropped_there plan sources stand atoms a giver later gone woken)
     ]
   where
+    unless : Bool → Atom → List Giver
+    unless t c = if t then [] else waking plan sources (seen_of (set_with stand)) (thing_of c)
+
     own : Atom → List Giver
-    own c = if has same_atom stand c then [] else waking plan sources (seen_of (set_with stand)) (thing_of c)
+    own c = unless (has same_atom stand c) c
 
 -- the first fact wakes whom it wakes, if it was dropped, and those after it do
 pub dropped_rest : (plan : Plan) (sources : Sources) (stand : List Atom) (rest : List Fact) (d : Fact)
