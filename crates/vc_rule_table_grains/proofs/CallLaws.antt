@@ -51,8 +51,8 @@ module _ {View : Type 0} (seen : View → Seen) (marked : MarkedCall View) (is :
       (inside : key < length heads) where
     pub on_begins : IsOn seen call g key begun begun (slice_index_or heads key 0)
     on_begins =
-        way_begins call.domain.now own key g (has call g) same (row_reasons_of seen call) call.rows.now begun named heads
-        (slice_index_or heads key 0) chains.1.0 (index_there heads key inside)
+        way_begins call.domain.now own key g (has call g) same (row_reasons_of seen call) call.rows.now begun named
+        heads (slice_index_or heads key 0) chains.1.0 (index_there heads key inside)
 
     pub on_goes : (out later : Yielded) (at : ℕ) → IsOn seen call g key begun out at
         → (row read : List Value) → at < length call.rows.now → row ≡ slice_index_or call.rows.now at row → read ≡ row
@@ -61,7 +61,7 @@ module _ {View : Type 0} (seen : View → Seen) (marked : MarkedCall View) (is :
         × IsOn seen call g key begun later (slice_index_or next at 0)
     on_goes out later at way row read low is_there is_read e =
         let room = chains.0 in
-        way_goes_on call.domain.now own key g (has call g) same (row_reasons_of seen call) call.rows.now begun named heads
-        next out later at (slice_index_or next at 0) row chains.1.1 inside way
+        way_goes_on call.domain.now own key g (has call g) same (row_reasons_of seen call) call.rows.now begun named
+        heads next out later at (slice_index_or next at 0) row chains.1.1 inside way
         (row_there call.rows.now at row low is_there) (index_there next at (omega (arith, low, room)))
         (e ∙ ap (λ r. cited_all out (reasons_of seen call (filter (has call g) (r ∷ [])))) is_read)

@@ -27,14 +27,20 @@ IsMarkedCall seen marked =
     × IsMarked call.plan.now (seen call.view.now) call.columns.now call.var call.domain.now call.rows.now
     marked.marks.now marked.chained
 
--- whether the row has the grain
+-- whether the row has the grain, and the rows that have it
 abbrev pub has : {View : Type 0} → TableCall View → ℕ → List Value → Bool
 has call g row = has_grain call.plan.now call.var (columns_of call.var call.columns.now) g row
 
--- whether it is possible in the other columns, and why those aren't that aren't
+abbrev pub rows_with : {View : Type 0} → TableCall View → ℕ → List (List Value)
+rows_with call g = filter (has call g) call.rows.now
+
+-- whether it is possible in the other columns, which rows are, and why those aren't that aren't
 abbrev pub is_possible : {View : Type 0} → (View → Seen) → TableCall View → List Value → Bool
 is_possible seen call row =
     is_possible_in call.plan.now (seen call.view.now) (other_columns call.var call.columns.now) row
+
+abbrev pub possible_rows : {View : Type 0} → (View → Seen) → TableCall View → List (List Value)
+possible_rows seen call = filter (is_possible seen call) call.rows.now
 
 abbrev pub reasons_of : {View : Type 0} → (View → Seen) → TableCall View → List (List Value) → List Atom
 reasons_of seen call rows =
@@ -43,8 +49,7 @@ reasons_of seen call rows =
 -- whether no possible row has the grain, and that it is out
 abbrev pub misses : {View : Type 0} → (View → Seen) → TableCall View → ℕ → Bool
 misses seen call g =
-    is_missing call.plan.now call.var (columns_of call.var call.columns.now)
-    (filter (is_possible seen call) call.rows.now) g
+    is_missing call.plan.now call.var (columns_of call.var call.columns.now) (possible_rows seen call) g
 
 abbrev pub loses : {View : Type 0} → (View → Seen) → TableCall View → ℕ → Conclusion
 loses seen call g = grain_out call.plan.now (seen call.view.now) call.rows.now call.columns.now call.var g

@@ -9,7 +9,8 @@ ghost use Rattle.vc_rule_premises.specs.Saying.{take_conclusions};
 ghost use Rattle.vc_rule_table.specs.Cells.{FewGrains};
 ghost use Rattle.vc_rule_table.specs.Noting.{AreNotes, HasNote};
 ghost use Rattle.vc_rule_table.specs.TableSaid.{grain_out, has_column, new_conclusions};
-ghost use Rattle.vc_rule_table_grains.specs.Calls.{IsCall, IsMarkedCall, has, is_new, is_possible, loses, narrowed, reasons_of};
+ghost use Rattle.vc_rule_table_grains.specs.Calls.{IsCall, IsMarkedCall, has, is_new, is_possible};
+ghost use Rattle.vc_rule_table_grains.specs.Calls.{loses, narrowed, possible_rows, reasons_of, rows_with};
 ghost use Rattle.vc_rule_table_grains.specs.Keys.{grain_key};
 ghost use Rattle.vc_rule_table_grains.specs.Marking.{AreChains, at_key};
 
@@ -45,7 +46,7 @@ fn brings<V: View>(call: &TableCall<V>, grain: usize, row: &[Value], note: Optio
 
 fn some_row_brings<V: View>(call: &TableCall<V>, grain: usize) -> bool
     requires call { IsCall V.seen call.now }
-    ensures { result ≡ list_any (has call.now grain) (filter (is_possible V.seen call.now) call.now.rows.now) }
+    ensures { result ≡ list_any (has call.now grain) (possible_rows V.seen call.now) }
 {
     let mut rest = call.rows;
     let mut noted = call.notes;
@@ -86,8 +87,7 @@ fn cite_row_with<V: View>(
 
 fn cite_rows_with<V: View>(call: &TableCall<V>, grain: usize, out: &mut Yield)
     requires call { IsCall V.seen call.now }
-    ensures { out.new ≡ cited_all out.old (reasons_of V.seen call.now (filter (has call.now grain)
-        call.now.rows.now)) }
+    ensures { out.new ≡ cited_all out.old (reasons_of V.seen call.now (rows_with call.now grain)) }
 {
     let mut rest = call.rows;
     let mut noted = call.notes;
@@ -113,8 +113,8 @@ fn cite_chain<V: View>(
     requires chains { AreChains marked.now.call.now.domain.now
         (columns_of marked.now.call.now.var marked.now.call.now.columns.now) marked.now.call.now.rows.now heads.now
         next.now }
-    ensures { out.new ≡ cited_all out.old (reasons_of V.seen marked.now.call.now (filter (has marked.now.call.now grain)
-        marked.now.call.now.rows.now)) }
+    ensures { out.new ≡ cited_all out.old (reasons_of V.seen marked.now.call.now
+        (rows_with marked.now.call.now grain)) }
 {
     let mut at = heads[key];
     while let Some(row) = marked.call.rows.get(at) {
@@ -127,8 +127,8 @@ fn cite_chain<V: View>(
 // The rows along their chain where they are chained, else all rows.
 fn cite_having<V: View>(marked: &MarkedCall<V>, grain: usize, out: &mut Yield)
     requires call { IsMarkedCall V.seen marked.now }
-    ensures { out.new ≡ cited_all out.old (reasons_of V.seen marked.now.call.now (filter (has marked.now.call.now grain)
-        marked.now.call.now.rows.now)) }
+    ensures { out.new ≡ cited_all out.old (reasons_of V.seen marked.now.call.now
+        (rows_with marked.now.call.now grain)) }
 {
     let heads = heads_in(marked.marks);
     match grain_key(marked.call.domain, grain) {
@@ -165,7 +165,7 @@ fn mark_at(key: Option<usize>, had: &[bool]) -> Option<bool>
 // Whether a row that is possible in the other columns has the grain: by its mark, if there is one.
 fn is_had<V: View>(marked: &MarkedCall<V>, grain: usize) -> bool
     requires call { IsMarkedCall V.seen marked.now }
-    ensures { result ≡ list_any (has marked.now.call.now grain) (filter (is_possible V.seen marked.now.call.now) marked.now.call.now.rows.now) }
+    ensures { result ≡ list_any (has marked.now.call.now grain) (possible_rows V.seen marked.now.call.now) }
 {
     match mark_at(grain_key(marked.call.domain, grain), had_in(marked.marks)) {
         Some(mark) => mark,
@@ -184,7 +184,8 @@ fn is_newly_missing<V: View>(marked: &MarkedCall<V>, grain: usize) -> bool
 
 fn some_newly_missing<V: View>(marked: &MarkedCall<V>) -> bool
     requires call { IsMarkedCall V.seen marked.now }
-    ensures { result ≡ list_any (is_new V.seen marked.now.call.now) (numbers_below (count_of marked.now.call.now.plan.now marked.now.call.now.var)) }
+    ensures { result ≡ list_any (is_new V.seen marked.now.call.now)
+        (numbers_below (count_of marked.now.call.now.plan.now marked.now.call.now.var)) }
 {
     for grain in 0..count_of(marked.call.plan, marked.call.var) {
         if is_newly_missing(marked, grain) {

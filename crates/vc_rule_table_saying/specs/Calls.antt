@@ -20,7 +20,8 @@ IsNoted seen call =
 
 -- whether the row is possible in the other columns than the variable's, and the rows that are
 abbrev pub is_possible_for : {View : Type 0} → (View → Seen) → NotedCall View → ℕ → List Value → Bool
-is_possible_for seen call v row = is_possible_in call.plan.now (seen call.view.now) (other_columns v call.columns.now) row
+is_possible_for seen call v row =
+    is_possible_in call.plan.now (seen call.view.now) (other_columns v call.columns.now) row
 
 abbrev pub rows_for : {View : Type 0} → (View → Seen) → NotedCall View → ℕ → List (List Value)
 rows_for seen call v = filter (is_possible_for seen call v) call.rows.now
