@@ -1,5 +1,6 @@
 pub mod AskedLaws
 pub mod FilingLemmas
+pub mod ListLemmas
 pub mod ReaderLaws
 pub mod ReaderRows
 pub mod RisingLemmas

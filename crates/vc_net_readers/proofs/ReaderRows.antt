@@ -1,18 +1,24 @@
 -- Worked rows of readers, by computing: PUMP's, and those of a rule that waits for a value. Beside what is so stands
 -- what would be so by a likely slip, and isn't.
-use Rattle.std.proofs.Common.{◌≡◌, ℕ, [], ◌∷◌, refl}
+use Rattle.std.proofs.Common.{◌≡◌, ℕ, Bool, true, false, [], ◌∷◌, refl}
 use Rattle.std.specs.Prelude.{◌≢◌, Option, None, Some}
+use Rattle.vc_value.specs.declared.value.Value.TheVariants.{Text}
 use Rattle.vc_plan.specs.declared.atoms.Atom.TheVariants.{Is}
 use Rattle.vc_plan.specs.declared.conditions.Condition.TheVariants.{Always, Compared}
-use Rattle.vc_plan.specs.declared.conditions.Relation.TheVariants.{Equal}
+use Rattle.vc_plan.specs.declared.conditions.Relation.TheVariants.{Equal, Unequal}
 use Rattle.vc_plan.specs.declared.plans.Plan.{Plan}
-use Rattle.vc_plan.specs.declared.rules.Kind.TheVariants.{Last}
+use Rattle.vc_plan.specs.declared.rules.Kind.{Kind}
+use Rattle.vc_plan.specs.declared.rules.Kind.TheVariants.{Among, Last}
+use Rattle.vc_plan.specs.declared.rules.Restriction.TheVariants.{Against}
 use Rattle.vc_plan.specs.declared.terms.Term.TheVariants.{Literal, Read}
 use Rattle.vc_plan.proofs.PlanRows.Models.{last, open_pair, own_rule, pump, whole}
 use Rattle.vc_plan.specs.Seen.{Seen, seen_of}
 use Rattle.vc_plan_reasons.specs.Things.{slot_at, var_at}
 use Rattle.vc_net_laws.specs.declared.triggers.Trigger.{Trigger}
+use Rattle.vc_net_readers.specs.declared.glances.Hint.{Hint}
+use Rattle.vc_net_readers.specs.declared.glances.Hint.TheVariants.{GivesText, IsLast, Untold}
 use Rattle.vc_net_readers.specs.Filing.{filed_at_all}
+use Rattle.vc_net_readers.specs.Glances.{hint_in}
 use Rattle.vc_net_readers.specs.Laws.{asked}
 use Rattle.vc_net_readers.specs.Readers.{readers_of, trigger_at}
 
@@ -24,6 +30,8 @@ by_things : readers_of pump ≡ record {
   awaited = [] ∷ [] ∷ [] ∷ [];
   by_place = [] ∷ [] ∷ [] ∷ [] ∷ [] ∷ [] ∷ [] ∷ [] ∷ [] ∷ [] ∷ [] ∷ [];
   triggers = None ∷ None ∷ None ∷ None ∷ [];
+  glances = record { trigger = None; hint = Untold } ∷ record { trigger = None; hint = IsLast 0 true }
+      ∷ record { trigger = None; hint = IsLast 1 true } ∷ record { trigger = None; hint = IsLast 2 false } ∷ [];
 }
 by_things = refl
 
@@ -41,6 +49,8 @@ by_value : readers_of awaiting ≡ record {
   awaited = (0 ∷ []) ∷ (0 ∷ []) ∷ [];
   by_place = [] ∷ [] ∷ [] ∷ (0 ∷ []) ∷ [] ∷ [] ∷ [] ∷ [] ∷ [] ∷ [];
   triggers = Some (record { var = 0; value = whole 2 }) ∷ None ∷ [];
+  glances = record { trigger = Some (record { var = 0; value = whole 2 }); hint = IsLast 1 true }
+      ∷ record { trigger = None; hint = IsLast 0 true } ∷ [];
 }
 by_value = refl
 
@@ -87,3 +97,21 @@ once = refl
 
 twice : filed_at_all ([] ∷ []) (0 ∷ 0 ∷ []) 5 ≢ (5 ∷ 5 ∷ []) ∷ []
 twice e = cc
+
+-- what is told of a rule: the text that it gives a variable that isn't restrictable, by itself; and of no other one
+abbrev told_of : Bool → Kind → Hint
+told_of restrictable kind =
+    hint_in (record pump { vars = record { slot = 0; characteristic = 0; domain = 0; restrictable = restrictable } ∷ [] })
+    kind
+
+a_text : told_of false (Among 0 (Against Equal (Text 7))) ≡ GivesText 0 7
+a_text = refl
+
+open_variable : told_of true (Among 0 (Against Equal (Text 7))) ≡ Untold
+open_variable = refl
+
+another_relation : told_of false (Among 0 (Against Unequal (Text 7))) ≡ Untold
+another_relation = refl
+
+a_number : told_of false (Among 0 (Against Equal (whole 7))) ≡ Untold
+a_number = refl

@@ -13,6 +13,7 @@ use Rattle.vc_net_laws.specs.Triggers.{trigger_by}
 use Rattle.vc_net_laws.specs.Waking.{giver_touches, is_woken}
 use Rattle.vc_net_places.specs.Places.{index_of}
 use Rattle.vc_net_readers.specs.Filing.{list_at}
+use Rattle.vc_net_readers.specs.Glances.{glance_at, glance_by}
 use Rattle.vc_net_readers.specs.Readers.{Index, is_reader, readers_of, trigger_at}
 use Rattle.vc_net_readers.specs.Waiting.{grain_held, grain_with, place_in_grain}
 
@@ -58,3 +59,7 @@ AskedTouch = (plan : Plan) (seen : Seen) (thing : Thing) (r : ℕ) → has nat_e
 -- the trigger that is kept of a rule is the rule's, of whatever number
 abbrev pub TriggersAreKept : Type 0
 TriggersAreKept = (plan : Plan) (r : ℕ) → trigger_at (readers_of plan).triggers r ≡ trigger_by plan (by_rule r)
+
+-- and what is told of it at a glance
+abbrev pub GlancesAreKept : Type 0
+GlancesAreKept = (plan : Plan) (r : ℕ) → glance_at (readers_of plan).glances r ≡ glance_by plan r

@@ -9,6 +9,8 @@ use Rattle.vc_net_laws.specs.declared.triggers.Trigger.{Trigger}
 use Rattle.vc_net_laws.specs.Triggers.{trigger_by}
 use Rattle.vc_net_laws.specs.Waking.{giver_touches}
 use Rattle.vc_net_places.specs.Places.{index_of}
+use Rattle.vc_net_readers.specs.declared.glances.Glance.{Glance}
+use Rattle.vc_net_readers.specs.Glances.{glances_of, trigger_told}
 use Rattle.vc_net_readers.specs.Touched.{vars_by}
 use Rattle.vc_net_readers.specs.Waiting.{is_free, is_own, waits_by}
 
@@ -20,6 +22,7 @@ pub record Index : Type 0 where
   pub awaited : List (List ℕ)
   pub by_place : List (List ℕ)
   pub triggers : List (Option Trigger)
+  pub glances : List Glance
 
 -- the rules that touch a thing, in their order
 abbrev pub is_reader : Plan → Thing → ℕ → Bool
@@ -75,7 +78,7 @@ place_lists plan = map (λ place. filter (waits_at plan place) (numbers_below (l
 
 -- of each rule its trigger; that of a number: a rule that isn't there has none
 abbrev pub triggers_of : Plan → List (Option Trigger)
-triggers_of plan = map (λ r. trigger_by plan (by_rule r)) (numbers_below (length plan.rules))
+triggers_of plan = map trigger_told (glances_of plan)
 
 abbrev pub trigger_or_none : Option (Option Trigger) → Option Trigger
 trigger_or_none None = None
@@ -92,4 +95,5 @@ readers_of plan = record {
   awaited = awaited_lists plan;
   by_place = place_lists plan;
   triggers = triggers_of plan;
+  glances = glances_of plan;
 }

@@ -2,11 +2,14 @@
 #![tactic(auto)]
 
 pub mod filing;
+pub mod glances;
 pub mod halves;
 pub mod laws;
+pub mod lists;
 pub mod readers;
 pub mod touched;
 pub mod touching;
 pub mod triggers;
 
+pub use glances::{Glance, Hint};
 pub use readers::Readers;

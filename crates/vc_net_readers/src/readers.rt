@@ -2,14 +2,17 @@
 
 ghost use Rattle.std.specs.Prelude.{◌≡◌, ◌^◌, ◌<◌, length, map, slice_get, IfOk, OnOk};
 ghost use Rattle.vc_net_readers.specs.Filing.{filed_at_all, filed_at_each, list_at};
+ghost use Rattle.vc_net_readers.specs.Glances.{glance_at, glances_of};
 ghost use Rattle.vc_net_readers.specs.Readers.{awaited_lists, free_lists, place_lists, slot_lists, var_lists};
-ghost use Rattle.vc_net_readers.specs.Readers.{trigger_at, triggers_of, waiter_lists};
+ghost use Rattle.vc_net_readers.specs.Readers.{trigger_at, waiter_lists};
 ghost use Rattle.vc_net_readers.specs.Touched.{slots_by, vars_by};
 ghost use Rattle.vc_net_readers.specs.Waiting.{awaited_by, free_by, waits_by};
 ghost use Rattle.vc_rule_grains.specs.Finding.{GrainsFit};
 ghost use Rattle.vc_net_places.specs.Places.{index_of};
 
 use crate::filing::{empty_lists, file_at, file_at_all};
+use crate::glances::{Glance, Hint, glance_by};
+use crate::lists::Lists;
 use crate::touched::{touched_slots, touched_vars};
 use crate::triggers::{place_of_trigger, trigger_by};
 use std::alloc::{AllocError, Global};
@@ -27,11 +30,13 @@ pub struct Readers {
     by_var: Vec<Listed<u32>>,
     free: Vec<Listed<u32>>,
     awaited: Vec<Listed<u32>>,
-    by_place: Vec<Listed<u32>>,
-    triggers: Listed<Option<Trigger>>,
+    by_place: Lists,
+    glances: Listed<Glance>,
 }
 
 impl Model for Readers {
+    ghost use Rattle.std.specs.Prelude.{map};
+    ghost use Rattle.vc_net_readers.specs.Glances.{trigger_told};
     ghost use Rattle.vc_net_readers.specs.Readers.{Index};
 
     ghost Value = { Index };
@@ -41,8 +46,9 @@ impl Model for Readers {
       by_var = r.by_var.items;
       free = r.free.items;
       awaited = r.awaited.items;
-      by_place = r.by_place.items;
-      triggers = r.triggers;
+      by_place = r.by_place;
+      triggers = map trigger_told r.glances;
+      glances = r.glances;
     } };
 }
 
@@ -51,6 +57,7 @@ impl Readers {
     ghost use Rattle.vc_rule_grains.specs.Finding.{GrainsFit};
     ghost use Rattle.vc_net_places.specs.Places.{index_of};
     ghost use Rattle.vc_net_readers.specs.Filing.{list_at};
+    ghost use Rattle.vc_net_readers.specs.Glances.{glance_at};
     ghost use Rattle.vc_net_readers.specs.Readers.{readers_of, trigger_at};
 
     /// The rules of the plan.
@@ -65,15 +72,15 @@ impl Readers {
         let by_var = var_lists(alloc, plan)?;
         let free = free_lists(alloc, plan)?;
         let awaited = awaited_lists(alloc, plan)?;
-        let by_place = place_lists(alloc, plan, index)?;
-        let triggers = triggers_of(alloc, plan)?;
+        let by_place = packed_places(alloc, plan, index)?;
+        let glances = glances_of(alloc, plan)?;
         Ok(Readers {
             by_slot,
             by_var,
             free,
             awaited,
             by_place,
-            triggers,
+            glances,
         })
     }
 
@@ -110,19 +117,30 @@ impl Readers {
     pub fn waiting(&self, place: usize) -> &[u32]
         ensures { result.now ≡ list_at self.now.by_place place }
     {
-        match self.by_place.as_slice().get(place) {
-            Some(rules) => rules.as_slice(),
-            None => &[],
-        }
+        self.by_place.at(place)
     }
 
     /// The value without which the rule says nothing, if there is one; none where there is no such rule.
+    #[tactic(auto, using(crate::proofs::TriggerLemmas::trigger_beside))]
     pub fn trigger(&self, rule: u32) -> Option<Trigger>
         ensures { result ≡ trigger_at self.now.triggers rule }
     {
-        match element(self.triggers.as_slice(), rule) {
-            Some(trigger) => *trigger,
+        match element(self.glances.as_slice(), rule) {
+            Some(glance) => glance.trigger,
             None => None,
+        }
+    }
+
+    /// What is told of the rule at a glance; nothing where there is no such rule.
+    pub fn glance(&self, rule: u32) -> Glance
+        ensures { result ≡ glance_at self.now.glances rule }
+    {
+        match element(self.glances.as_slice(), rule) {
+            Some(glance) => *glance,
+            None => Glance {
+                trigger: None,
+                hint: Hint::Untold,
+            },
         }
     }
 }
@@ -332,15 +350,28 @@ fn place_lists(alloc: Global, plan: &Plan, index: &Places) -> Result<Vec<Listed<
     Ok(lists)
 }
 
-// The trigger of each rule.
-#[tactic(auto, using(vc_net_places::proofs::PlaceLaws::Things::mapped_next))]
-fn triggers_of(alloc: Global, plan: &Plan) -> Result<Listed<Option<Trigger>>, AllocError>
-    requires { length plan.now.rules < 2 ^ 32 }
-    ensures { IfOk result (λ triggers. triggers ≡ triggers_of plan.now) }
+// The same, one after another.
+fn packed_places(alloc: Global, plan: &Plan, index: &Places) -> Result<Lists, AllocError>
+    requires rules { length plan.now.rules < 2 ^ 32 }
+    requires grains { GrainsFit plan.now }
+    requires index { index.now ≡ index_of plan.now }
+    ensures { IfOk result (λ lists. lists ≡ place_lists plan.now) }
 {
-    let mut triggers = Listed::new(alloc);
+    let lists = place_lists(alloc, plan, index)?;
+    let packed = Lists::new(alloc, lists.as_slice());
+    drop(lists);
+    packed
+}
+
+// What is told of each rule at a glance.
+#[tactic(auto, using(vc_net_places::proofs::PlaceLaws::Things::mapped_next))]
+fn glances_of(alloc: Global, plan: &Plan) -> Result<Listed<Glance>, AllocError>
+    requires { length plan.now.rules < 2 ^ 32 }
+    ensures { IfOk result (λ glances. glances ≡ glances_of plan.now) }
+{
+    let mut glances = Listed::new(alloc);
     for rule in 0..plan.rules.len() {
-        triggers.push(trigger_by(plan, rule as u32))?;
+        glances.push(glance_by(plan, rule as u32))?;
     }
-    Ok(triggers)
+    Ok(glances)
 }

@@ -168,7 +168,8 @@ fn append_kind_slots(plan: &Plan, kind: &Kind, slots: &mut Listed<u32>) -> Resul
     }
 }
 
-fn append_all(numbers: &[u32], slots: &mut Listed<u32>) -> Result<(), AllocError>
+/// Puts the numbers at the end.
+pub fn append_all(numbers: &[u32], slots: &mut Listed<u32>) -> Result<(), AllocError>
     ensures { OnOk result (slots.new ≡ slots.old ++ numbers.now) }
 {
     let mut rest = numbers;

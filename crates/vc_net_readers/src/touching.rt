@@ -6,10 +6,12 @@ ghost use Rattle.vc_plan.specs.Reads.{vars_in, vars_of_condition, vars_of_term, 
 ghost use Rattle.vc_plan.specs.Gives.{by_rule};
 ghost use Rattle.vc_plan_reasons.specs.Things.{var_at, vars_of_column, vars_of_kind, vars_of_sides};
 ghost use Rattle.vc_net_laws.specs.Triggers.{trigger_by};
+ghost use Rattle.vc_net_readers.specs.Glances.{gives_text_to, glance_by};
 ghost use Rattle.vc_net_readers.specs.Readers.{is_reader};
 ghost use Rattle.vc_net_readers.specs.Touched.{touched_vars};
 ghost use Rattle.vc_net_readers.specs.Waiting.{is_own};
 
+use crate::glances::{Glance, Hint};
 use vc_net_laws::Trigger;
 use vc_plan::{Binding, Condition, Kind, Operand, Plan, Rule, Term};
 use vc_rule_terms::elements::element;
@@ -147,5 +149,30 @@ fn is_trigger_of(trigger: Option<Trigger>, var: u32) -> bool
     match trigger {
         Some(trigger) => var == trigger.var,
         None => false,
+    }
+}
+
+/// The same, where it is known what is told of the rule at a glance: it writes the variable that it gives a text.
+pub fn touches_as_told(plan: &Plan, rule: u32, glance: Glance, var: u32) -> bool
+    requires { glance ≡ glance_by plan.now rule }
+    ensures { result ≡ is_reader plan.now (var_at var) rule }
+{
+    if gives_text_to(glance.hint, var) {
+        true
+    } else {
+        touches_by(plan, rule, glance.trigger, var)
+    }
+}
+
+// Whether it is told that a rule gives the variable a text.
+fn gives_text_to(hint: Hint, var: u32) -> bool
+    ensures { result ≡ gives_text_to var hint }
+{
+    match hint {
+        Hint::GivesText {
+            var: other,
+            text: _,
+        } => var == other,
+        _ => false,
     }
 }

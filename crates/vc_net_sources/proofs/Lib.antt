@@ -1,3 +1,4 @@
 pub mod GiverLaws
+pub mod LastLaws
 pub mod RoomLaws
 pub mod SilenceLaws

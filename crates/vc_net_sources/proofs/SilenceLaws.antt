@@ -1,23 +1,25 @@
 -- Sources that tell nothing, and rules that rest.
-use Rattle.std.proofs.Common.{◌≡◌, ℕ, Bool, true, false, refl, ap, sym, ◌∙◌}
+use Rattle.std.proofs.Common.{◌≡◌, ℕ, Bool, true, false, List, refl, ap, sym, ◌∙◌, inl, inr}
 use Rattle.std.specs.Prelude.{if◌then◌else◌, is_none, slice_get, Option, None, Some}
+use Rattle.std.proofs.lemmas.Bool.{or_cases}
 use Rattle.vc_base.specs.Rounds.{Given}
 use Rattle.vc_plan.specs.declared.atoms.Atom.{Atom}
 use Rattle.vc_plan.specs.declared.plans.Plan.{Plan}
 use Rattle.vc_plan.specs.declared.rules.Rule.{Rule}
-use Rattle.vc_plan.specs.Answers.{nothing}
-use Rattle.vc_plan.specs.Gives.{Giver, by_rule, by_user, by_entry, entry_says, if_here, value_says}
+use Rattle.vc_plan.specs.Answers.{fresh, nothing}
+use Rattle.vc_plan.specs.Clear.{is_clear}
+use Rattle.vc_plan.specs.Gives.{Giver, by_rule, by_user, by_entry, entry_says, gives, if_here, rule_says, value_says}
 use Rattle.vc_plan.specs.Seen.{Seen, is_here, seen_of}
-use Rattle.vc_plan.specs.Sources.{entry_of, user_of}
+use Rattle.vc_plan.specs.Sources.{Sources, entry_of, user_of}
 use Rattle.vc_plan_reasons.specs.Checking.{is_silent}
-use Rattle.vc_rule_terms.specs.Computing.{LiesInGrains}
-use Rattle.vc_rule_premises.specs.Saying.{given_of, said_from, silent}
-use Rattle.vc_rule.specs.Evaluating.{found_at}
+use Rattle.vc_rule_premises.specs.Saying.{given_of, said_from}
+use Rattle.vc_rule.specs.Resting.{rests}
 use Rattle.vc_rule.proofs.RestingLaws.{resting_find_nothing}
 use Rattle.vc_rule_laws.proofs.BoundLaws.{clear_lies_in_grains}
-use Rattle.vc_net_sources.specs.Asking.{found_from, is_at_rest, rests_at, rests_if, why_there}
+use Rattle.vc_net_sources.specs.Asking.{is_last_of_known, rests_at, rests_if, tells_nothing, why_there}
 use Rattle.vc_net_sources.specs.Laws.{RestingAreQuiet, SilentSourcesCostNothing, SilentSourcesFindNothing}
 use Rattle.vc_net_sources.proofs.GiverLaws.{found_is_given}
+use Rattle.vc_net_sources.proofs.LastLaws.{known_is_silent}
 
 none_from : {A : Type 0} (o : Option A) → is_none o ≡ true → o ≡ None
 none_from None e = refl
@@ -49,21 +51,34 @@ silent_sources_cost_nothing sources (by_rule r) e = absurd (cc e)
 silent_sources_cost_nothing sources (by_user v) e = refl
 silent_sources_cost_nothing sources (by_entry v) e = refl
 
--- a rule that rests finds nothing where values lie in grains
-rule_silent : (plan : Plan) (seen : Seen) (r : ℕ) → LiesInGrains plan seen → rests_at plan seen r ≡ true
-    → found_at plan seen r ≡ silent
-rule_silent plan seen r fits e = by (slice_get plan.rules r) refl e
+-- a rule that rests finds nothing where values lie in grains; or it is that of the last grain of a known variable
+rule_quiet : (plan : Plan) (sources : Sources) (set : List Atom) (r : ℕ) → is_clear plan set ≡ true
+    → rests_at plan (seen_of set) r ≡ true
+    → is_silent (gives plan sources (by_rule r) (seen_of set)) ≡ true
+rule_quiet plan sources set r clear e = by (slice_get plan.rules r) refl e
   where
-    by : (o : Option Rule) → slice_get plan.rules r ≡ o → rests_if plan seen o ≡ true → found_at plan seen r ≡ silent
-    by None there e = absurd (cc e)
-    by (Some rule) there e = resting_find_nothing plan seen r rule fits there e
+    by : (o : Option Rule) → slice_get plan.rules r ≡ o → rests_if plan (seen_of set) o ≡ true
+        → is_silent (gives plan sources (by_rule r) (seen_of set)) ≡ true
+    by None there e = absurd (cc)
+    by (Some rule) there e =
+        elim (or_cases (is_last_of_known (seen_of set) rule.kind) (rests plan (seen_of set) rule.kind) e) [
+          | inl known ↦
+              ap (λ o. is_silent (fresh (seen_of set) (rule_says plan (seen_of set) o))) there
+              ∙ known_is_silent plan set rule clear known
+          | inr rest ↦
+              ap is_silent (sym (found_is_given plan sources (seen_of set) (by_rule r))
+              ∙ ap given_of
+              (resting_find_nothing plan (seen_of set) r rule (clear_lies_in_grains plan set clear) there rest))
+        ]
+
+-- a source that tells nothing is quiet
+source_quiet : (plan : Plan) (sources : Sources) (set : List Atom) (giver : Giver)
+    → tells_nothing sources giver ≡ true → is_silent (gives plan sources giver (seen_of set)) ≡ true
+source_quiet plan sources set giver e =
+    ap is_silent (sym (found_is_given plan sources (seen_of set) giver)
+    ∙ ap given_of (silent_sources_find_nothing plan sources (seen_of set) giver e))
 
 pub resting_are_quiet : RestingAreQuiet
-resting_are_quiet plan sources set giver clear e =
-    ap is_silent (sym (found_is_given plan sources (seen_of set) giver) ∙ ap given_of (by giver e))
-  where
-    by : (g : Giver) → is_at_rest plan sources (seen_of set) g ≡ true
-        → found_from plan sources (seen_of set) g ≡ silent
-    by (by_rule r) e = rule_silent plan (seen_of set) r (clear_lies_in_grains plan set clear) e
-    by (by_user v) e = silent_sources_find_nothing plan sources (seen_of set) (by_user v) e
-    by (by_entry v) e = silent_sources_find_nothing plan sources (seen_of set) (by_entry v) e
+resting_are_quiet plan sources set (by_rule r) clear e = rule_quiet plan sources set r clear e
+resting_are_quiet plan sources set (by_user v) clear e = source_quiet plan sources set (by_user v) e
+resting_are_quiet plan sources set (by_entry v) clear e = source_quiet plan sources set (by_entry v) e

@@ -1,11 +1,13 @@
 -- What any giver says at what is seen, with what it follows from.
-use Rattle.std.specs.Prelude.{ℕ, Bool, false, List, [], ◌∷◌, Option, None, Some, is_none, slice_get}
+use Rattle.std.specs.Prelude.{ℕ, Bool, false, ◌||◌, List, [], ◌∷◌, Option, None, Some, is_none, is_some, slice_get}
 use Rattle.vc_base.specs.Rounds.{Given, clash, atoms}
 use Rattle.vc_plan.specs.declared.atoms.Atom.{Atom}
 use Rattle.vc_plan.specs.declared.atoms.Atom.TheVariants.{Is}
 use Rattle.vc_plan.specs.declared.atoms.Origin.{Origin}
 use Rattle.vc_plan.specs.declared.atoms.Origin.TheVariants as origins
 use Rattle.vc_plan.specs.declared.plans.Plan.{Plan}
+use Rattle.vc_plan.specs.declared.rules.Kind.{Kind}
+use Rattle.vc_plan.specs.declared.rules.Kind.TheVariants.{Among, Compare, Equate, ByTable, Never, Last, Line}
 use Rattle.vc_plan.specs.declared.rules.Rule.{Rule}
 use Rattle.vc_plan.specs.Answers.{nothing}
 use Rattle.vc_plan.specs.Gives.{Giver, by_rule, by_user, by_entry, giver_says, if_here}
@@ -42,10 +44,20 @@ tells_nothing sources (by_rule r) = false
 tells_nothing sources (by_user v) = is_none (user_of sources v)
 tells_nothing sources (by_entry v) = is_none (entry_of sources v)
 
+-- whether it is the rule of the last grain of a variable that has a value
+abbrev pub is_last_of_known : Seen → Kind → Bool
+is_last_of_known seen (Among v restriction) = false
+is_last_of_known seen (Compare r a b) = false
+is_last_of_known seen (Equate a b) = false
+is_last_of_known seen (ByTable table columns) = false
+is_last_of_known seen Never = false
+is_last_of_known seen (Last v) = is_some (seen.value v)
+is_last_of_known seen (Line i) = false
+
 -- whether the rule of this number, if it is there, is told at a glance to say nothing new
 abbrev pub rests_if : Plan → Seen → Option Rule → Bool
 rests_if plan seen None = false
-rests_if plan seen (Some rule) = rests plan seen rule.kind
+rests_if plan seen (Some rule) = is_last_of_known seen rule.kind || rests plan seen rule.kind
 
 abbrev pub rests_at : Plan → Seen → ℕ → Bool
 rests_at plan seen r = rests_if plan seen (slice_get plan.rules r)

@@ -10,13 +10,13 @@ ghost use Rattle.vc_rule_premises.specs.Saying.{held, said_from, taken, HasRoomF
 ghost use Rattle.vc_rule_grains.specs.Kinds.{slot_of};
 ghost use Rattle.vc_rule.specs.Evaluating.{RulesFit};
 ghost use Rattle.vc_net_agenda.specs.Agendas.{meant};
-ghost use Rattle.vc_net_sources.specs.Asking.{evaluations, found_from, given_by, rests_at, source_said};
-ghost use Rattle.vc_net_sources.specs.Asking.{tells_nothing};
+ghost use Rattle.vc_net_sources.specs.Asking.{evaluations, found_from, given_by, is_last_of_known, rests_at};
+ghost use Rattle.vc_net_sources.specs.Asking.{source_said, tells_nothing};
 
 use crate::telling::{Telling, told_by_entry, told_by_user};
 use std::sync::ledger::Ledger;
 use vc_net_agenda::Giver;
-use vc_plan::{Atom, Plan, View};
+use vc_plan::{Atom, Kind, Plan, View};
 use vc_plan_sources::Sources;
 use vc_rule::evaluate;
 use vc_rule::resting::rests;
@@ -74,8 +74,18 @@ pub fn rests_at<V: View>(plan: &Plan, view: &V, rule: u32) -> bool
     ensures { result ≡ rests_at plan.now (V.seen view.now) rule }
 {
     match element(plan.rules.as_slice(), rule) {
-        Some(rule) => rests(plan, view, &rule.kind),
+        Some(rule) => is_last_of_known(view, &rule.kind) || rests(plan, view, &rule.kind),
         None => false,
+    }
+}
+
+// Whether it is the rule of the last grain of a variable that has a value: in a clear set that is the last grain's.
+fn is_last_of_known<V: View>(view: &V, kind: &Kind) -> bool
+    ensures { result ≡ is_last_of_known (V.seen view.now) kind.now }
+{
+    match kind {
+        Kind::Last(var) => view.value(*var).is_some(),
+        _ => false,
     }
 }
 

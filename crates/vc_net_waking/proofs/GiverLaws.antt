@@ -2,19 +2,27 @@
 use Rattle.std.proofs.Common.{◌≡◌, ℕ, ◌+◌, add-one, Bool, true, false, cond, not, ◌&&◌, List, [], ◌∷◌, ◌++◌}
 use Rattle.std.proofs.Common.{map, refl, sym, ◌∙◌, ap, subst, inl, inr, arith, length, ◌≤◌, ◌<◌, ◌-◌, drop, get_or}
 use Rattle.std.proofs.Common.{take}
-use Rattle.std.specs.Prelude.{Option, None, Some, if◌then◌else◌, nat_eq, nat_lt}
+use Rattle.std.specs.Prelude.{Option, None, Some, ◌||◌, if◌then◌else◌, nat_eq, nat_lt, slice_get}
 use Rattle.std.specs.List.{filter, flat_map}
 use Rattle.std.proofs.lemmas.List.{map-append, take_all}
 use Rattle.std.proofs.lemmas.List.Elements.{filter-append}
 use Rattle.vc_base.specs.Sets.{has}
 use Rattle.vc_base.proofs.SetLaws.{has_cases}
 use Rattle.vc_value.specs.declared.value.Value.{Value}
+use Rattle.vc_value.specs.declared.value.Value.TheVariants.{Text, Num}
+use Rattle.vc_plan.specs.declared.conditions.Relation.{Relation}
+use Rattle.vc_plan.specs.declared.conditions.Relation.TheVariants.{Equal, Unequal, Less, AtMost, Greater, AtLeast}
 use Rattle.vc_plan.specs.declared.plans.Plan.{Plan}
-use Rattle.vc_plan.specs.Domains.{numbers_below}
+use Rattle.vc_plan.specs.declared.rules.Kind.{Kind}
+use Rattle.vc_plan.specs.declared.rules.Kind.TheVariants.{Among, Compare, Equate, ByTable, Never, Last, Line}
+use Rattle.vc_plan.specs.declared.rules.Restriction.TheVariants.{Against, OneOf}
+use Rattle.vc_plan.specs.declared.rules.Rule.{Rule}
+use Rattle.vc_plan.specs.Domains.{is_restrictable, numbers_below}
 use Rattle.vc_plan.specs.Gives.{Giver, by_entry, by_rule, by_user, givers_of}
 use Rattle.vc_plan.specs.Seen.{Seen}
 use Rattle.vc_plan.specs.Sources.{Sources}
 use Rattle.vc_plan_reasons.specs.Things.{var_at}
+use Rattle.vc_rule.specs.Resting.{asks_for_text, is_text, rests}
 use Rattle.vc_net_laws.specs.declared.triggers.Trigger.{Trigger}
 use Rattle.vc_net_laws.specs.Triggers.{trigger_by}
 use Rattle.vc_net_laws.specs.Working.{same_giver}
@@ -22,15 +30,18 @@ use Rattle.vc_net_laws.proofs.NetLaws.Working.{giver_exact, giver_itself}
 use Rattle.vc_net_agenda.specs.Agendas.{Awaited, added, is_of, with_next}
 use Rattle.vc_net_agenda.proofs.AgendaLaws.{givers_are_there, others_still_wait, who_comes_waits}
 use Rattle.vc_net_places.specs.Places.{index_of}
+use Rattle.vc_net_readers.specs.declared.glances.Hint.TheVariants.{GivesText, Untold}
+use Rattle.vc_net_readers.specs.Glances.{hint_against, hint_by, hint_in, hint_in_rule, hint_of_value}
 use Rattle.vc_net_readers.specs.Laws.{waiting_in, waiting_on}
 use Rattle.vc_net_readers.specs.Filing.{list_at}
 use Rattle.vc_net_readers.specs.Readers.{is_reader, readers_of}
 use Rattle.vc_net_readers.specs.Waiting.{grain_held, is_free, place_in_grain}
 use Rattle.vc_net_readers.proofs.AskedLaws.{common_there}
 use Rattle.vc_net_readers.proofs.TriggerLemmas.{free_are}
+use Rattle.vc_net_sources.specs.Asking.{is_last_of_known, rests_at, rests_if}
 use Rattle.vc_net_waking.specs.Beginning.{all_sources, untriggered_below}
 use Rattle.vc_net_waking.specs.Laws.{IsAgendaOf, OthersWaitOn, SizesStay}
-use Rattle.vc_net_waking.specs.Waking.{is_met, is_stirred, is_var_of, may_say, rules_in, sources_of}
+use Rattle.vc_net_waking.specs.Waking.{is_met, is_stirred, is_var_of, may_say, rests_told, rules_in, sources_of}
 use Rattle.vc_net_waking.specs.Waking.{stirred_rules, telling, telling_in_slot, with_givers}
 
 -- two lists of givers one after another
@@ -73,6 +84,56 @@ met_passing plan seen test xs ys =
     ap (stirred_rules plan seen) (filter-append test xs ys) ∙ met_both plan seen (filter test xs) (filter test ys)
 
 pub ruleset parts = (both_parts, met_both, met_passing)
+
+-- what is told of a rule at a glance tells whether it rests
+and_false : (b : Bool) → false ≡ (b && false)
+and_false true = refl
+and_false false = refl
+
+and_true : (b : Bool) → b ≡ (b && true)
+and_true true = refl
+and_true false = refl
+
+told_of_value : (plan : Plan) (seen : Seen) (v : ℕ) (a : Value)
+    → rests_told seen (hint_of_value plan v a) ≡ (is_text a (seen.value v) && not (is_restrictable plan v))
+told_of_value plan seen v (Text t) = by (is_restrictable plan v)
+  where
+    by : (b : Bool)
+        → rests_told seen (if b then Untold else GivesText v t) ≡ (is_text (Text t) (seen.value v) && not b)
+    by true = and_false (is_text (Text t) (seen.value v))
+    by false = and_true (is_text (Text t) (seen.value v))
+told_of_value plan seen v (Num n) = by (seen.value v)
+  where
+    by : (o : Option Value) → false ≡ (is_text (Num n) o && not (is_restrictable plan v))
+    by None = refl
+    by (Some b) = refl
+
+told_against : (plan : Plan) (seen : Seen) (v : ℕ) (r : Relation) (a : Value)
+    → rests_told seen (hint_against plan v r a) ≡ (asks_for_text r a (seen.value v) && not (is_restrictable plan v))
+told_against plan seen v Equal a = told_of_value plan seen v a
+told_against plan seen v Unequal a = refl
+told_against plan seen v Less a = refl
+told_against plan seen v AtMost a = refl
+told_against plan seen v Greater a = refl
+told_against plan seen v AtLeast a = refl
+
+told_of_kind : (plan : Plan) (seen : Seen) (kind : Kind)
+    → rests_told seen (hint_in plan kind) ≡ (is_last_of_known seen kind || rests plan seen kind)
+told_of_kind plan seen (Among v (Against r a)) = told_against plan seen v r a
+told_of_kind plan seen (Among v (OneOf pieces)) = refl
+told_of_kind plan seen (Compare r a b) = refl
+told_of_kind plan seen (Equate a b) = refl
+told_of_kind plan seen (ByTable table columns) = refl
+told_of_kind plan seen Never = refl
+told_of_kind plan seen (Last v) = refl
+told_of_kind plan seen (Line i) = refl
+
+pub rests_as_told : (plan : Plan) (seen : Seen) (r : ℕ) → rests_told seen (hint_by plan r) ≡ rests_at plan seen r
+rests_as_told plan seen r = by (slice_get plan.rules r)
+  where
+    by : (o : Option Rule) → rests_told seen (hint_in_rule plan o) ≡ rests_if plan seen o
+    by None = refl
+    by (Some rule) = told_of_kind plan seen rule.kind
 
 -- of the rules that touch a variable and wait for nothing each is met
 met_free : (seen : Seen) (o : Option Trigger) → is_free o ≡ true → is_met seen o ≡ true

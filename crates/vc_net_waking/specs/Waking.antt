@@ -1,15 +1,19 @@
 -- Whom an atom wakes when it has come.
-use Rattle.std.specs.Prelude.{ℕ, zero, suc, Bool, true, false, not, ◌&&◌, ◌==◌, if◌then◌else◌, List, [], ◌∷◌, ◌++◌}
-use Rattle.std.specs.Prelude.{length, map, slice_get, Option, None, Some}
+use Rattle.std.specs.Prelude.{ℕ, zero, suc, Bool, true, false, not, ◌&&◌, ◌||◌, ◌==◌, if◌then◌else◌, List, [], ◌∷◌}
+use Rattle.std.specs.Prelude.{◌++◌, is_some, length, map, slice_get, Option, None, Some}
 use Rattle.std.specs.List.{filter}
+use Rattle.vc_value.specs.declared.value.Value.TheVariants.{Text}
 use Rattle.vc_plan.specs.declared.plans.Plan.{Plan}
 use Rattle.vc_plan.specs.Gives.{Giver, by_entry, by_rule, by_user}
 use Rattle.vc_plan.specs.Seen.{Seen, is_value, slot_in}
 use Rattle.vc_plan.specs.Sources.{Sources}
 use Rattle.vc_plan_reasons.specs.Things.{Thing, slot_at, var_at}
+use Rattle.vc_rule.specs.Resting.{is_text}
 use Rattle.vc_net_laws.specs.declared.triggers.Trigger.{Trigger}
 use Rattle.vc_net_laws.specs.Triggers.{trigger_by}
 use Rattle.vc_net_agenda.specs.Agendas.{Awaited, added}
+use Rattle.vc_net_readers.specs.declared.glances.Hint.{Hint}
+use Rattle.vc_net_readers.specs.declared.glances.Hint.TheVariants.{GivesText, IsLast, Untold}
 use Rattle.vc_net_readers.specs.Laws.{asked}
 use Rattle.vc_net_sources.specs.Asking.{rests_at, tells_nothing}
 
@@ -27,10 +31,18 @@ abbrev pub is_met : Seen → Option Trigger → Bool
 is_met seen None = true
 is_met seen (Some trigger) = is_value trigger.value (seen.value trigger.var)
 
--- whether it isn't told at a glance that a rule says nothing new; and is met besides
+-- whether it isn't told at a glance that a rule says nothing new
 abbrev pub may_say : Plan → Seen → ℕ → Bool
 may_say plan seen r = not (rests_at plan seen r)
 
+-- the same of a rule of which this is told at a glance
+abbrev pub rests_told : Seen → Hint → Bool
+rests_told seen (GivesText v t) = is_text (Text t) (seen.value v)
+rests_told seen (IsLast v has_two) =
+    is_some (seen.value v) || (has_two && (not (seen.out v 0) && not (seen.out v 1)))
+rests_told seen Untold = false
+
+-- whether it is met besides
 abbrev pub is_stirred : Plan → Seen → ℕ → Bool
 is_stirred plan seen r = is_met seen (trigger_by plan (by_rule r)) && may_say plan seen r
 

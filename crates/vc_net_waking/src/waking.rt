@@ -1,29 +1,33 @@
 //! Whom an atom wakes when it has come.
 
-ghost use Rattle.std.specs.Prelude.{◌≡◌, ◌^◌, ◌<◌, length, nat_eq};
+ghost use Rattle.std.specs.Prelude.{◌≡◌, ◌^◌, ◌<◌, ◌&&◌, not, length, nat_eq};
 ghost use Rattle.std.specs.List.{filter, flat_map};
 ghost use Rattle.vc_base.specs.Sets.{has};
+ghost use Rattle.vc_value.specs.declared.value.Value.TheVariants.{Text};
 ghost use Rattle.vc_rule_grains.specs.Finding.{GrainsFit};
+ghost use Rattle.vc_rule.specs.Resting.{is_text};
 ghost use Rattle.vc_plan.specs.Gives.{by_rule};
 ghost use Rattle.vc_plan.specs.Seen.{is_value};
 ghost use Rattle.vc_plan_reasons.specs.Things.{slot_at, thing_of, var_at};
 ghost use Rattle.vc_net_places.specs.Places.{index_of};
 ghost use Rattle.vc_net_laws.specs.Triggers.{trigger_by};
 ghost use Rattle.vc_net_readers.specs.Filing.{list_at};
+ghost use Rattle.vc_net_readers.specs.Glances.{glance_by, hint_by};
 ghost use Rattle.vc_net_readers.specs.Laws.{waiting_in, waiting_on};
 ghost use Rattle.vc_net_readers.specs.Readers.{is_reader, readers_of};
 ghost use Rattle.vc_net_readers.specs.Rising.{IsRising};
 ghost use Rattle.vc_net_readers.specs.Waiting.{grain_held, place_in_grain};
-ghost use Rattle.vc_net_waking.specs.Waking.{is_met, is_var_of, may_say, rules_in, sources_of, stirred_rules};
-ghost use Rattle.vc_net_waking.specs.Waking.{telling, telling_in_slot, waking, with_givers};
+ghost use Rattle.vc_net_sources.specs.Asking.{rests_at};
+ghost use Rattle.vc_net_waking.specs.Waking.{is_met, is_var_of, may_say, rests_told, rules_in, sources_of};
+ghost use Rattle.vc_net_waking.specs.Waking.{stirred_rules, telling, telling_in_slot, waking, with_givers};
 
 use vc_net_agenda::{Agenda, Giver};
 use vc_net_laws::Trigger;
 use vc_net_places::Places;
-use vc_net_readers::Readers;
 use vc_net_readers::halves::is_among;
-use vc_net_readers::touching::touches_by;
+use vc_net_readers::touching::touches_as_told;
 use vc_net_readers::triggers::grain_held;
+use vc_net_readers::{Glance, Hint, Readers};
 use vc_net_sources::{rests_at, tells_nothing};
 use vc_plan::{Atom, Plan, View};
 use vc_plan_sources::Sources;
@@ -58,8 +62,9 @@ pub fn wake<V: View>(
 {
     match atom {
         Atom::Here(slot) => wake_at_slot(plan, readers, view, sources, slot, agenda),
-        Atom::Out(var, _) => wake_at_var(plan, readers, index, view, sources, var, agenda),
-        Atom::Is(var, _) => wake_at_var(plan, readers, index, view, sources, var, agenda),
+        Atom::Out(var, _) | Atom::Is(var, _) => {
+            wake_at_var(plan, readers, index, view, sources, var, agenda)
+        }
     }
 }
 
@@ -80,6 +85,7 @@ fn wake_at_slot<V: View>(
     push_telling_in(plan, sources, slot, agenda);
 }
 
+#[inline(always)]
 #[tactic(auto, using(crate::proofs::GiverLaws::parts, vc_net_readers::proofs::AskedLaws::none_awaited))]
 fn wake_at_var<V: View>(
     plan: &Plan,
@@ -110,16 +116,24 @@ fn push_free<V: View>(plan: &Plan, readers: &Readers, view: &V, var: u32, agenda
     ensures { agenda.new ≡ with_givers agenda.old
         (stirred_rules plan.now (V.seen view.now) (list_at (readers_of plan.now).free var)) }
 {
-    push_unless_at_rest(plan, view, readers.free(var), agenda);
+    push_unless_at_rest(plan, readers, view, readers.free(var), agenda);
 }
 
 // Lets those of the rules wait that don't rest.
-fn push_unless_at_rest<V: View>(plan: &Plan, view: &V, rules: &[u32], agenda: &mut Agenda)
+fn push_unless_at_rest<V: View>(
+    plan: &Plan,
+    readers: &Readers,
+    view: &V,
+    rules: &[u32],
+    agenda: &mut Agenda,
+)
+    requires readers { readers.now ≡ readers_of plan.now }
     ensures { agenda.new ≡ with_givers agenda.old (rules_in (filter (may_say plan.now (V.seen view.now)) rules.now)) }
 {
     let mut rest = rules;
     while let [rule, more @ ..] = rest {
-        if !rests_at(plan, view, *rule) {
+        let glance = glance_of(plan, readers, *rule);
+        if !rests_as_told(plan, view, *rule, glance.hint) {
             agenda.push(Giver::Rule(*rule));
         }
         rest = more;
@@ -180,19 +194,38 @@ fn push_waiting<V: View>(
         (filter (is_reader plan.now (var_at var)) (waiting_on plan.now (V.seen view.now) other))) }
 {
     let held = view.value(other);
-    let rules = waiting(plan, readers, index, other, held);
-    push_common(
-        plan,
-        readers,
-        view,
-        Held {
-            var: other,
-            value: held,
-        },
-        rules,
-        var,
-        agenda,
-    );
+    match held {
+        Some(_) => {
+            let held = Held {
+                var: other,
+                value: held,
+            };
+            push_held(plan, readers, index, view, held, var, agenda);
+        }
+        None => {}
+    }
+}
+
+// The same, where the other one's value is known.
+fn push_held<V: View>(
+    plan: &Plan,
+    readers: &Readers,
+    index: &Places,
+    view: &V,
+    held: Held,
+    var: u32,
+    agenda: &mut Agenda,
+)
+    requires grains { GrainsFit plan.now }
+    requires there { var < length plan.now.vars }
+    requires index { index.now ≡ index_of plan.now }
+    requires readers { readers.now ≡ readers_of plan.now }
+    requires held { (V.seen view.now).value held.var ≡ held.value }
+    ensures { agenda.new ≡ with_givers agenda.old (stirred_rules plan.now (V.seen view.now)
+        (filter (is_reader plan.now (var_at var)) (waiting_on plan.now (V.seen view.now) held.var))) }
+{
+    let rules = waiting(plan, readers, index, held.var, held.value);
+    push_common(plan, readers, view, held, rules, var, agenda);
 }
 
 // Lets those of the rules wait that touch the variable, are met and don't rest: the shorter of the rules' list and its
@@ -240,10 +273,10 @@ fn push_among<V: View>(
 {
     let mut rest = of_var;
     while let [rule, more @ ..] = rest {
-        let trigger = trigger_of(plan, readers, *rule);
-        if is_met_beside(view, held, trigger)
+        let glance = glance_of(plan, readers, *rule);
+        if is_met_beside(view, held, glance.trigger)
             && is_among(rules, *rule)
-            && !rests_at(plan, view, *rule)
+            && !rests_as_told(plan, view, *rule, glance.hint)
         {
             agenda.push(Giver::Rule(*rule));
         }
@@ -288,10 +321,10 @@ fn push_touching<V: View>(
 {
     let mut rest = rules;
     while let [rule, more @ ..] = rest {
-        let trigger = trigger_of(plan, readers, *rule);
-        if is_met_beside(view, held, trigger)
-            && touches_by(plan, *rule, trigger, var)
-            && !rests_at(plan, view, *rule)
+        let glance = glance_of(plan, readers, *rule);
+        if is_met_beside(view, held, glance.trigger)
+            && touches_as_told(plan, *rule, glance, var)
+            && !rests_as_told(plan, view, *rule, glance.hint)
         {
             agenda.push(Giver::Rule(*rule));
         }
@@ -320,6 +353,56 @@ fn trigger_of(plan: &Plan, readers: &Readers, rule: u32) -> Option<Trigger>
     ensures { result ≡ trigger_by plan.now (by_rule rule) }
 {
     readers.trigger(rule)
+}
+
+// What is told of the rule of this number at a glance, as it is kept.
+#[tactic(auto, using(vc_net_readers::proofs::TriggerLemmas::glance_kept))]
+fn glance_of(plan: &Plan, readers: &Readers, rule: u32) -> Glance
+    requires readers { readers.now ≡ readers_of plan.now }
+    ensures { result ≡ glance_by plan.now rule }
+{
+    readers.glance(rule)
+}
+
+// Whether the rule of this number rests, of which this is told.
+#[inline(always)]
+#[tactic(auto, using(crate::proofs::GiverLaws::rests_as_told))]
+fn rests_as_told<V: View>(plan: &Plan, view: &V, rule: u32, hint: Hint) -> bool
+    requires { hint ≡ hint_by plan.now rule }
+    ensures { result ≡ rests_at plan.now (V.seen view.now) rule }
+{
+    rests_told(view, hint)
+}
+
+// The same by what is told of it.
+#[inline(always)]
+fn rests_told<V: View>(view: &V, hint: Hint) -> bool
+    ensures { result ≡ rests_told (V.seen view.now) hint }
+{
+    match hint {
+        Hint::GivesText { var, text } => is_text(text, view.value(var)),
+        Hint::IsLast { var, has_two } => {
+            view.value(var).is_some() || is_two_left(view, var, has_two)
+        }
+        Hint::Untold => false,
+    }
+}
+
+// Whether it is this text.
+fn is_text(text: u32, value: Option<Value>) -> bool
+    ensures { result ≡ is_text (Text text) value }
+{
+    match value {
+        Some(Value::Text(other)) => text == other,
+        _ => false,
+    }
+}
+
+// Whether the variable has two grains, the first of which aren't out.
+fn is_two_left<V: View>(view: &V, var: u32, has_two: bool) -> bool
+    ensures { result ≡ (has_two && (not ((V.seen view.now).out var 0) && not ((V.seen view.now).out var 1))) }
+{
+    has_two && !view.out(var, 0) && !view.out(var, 1)
 }
 
 // Whether nothing is waited for, or the value for which it is stands.
@@ -374,6 +457,7 @@ pub fn push_sources(var: u32, agenda: &mut Agenda)
 }
 
 // Lets those of the variable's sources wait that tell something.
+#[inline(always)]
 fn push_telling(sources: &Sources, var: u32, agenda: &mut Agenda)
     ensures { agenda.new ≡ with_givers agenda.old (telling sources.now var) }
 {
