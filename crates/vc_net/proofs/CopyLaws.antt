@@ -8,12 +8,7 @@ use Rattle.vc_base.proofs.ListLaws.{number_exact, number_itself}
 use Rattle.vc_base.proofs.SetLaws.{both, has_cases, told}
 use Rattle.vc_net.specs.Differing.{SameBeside}
 
--- past its end a list has nothing, and takes nothing
-pub nothing_past : {A : Type 0} (xs : List (Option A)) (v : ℕ) → length xs ≤ v → slice_index_or xs v None ≡ None
-nothing_past [] v h = refl
-nothing_past (x ∷ xs) zero h = absurd (omega (arith, h))
-nothing_past (x ∷ xs) (suc v) h = nothing_past xs v (omega (arith, h))
-
+-- past its end a list takes nothing
 pub set_past : {A : Type 0} (xs : List A) (v : ℕ) (x : A) → length xs ≤ v → xs ≡ slice_set xs v x
 set_past [] v x h = refl
 set_past (y ∷ xs) zero x h = absurd (omega (arith, h))

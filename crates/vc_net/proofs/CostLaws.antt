@@ -24,13 +24,15 @@ use Rattle.vc_plan_reasons.specs.Work.{reach_of, work_of}
 use Rattle.vc_net_log.specs.Logs.{cited_by, set_of}
 use Rattle.vc_net_work.specs.Spending.{AreOn, rules_among}
 use Rattle.vc_net_work.proofs.SpendLaws.{reach_holds_what_is_written, rules_are_within_work}
-use Rattle.vc_net.specs.declared.work.Work.{Work}
-use Rattle.vc_net.specs.Breaking.{steps_with}
-use Rattle.vc_net.specs.Costing.{CostsItsWork, IsBehind, StaysBehind, left_undone, to_do}
+use Rattle.vc_net_going.specs.declared.work.Work.{Work}
+use Rattle.vc_net_going.specs.Breaking.{steps_with}
+use Rattle.vc_net_renewing.specs.Behind.{StaysBehind}
+use Rattle.vc_net.specs.Costing.{CostsItsWork, IsBehind, left_undone, to_do}
 use Rattle.vc_net.specs.Ending.{IsSettled}
-use Rattle.vc_net.specs.Going.{IsBrokenOff}
+use Rattle.vc_net_going.specs.Going.{IsBrokenOff}
 use Rattle.vc_net.specs.Nets.{Netted}
-use Rattle.vc_net.specs.Spending.{IsPaid, IsSpent, Pays}
+use Rattle.vc_net_going.specs.Spending.{IsSpent}
+use Rattle.vc_net.specs.Spending.{IsPaid, Pays}
 
 -- the last of atoms without doubles have none
 distinct_back : (xs ys : List Atom) → IsDistinct same_atom (xs ++ ys) → IsDistinct same_atom ys

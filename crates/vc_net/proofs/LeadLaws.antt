@@ -6,7 +6,7 @@ use Rattle.vc_plan.specs.declared.atoms.Atom.{Atom}
 use Rattle.vc_plan.specs.declared.atoms.Step.{Step}
 use Rattle.vc_net_log.specs.Logs.{step_from}
 use Rattle.vc_net_standing.specs.declared.standing.Fact.{Fact}
-use Rattle.vc_net.specs.Breaking.{steps_with}
+use Rattle.vc_net_going.specs.Breaking.{steps_with}
 
 pub with_last : (steps : List Step) (kept : Option Fact) (fact : Fact) (reasons told : List Atom) (last : Step)
     → kept ≡ Some fact → last ≡ step_from steps fact told → told ≡ reasons

@@ -1,15 +1,9 @@
-pub mod BreakLaws
 pub mod ChangeLaws
+pub mod ClashLaws
 pub mod CopyLaws
+pub mod CostLaws
 pub mod EndLaws
 pub mod ExplainLaws
-pub mod GoingLaws
-pub mod KeepingLaws
 pub mod LeadLaws
 pub mod NumberLaws
-pub mod PlanFacts
-pub mod ReachLaws
-pub mod RenewLaws
-pub mod RenewRows
 pub mod SpendingLaws
-pub mod CostLaws

@@ -20,8 +20,8 @@ use Rattle.vc_net_chains.specs.Telling.{trimmed_for}
 use Rattle.vc_net_chains.specs.declared.chains.Trimmed.{Trimmed}
 use Rattle.vc_net_log.specs.Logs.{cited_by, fact_of, facts_of, set_of, step_from}
 use Rattle.vc_net_standing.specs.declared.standing.Fact.{Fact}
-use Rattle.vc_net.specs.declared.breaker.Breaker.{Breaker}
-use Rattle.vc_net.specs.Breaking.{clash_in, last_atoms, stand_with, steps_with}
+use Rattle.vc_net_going.specs.declared.breaker.Breaker.{Breaker}
+use Rattle.vc_net_going.specs.Breaking.{clash_in, last_atoms, stand_with, steps_with}
 use Rattle.vc_net.specs.Ending.{LogsAreShort}
 
 -- the place of the first that passes, in a list that goes on

@@ -1,6 +1,5 @@
 -- What is asked is paid for, from turn to turn and at the end.
-use Rattle.std.proofs.Common.{◌≡◌, ℕ, ◌+◌, true, false, List, [], ◌∷◌, ◌++◌, refl, sym, ◌∙◌, ap, subst, inl, inr}
-use Rattle.std.proofs.Common.{arith}
+use Rattle.std.proofs.Common.{◌≡◌, ℕ, ◌+◌, true, false, List, [], ◌∷◌, ◌++◌, refl, sym, ◌∙◌, ap, subst, inl, inr, arith}
 use Rattle.std.specs.List.{AllByRecursion, IsDistinct}
 use Rattle.vc_base.specs.Sets.{has}
 use Rattle.vc_base.proofs.SetLaws.{has_back, has_first, has_front}
@@ -14,10 +13,11 @@ use Rattle.vc_net_laws.proofs.NetLaws.Working.{giver_exact, giver_itself}
 use Rattle.vc_net_sources.specs.Asking.{evaluations}
 use Rattle.vc_net_work.specs.Spending.{rules_among, touches_one}
 use Rattle.vc_net_work.proofs.CountLaws.{added_are, added_once, both_counted}
-use Rattle.vc_net.specs.declared.work.Work.{Work}
-use Rattle.vc_net.specs.Going.{HasGoneOn, IsBrokenOff}
-use Rattle.vc_net.specs.Spending.{GoesOnSpending, IsSpent, Pays}
-use Rattle.vc_net.specs.Working.{asking_next, with_giver}
+use Rattle.vc_net_going.specs.declared.work.Work.{Work}
+use Rattle.vc_net_going.specs.Going.{HasGoneOn, IsBrokenOff}
+use Rattle.vc_net_going.specs.Spending.{IsSpent}
+use Rattle.vc_net.specs.Spending.{GoesOnSpending, Pays}
+use Rattle.vc_net_going.specs.Working.{asking_next, with_giver}
 
 -- a rule is evaluated once, a source not
 asked_once : (giver : Giver) → evaluations giver ≡ rules_among (giver ∷ [])

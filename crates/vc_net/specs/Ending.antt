@@ -15,9 +15,9 @@ use Rattle.vc_plan_reasons.specs.Refuting.{refutes}
 use Rattle.vc_plan_reasons.specs.Trimming.{trimmed_clash}
 use Rattle.vc_net_chains.specs.Telling.{chain_in}
 use Rattle.vc_net_log.specs.Logs.{set_of}
-use Rattle.vc_net.specs.declared.work.Work.{Work}
-use Rattle.vc_net.specs.Breaking.{clash_in}
-use Rattle.vc_net.specs.Going.{IsGoing}
+use Rattle.vc_net_going.specs.declared.work.Work.{Work}
+use Rattle.vc_net_going.specs.Breaking.{clash_in}
+use Rattle.vc_net_going.specs.Going.{IsGoing}
 
 -- the clash of its steps, if anything broke it
 abbrev pub clash_of : Work → Option Clash

@@ -1,10 +1,5 @@
-pub mod Breaking
 pub mod Costing
 pub mod Differing
 pub mod Ending
-pub mod Going
-pub mod Keeping
 pub mod Nets
-pub mod Renewing
 pub mod Spending
-pub mod Working

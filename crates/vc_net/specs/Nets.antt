@@ -1,5 +1,5 @@
 -- A net: its sources, what it works on, and how settling ended.
-use Rattle.std.specs.Prelude.{◌≡◌, [], true, length, Option, None, Some}
+use Rattle.std.specs.Prelude.{◌≡◌, [], true, Option, None, Some}
 use Rattle.vc_plan.specs.declared.atoms.Culprit.{Culprit}
 use Rattle.vc_plan.specs.declared.atoms.Outcome.{Outcome}
 use Rattle.vc_plan.specs.declared.atoms.Outcome.TheVariants as outcomes
@@ -8,18 +8,15 @@ use Rattle.vc_plan.specs.Sources.{Sources}
 use Rattle.vc_plan_reasons.specs.Fitting.{sources_fit}
 use Rattle.vc_rule.specs.Rooms.{rooms_of}
 use Rattle.vc_rule_yield.specs.Yielding.{Rooms}
-use Rattle.vc_net.specs.declared.work.Work.{Work}
-use Rattle.vc_net.specs.Going.{IsGoing}
+use Rattle.vc_net_going.specs.declared.work.Work.{Work}
+use Rattle.vc_net_going.specs.Going.{IsGoing}
+pub use Rattle.vc_net_renewing.specs.Differing.{AreFor}
 
 -- the sources, what is worked on, and how much room there is for what a giver says
 pub record Netted : Type 0 where
   pub sources : Sources
   pub work : Work
   pub rooms : Rooms
-
--- the sources are of as many variables as the plan has
-abbrev pub AreFor : Plan → Sources → Type 0
-AreFor plan sources = (length sources.user ≡ length plan.vars) × (length sources.written ≡ length plan.vars)
 
 -- what doesn't change is the plan's, and the work has gone on with the net's sources, which fit the plan
 pub record IsNetOf (plan : Plan) (net : Netted) : Type 0 where

@@ -7,11 +7,11 @@ ghost use Rattle.vc_plan_blame.specs.Blame.{number_of};
 ghost use Rattle.vc_plan_reasons.specs.Trimming.{trimmed_clash};
 ghost use Rattle.vc_net_log.specs.Logs.{step_from};
 ghost use Rattle.vc_net_chains.specs.Telling.{trimmed_for};
-ghost use Rattle.vc_net.specs.Breaking.{clash_in, last_atoms, stand_with, steps_with};
+ghost use Rattle.vc_net_going.specs.Breaking.{clash_in, last_atoms, stand_with, steps_with};
 
-use crate::breaker::Breaker;
 use std::alloc::{AllocError, Global};
 use vc_net_chains::{Trimmed, trim, trim_with};
+use vc_net_going::Breaker;
 use vc_net_log::Log;
 use vc_net_standing::Fact;
 use vc_plan::{Atom, Clash, Step};

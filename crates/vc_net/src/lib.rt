@@ -2,14 +2,10 @@
 //! from, or what contradicts.
 #![tactic(auto)]
 
-pub mod breaker;
 pub mod clashes;
 pub mod copying;
 pub mod laws;
 pub mod net;
-pub mod renewing;
 pub mod settling;
-pub mod turn;
-pub mod work;
 
 pub use net::Net;

@@ -11,12 +11,13 @@ ghost use Rattle.vc_net.specs.Nets.{IsNetOf};
 use crate::clashes::clash;
 use crate::copying::copy_at;
 use crate::settling::settle;
-use crate::work::Work;
 use std::alloc::{AllocError, Global};
 use std::marker::Model;
 use std::sync::ledger::Ledger;
 use vc_net_bounds::{Bounds, Counted, bounds_of};
 use vc_net_chains::chain_of;
+use vc_net_going::Work;
+use vc_net_renewing::{renew, renew_at};
 use vc_plan::{Atom, Clash, Outcome, Plan, Step, View};
 use vc_plan_sources::Sources;
 use vc_rule::new_yield;
@@ -46,7 +47,7 @@ impl Net {
     ghost use Rattle.vc_plan.specs.Valid.{IsValid};
     ghost use Rattle.vc_plan_reasons.specs.Fitting.{sources_fit};
     ghost use Rattle.vc_plan_reasons.specs.Keeping.{kept_of};
-    ghost use Rattle.vc_net.specs.Renewing.{BeginsWith};
+    ghost use Rattle.vc_net_going.specs.Going.{BeginsWith};
     ghost use Rattle.vc_plan_reasons.specs.Trimming.{trimmed_clash};
     ghost use Rattle.vc_net_chains.specs.Telling.{chain_in};
     ghost use Rattle.vc_net_laws.specs.Wakings.{things_of};
@@ -124,7 +125,7 @@ impl Net {
         ensures cost { CostsItsWork plan.now self.old self.new steps.old steps.new }
         ensures settled { IsSettled plan.now sources.now self.new.work }
     {
-        self.work.renew(plan, &self.sources, sources);
+        renew(plan, &self.sources, sources, &mut self.work);
         self.sources.copy_from(sources);
         settle(plan, &self.sources, &mut self.work, &mut self.out, steps);
     }
@@ -152,8 +153,14 @@ impl Net {
         ensures cost { CostsItsWork plan.now self.old self.new steps.old steps.new }
         ensures settled { IsSettled plan.now sources.now self.new.work }
     {
-        self.work
-            .renew_at(plan, &self.sources, sources, touched, written);
+        renew_at(
+            plan,
+            &self.sources,
+            sources,
+            touched,
+            written,
+            &mut self.work,
+        );
         copy_at(plan, sources, touched, written, &mut self.sources);
         settle(plan, &self.sources, &mut self.work, &mut self.out, steps);
     }
@@ -186,8 +193,8 @@ fn with_bounds(alloc: Global, plan: &Plan, bounds: &Bounds) -> Result<Net, Alloc
     ensures behind { IfOk result (λ net. IsBehind plan.now (things_of plan.now) net.work) }
 {
     let sources = Sources::new(alloc, plan)?;
+    let out = new_yield(alloc, plan)?;
     let mut work = Work::new(alloc, plan, bounds)?;
     work.restart(plan);
-    let out = new_yield(alloc, plan)?;
     Ok(Net { sources, work, out })
 }

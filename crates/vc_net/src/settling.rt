@@ -6,15 +6,13 @@ ghost use Rattle.vc_plan_reasons.specs.Fitting.{sources_fit};
 ghost use Rattle.vc_rule.specs.Rooms.{rooms_of};
 ghost use Rattle.vc_net_agenda.specs.Agendas.{meant};
 ghost use Rattle.vc_net.specs.Ending.{IsSettled};
-ghost use Rattle.vc_net.specs.Going.{Ends, IsGoing};
-ghost use Rattle.vc_net.specs.Renewing.{BeginsWith};
+ghost use Rattle.vc_net_going.specs.Going.{BeginsWith, Ends, IsGoing};
 ghost use Rattle.vc_net.specs.Spending.{Pays};
 ghost use Rattle.vc_net_sources.specs.Asking.{evaluations};
 
-use crate::turn::Turn;
-use crate::work::Work;
 use std::sync::ledger::Ledger;
 use vc_net_agenda::Giver;
+use vc_net_going::{Turn, Work};
 use vc_net_sources::{ask, culprit_of, tells_nothing};
 use vc_plan::Plan;
 use vc_plan_sources::Sources;

@@ -18,7 +18,7 @@ use Rattle.vc_net_chains.specs.Explaining.{ExplainsAll, ExplainsAtom, ExplainsBr
 use Rattle.vc_net_chains.specs.Explaining.{IsLogAfter, IsWhy, IsWhyAfter}
 use Rattle.vc_net_chains.specs.Telling.{chain_in}
 use Rattle.vc_net_log.specs.Logs.{set_of}
-use Rattle.vc_net.specs.Breaking.{clash_from, steps_with}
+use Rattle.vc_net_going.specs.Breaking.{clash_from, steps_with}
 use Rattle.vc_net.specs.Ending.{EndsAs, clash_of}
 use Rattle.vc_net.specs.Nets.{Netted, outcome_by}
 use Rattle.vc_net.proofs.ExplainLaws.{chains_explain, clashes_explain, logs_explain}

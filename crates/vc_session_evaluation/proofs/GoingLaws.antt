@@ -33,7 +33,7 @@ use Rattle.vc_rule_laws.proofs.BoundLaws.{clear_lies_in_grains}
 use Rattle.vc_proc_look_ups.specs.LookUps.{AreLookUpsOf}
 use Rattle.vc_rule_terms.specs.Computing.{LiesInGrains}
 use Rattle.vc_net_log.specs.Logs.{set_of}
-use Rattle.vc_net.specs.Breaking.{clash_from, steps_with}
+use Rattle.vc_net_going.specs.Breaking.{clash_from, steps_with}
 use Rattle.vc_net.specs.Differing.{AreAllWritten, SameBeside}
 use Rattle.vc_net.specs.Ending.{EndsAs, IsSettled, clash_of}
 use Rattle.vc_net.specs.Nets.{AreFor, IsNetOf, Netted, outcome_by}

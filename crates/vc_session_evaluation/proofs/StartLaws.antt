@@ -15,10 +15,10 @@ use Rattle.vc_plan_reasons.specs.Work.{reach_of}
 use Rattle.vc_plan_reasons.proofs.ReasonLaws.Reaching.{thing_exact, thing_itself}
 use Rattle.vc_plan_reasons.proofs.ReasonLaws.Writing.{has_var}
 use Rattle.vc_net_laws.specs.Wakings.{things_of}
-use Rattle.vc_net.specs.declared.work.Work.{Work}
+use Rattle.vc_net_going.specs.declared.work.Work.{Work}
 use Rattle.vc_net.specs.Costing.{IsBehind, left_undone, to_do}
 use Rattle.vc_net.specs.Nets.{Netted}
-use Rattle.vc_net.proofs.ReachLaws.{on_more, reach_grows}
+use Rattle.vc_net_renewing.proofs.ReachLaws.{on_more, reach_grows}
 use Rattle.vc_session_evaluation.specs.Costing.{AreBehind, HasAllBehind, NetsStartBehind, behind_at_start}
 
 -- all things hold the variables whose sources differ

@@ -12,7 +12,7 @@ use Rattle.vc_plan_reasons.specs.Things.{Thing}
 use Rattle.vc_plan_reasons.specs.Work.{work_of}
 use Rattle.vc_net.specs.Costing.{CostsItsWork, IsBehind, left_undone, to_do}
 use Rattle.vc_net.specs.Nets.{Netted}
-use Rattle.vc_net.specs.Renewing.{BeginsWith}
+use Rattle.vc_net_going.specs.Going.{BeginsWith}
 use Rattle.vc_net_laws.specs.Wakings.{things_of}
 use Rattle.vc_session_stages.specs.Stages.{ComesTo}
 use Rattle.vc_session_evaluation.specs.declared.stages.Stages.{Stages}

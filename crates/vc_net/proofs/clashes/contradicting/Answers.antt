@@ -3,7 +3,7 @@ use Rattle.std.proofs.Common.{◌≡◌, ◌∙◌, ℕ, List, ap, map, subst}
 use Rattle.std.specs.Prelude.{IfOk}
 use Rattle.vc_plan_blame.specs.Blame.{number_of}
 use Rattle.vc_net_chains.specs.Telling.{trimmed_for}
-use Rattle.vc_net.specs.Breaking.{stand_with, steps_with}
+use Rattle.vc_net_going.specs.Breaking.{stand_with, steps_with}
 use Rattle.vc_net.proofs.clashes.contradicting.Goals as goal
 
 pub returns : goal.returns

@@ -2,7 +2,7 @@
 use Rattle.std.proofs.Common.{[], ap, length, subst, sym, ◌∙◌}
 use Rattle.std.proofs.lemmas.List.{length-replicate}
 use Rattle.vc_plan.specs.Sources.{Sources}
-use Rattle.vc_net.specs.Going.{IsGoing}
+use Rattle.vc_net_going.specs.Going.{IsGoing}
 use Rattle.vc_rule_yield.specs.Yielding.{Yielded}
 use Rattle.vc_net_laws.specs.Wakings.{things_of}
 use Rattle.vc_net_work.proofs.StartLaws.{beginners_are_on}

@@ -2,11 +2,12 @@
 use Rattle.std.proofs.Common.{◌≡◌, ◌∙◌, ap, sym, subst}
 use Rattle.vc_net_agenda.specs.Agendas.{Awaited, meant}
 use Rattle.vc_net.specs.Ending.{IsSettled}
-use Rattle.vc_net.specs.Working.{asking_next, with_agenda}
-use Rattle.vc_net.specs.declared.breaker.Breaker.{Breaker}
+use Rattle.vc_net_going.specs.Working.{asking_next, with_agenda}
+use Rattle.vc_net_going.specs.declared.breaker.Breaker.{Breaker}
 use Rattle.vc_net.specs.Spending.{Pays}
 use Rattle.vc_net.proofs.CostLaws.{broken_blames, calm_rests}
-use Rattle.vc_net.proofs.EndLaws.{begins_on, work_is_broken, work_is_done}
+use Rattle.vc_net.proofs.EndLaws.{work_is_broken, work_is_done}
+use Rattle.vc_net_going.proofs.TurnLaws.{begins_on}
 use Rattle.vc_net.proofs.SpendingLaws.{break_pays, end_pays, turn_spends}
 use Rattle.vc_net.proofs.settling.settle.Goals as goal
 

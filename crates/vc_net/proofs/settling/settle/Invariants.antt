@@ -2,8 +2,7 @@
 use Rattle.std.proofs.Common.{◌≡◌, []}
 use Rattle.std.specs.Prelude.{None}
 use Rattle.vc_rule.specs.Rooms.{rooms_of}
-use Rattle.vc_net.specs.Going.{IsGoing, turns_of}
-use Rattle.vc_net.specs.Renewing.{BeginsWith}
+use Rattle.vc_net_going.specs.Going.{BeginsWith, IsGoing, turns_of}
 use Rattle.vc_net.specs.Spending.{GoesOnSpending}
 use Rattle.vc_net.proofs.settling.settle.Given as goal
 

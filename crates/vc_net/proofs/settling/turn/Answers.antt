@@ -1,17 +1,14 @@
 -- A source that tells nothing changes nothing. What another giver says fits the room; a clash breaks the net.
-use Rattle.std.proofs.Common.{◌≡◌, ◌+◌, [], sym, ◌∙◌, ap, subst, arith}
+use Rattle.std.proofs.Common.{◌≡◌, [], sym, ◌∙◌, subst, arith}
 use Rattle.vc_rule_laws.proofs.BoundLaws.{clear_lies_in_grains}
 use Rattle.vc_rule_premises.specs.Saying.{HasRoomFor}
 use Rattle.vc_net_agenda.specs.Agendas.{meant}
 use Rattle.vc_net_log.specs.Logs.{seen_by, set_of}
-use Rattle.vc_net_sources.specs.Asking.{evaluations, found_from, tells_nothing}
+use Rattle.vc_net_sources.specs.Asking.{evaluations, found_from}
 use Rattle.vc_net_sources.proofs.RoomLaws.{rooms_suffice}
 use Rattle.vc_net_sources.proofs.SilenceLaws.{silent_sources_cost_nothing, silent_sources_find_nothing}
-use Rattle.vc_net.specs.Breaking.{clashed}
-use Rattle.vc_net.specs.Going.{IsBrokenOff}
-use Rattle.vc_net.specs.Working.{with_breaker}
-use Rattle.vc_net.proofs.BreakLaws.{clash_breaks_off, clash_found}
-use Rattle.vc_net.proofs.EndLaws.{turn_begins, turn_ends}
+use Rattle.vc_net.proofs.ClashLaws.{clash_found, clash_kept_breaks_off}
+use Rattle.vc_net_going.proofs.TurnLaws.{turn_begins, turn_ends}
 use Rattle.vc_net.proofs.settling.turn.Goals as goal
 
 pub returns-then-tells_nothing-clause-counted : goal.returns-then-tells_nothing-clause-counted
@@ -52,8 +49,6 @@ returns-in-Some-clause-ends g c =
     let work = c.args.work.now in
     let giver = meant c.args.giver in
     let premises = c.in-Some.premises.now in
-    let e = c.keep_clash.ensures ∙ ap (λ culprit. clashed work.breaker culprit premises) c.culprit_of.ensures in
-    subst (λ b. IsBrokenOff plan sources giver work (with_breaker work b)) (sym e)
-    (clash_breaks_off plan sources work giver premises c.requires.valid c.requires.fits c.requires.going
+    clash_kept_breaks_off plan sources work giver premises c.requires.valid c.requires.fits c.requires.going
     (clash_found c.ask.new.out (found_from plan sources (seen_by work.log) giver) premises c.ask.ensures.found
-    c.in-Some.ensures.some))
+    c.in-Some.ensures.some) _ _ c.keep_clash.ensures c.culprit_of.ensures

@@ -1,8 +1,9 @@
 -- The work goes on as with all variables, since what is written differs nowhere else.
 use Rattle.std.proofs.Common.{[], sym, subst}
-use Rattle.vc_net.specs.Costing.{CostsItsWork, StaysBehind}
+use Rattle.vc_net_renewing.specs.Behind.{StaysBehind}
+use Rattle.vc_net.specs.Costing.{CostsItsWork}
 use Rattle.vc_net.specs.Differing.{SameBeside}
-use Rattle.vc_net.specs.Going.{IsGoing}
+use Rattle.vc_net_going.specs.Going.{IsGoing}
 use Rattle.vc_net.specs.Nets.{IsNetOf, Netted}
 use Rattle.vc_net.proofs.ChangeLaws.{fits_are_same}
 use Rattle.vc_net.proofs.CostLaws.{renewing_costs}
@@ -44,7 +45,7 @@ copy_at-requires-clause-written g c =
 
 pub settle-requires-clause-going : goal.settle-requires-clause-going
 settle-requires-clause-going g c =
-    subst (λ sources. IsGoing c.args.plan.now sources c.renew_at.new.self []) (sym c.copy_at.ensures)
+    subst (λ sources. IsGoing c.args.plan.now sources c.renew_at.new.work []) (sym c.copy_at.ensures)
     c.renew_at.ensures.going
 
 pub returns-clause-cost : goal.returns-clause-cost
@@ -61,7 +62,7 @@ returns-clause-cost g c =
       rooms = c.settle.new.out.rooms;
     } in
     subst (λ (was : Netted). CostsItsWork plan was new c.args.steps.now c.settle.new.steps) c.self.view_is
-    (renewing_costs plan old new c.renew_at.new.self c.args.steps.now c.settle.new.steps c.requires.valid
-    (subst (λ sources. StaysBehind plan old.sources sources old.work c.renew_at.new.self) (sym c.copy_at.ensures)
+    (renewing_costs plan old new c.renew_at.new.work c.args.steps.now c.settle.new.steps c.requires.valid
+    (subst (λ sources. StaysBehind plan old.sources sources old.work c.renew_at.new.work) (sym c.copy_at.ensures)
     c.renew_at.ensures.behind)
     c.settle.ensures.paid c.settle.ensures.settled c.settle.ensures.rest)

@@ -1,6 +1,6 @@
 -- The user's values are put into the sources, and all stages gone through.
 use Rattle.std.proofs.Common.{None, ◌∙◌, ap, arith, refl, replicate}
-use Rattle.vc_net.proofs.PlanFacts.{vars_fit}
+use Rattle.vc_net_going.proofs.PlanFacts.{vars_fit}
 use Rattle.vc_plan.specs.Sources.{Sources}
 use Rattle.vc_plan_users.specs.Choosing.{users_of}
 use Rattle.vc_session_evaluation.proofs.CostLaws.{took}

@@ -1,0 +1,5 @@
+pub mod BreakLaws
+pub mod GoingLaws
+pub mod GoingRows
+pub mod PlanFacts
+pub mod TurnLaws

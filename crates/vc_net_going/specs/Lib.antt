@@ -1,0 +1,5 @@
+pub mod Beginning
+pub mod Breaking
+pub mod Going
+pub mod Spending
+pub mod Working

@@ -1,0 +1,4 @@
+pub mod Behind
+pub mod Differing
+pub mod Keeping
+pub mod Renewing
