@@ -269,30 +269,26 @@ pub known_no_text : (t : ℕ) (texts : List ℕ) (a : Value) → lies_in_some (m
 known_no_text t texts a e =
     sym (both_in (map OneText texts) (Text t) a ∙ (text_both t a texts ∙ ap (λ b. b && lies_in a (OneText t)) e))
 
--- a value of the other sort is left nowhere
+-- a value that lies in none of the pieces is left nowhere, as one of the other sort
+none_left : {A : Type 0} (f : A → Piece) (a : Value) → ((x : A) → lies_in a (f x) ≡ false)
+    → (xs : List A) (seen : Seen) (v : ℕ)
+    → false ≡ has_left_among (map f xs) seen v None a
+none_left {A} f a none xs seen v =
+    sym (none_there (λ g. grain_holds (map f xs) a g && not (seen.out v g)) 0 (length (map f xs))
+    (λ g p q. ap (λ b. b && not (seen.out v g)) (fails xs g)))
+  where
+    fails : (xs : List A) (g : ℕ) → passes (lies_in a) (slice_get (map f xs) g) ≡ false
+    fails [] g = refl
+    fails (x ∷ xs) zero = none x
+    fails (x ∷ xs) (suc g) = fails xs g
+
 pub left_no_text : (t : ℕ) (grains : List Grain) (seen : Seen) (v : ℕ)
     → false ≡ has_left_among (map Stretch grains) seen v None (Text t)
-left_no_text t grains seen v =
-    sym (none_there (λ g. grain_holds (map Stretch grains) (Text t) g && not (seen.out v g)) 0
-    (length (map Stretch grains))
-    (λ g p q. ap (λ b. b && not (seen.out v g)) (fails grains g)))
-  where
-    fails : (grains : List Grain) (g : ℕ) → passes (lies_in (Text t)) (slice_get (map Stretch grains) g) ≡ false
-    fails [] g = refl
-    fails (grain ∷ grains) zero = refl
-    fails (grain ∷ grains) (suc g) = fails grains g
+left_no_text t grains seen v = none_left Stretch (Text t) (λ grain. refl) grains seen v
 
 pub left_number_among_texts : (n : Dec) (texts : List ℕ) (seen : Seen) (v : ℕ)
     → false ≡ has_left_among (map OneText texts) seen v None (Num n)
-left_number_among_texts n texts seen v =
-    sym (none_there (λ g. grain_holds (map OneText texts) (Num n) g && not (seen.out v g)) 0
-    (length (map OneText texts))
-    (λ g p q. ap (λ b. b && not (seen.out v g)) (fails texts g)))
-  where
-    fails : (texts : List ℕ) (g : ℕ) → passes (lies_in (Num n)) (slice_get (map OneText texts) g) ≡ false
-    fails [] g = refl
-    fails (text ∷ texts) zero = refl
-    fails (text ∷ texts) (suc g) = fails texts g
+left_number_among_texts n texts seen v = none_left OneText (Num n) (λ text. refl) texts seen v
 
 -- the grain that is told for a text tells whether one is left
 pub text_holds : (t : ℕ) (texts : List ℕ) (g : ℕ)

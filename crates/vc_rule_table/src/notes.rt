@@ -1,13 +1,11 @@
 //! Notes of rows, column by column: a row is given up at its second misfit of another variable.
 
 ghost use Rattle.std.specs.Prelude.{◌≡◌, is_none, length, drop, slice_get, Some};
-ghost use Rattle.vc_plan.specs.TableRows.{cell_passes};
 ghost use Rattle.vc_rule_yield.specs.declared.scratch.Note.{Note};
 ghost use Rattle.vc_rule_table.specs.Cells.{FewGrains};
-ghost use Rattle.vc_rule_table.specs.Fitting.{IsTest, LeftOf, test_passes};
 ghost use Rattle.vc_rule_table.specs.Noting.{AreNotes, changed, changed_by, each_changed, is_apart, next_note};
-ghost use Rattle.vc_rule_table.specs.Noting.{no_misfit};
-ghost use Rattle.vc_rule_table.specs.Noting.{noted_in, noted_misfit, with_misfit};
+ghost use Rattle.vc_rule_table.specs.Noting.{no_misfit, noted_in, noted_misfit, with_misfit};
+ghost use Rattle.vc_rule_table.specs.NotingColumns.{IsNoting, is_fitting, noted_next};
 
 use crate::fitting::{Test, passes, tell_left, test_of};
 use crate::rows::{cell, is_column_of, is_given};
@@ -58,45 +56,42 @@ fn with_misfit(place: usize, column: Binding, note: Note, first: Option<Binding>
     }
 }
 
-fn is_fitting<V: View>(
-    plan: &Plan,
-    view: &V,
-    test: Test,
-    left: &[u32],
+/// A column that is noted: what is seen, its place among all, and the test that its cells pass.
+#[derive(Drop)]
+struct NotedColumn<'a, V> {
+    plan: &'a Plan,
+    view: &'a V,
+    columns: &'a [Binding],
+    place: usize,
     column: Binding,
-    row: &[Value],
-) -> bool
-    requires few { FewGrains plan.now }
-    requires left { LeftOf plan.now (V.seen view.now) left.now test }
-    ensures { result ≡ cell_passes (test_passes plan.now (V.seen view.now) test) (slice_get row.now column.column) }
+    test: Test,
+    left: &'a [u32],
+}
+
+fn is_fitting<V: View>(noting: &NotedColumn<V>, row: &[Value]) -> bool
+    requires { IsNoting V.seen noting.now }
+    ensures { result ≡ is_fitting V.seen noting.now row.now }
 {
-    match cell(row, column) {
-        Some(value) => passes(plan, view, test, left, value),
+    match cell(row, noting.column) {
+        Some(value) => passes(noting.plan, noting.view, noting.test, noting.left, value),
         None => false,
     }
 }
 
 // The note with the column at this place.
-fn note_more<V: View>(
-    plan: &Plan,
-    view: &V,
-    test: Test,
-    left: &[u32],
-    columns: &[Binding],
-    place: usize,
-    column: Binding,
-    row: &[Value],
-    note: Note,
-) -> Note
-    requires few { FewGrains plan.now }
-    requires test { IsTest plan.now (V.seen view.now) column.operand test }
-    requires left { LeftOf plan.now (V.seen view.now) left.now test }
-    ensures { result ≡ next_note plan.now (V.seen view.now) columns.now place column row.now note }
+fn note_more<V: View>(noting: &NotedColumn<V>, row: &[Value], note: Note) -> Note
+    requires { IsNoting V.seen noting.now }
+    ensures { result ≡ noted_next V.seen noting.now row.now note }
 {
-    if note.second < columns.len() || is_fitting(plan, view, test, left, column, row) {
+    if note.second < noting.columns.len() || is_fitting(noting, row) {
         note
     } else {
-        with_misfit(place, column, note, column_at(columns, note.first))
+        with_misfit(
+            noting.place,
+            noting.column,
+            note,
+            column_at(noting.columns, note.first),
+        )
     }
 }
 
@@ -111,84 +106,36 @@ pub fn note_at(notes: &[Note], at: usize) -> Option<Note>
 }
 
 #[tactic(auto, using(crate::proofs::ChangingLemmas::changing))]
-fn note_row<V: View>(
-    plan: &Plan,
-    view: &V,
-    test: Test,
-    left: &[u32],
-    columns: &[Binding],
-    place: usize,
-    column: Binding,
-    row: &[Value],
-    at: usize,
-    notes: &mut Listed<Note>,
-)
-    requires few { FewGrains plan.now }
-    requires test { IsTest plan.now (V.seen view.now) column.operand test }
-    requires left { LeftOf plan.now (V.seen view.now) left.now test }
-    ensures { notes.new ≡ changed (next_note plan.now (V.seen view.now) columns.now place column row.now) at notes.old }
+fn note_row<V: View>(noting: &NotedColumn<V>, row: &[Value], at: usize, notes: &mut Listed<Note>)
+    requires { IsNoting V.seen noting.now }
+    ensures { notes.new ≡ changed (noted_next V.seen noting.now row.now) at notes.old }
 {
     if let Some(note) = note_at(notes.as_slice(), at) {
-        let next = note_more(plan, view, test, left, columns, place, column, row, note);
+        let next = note_more(noting, row, note);
         notes.set(at, next);
     }
 }
 
 fn note_row_at<V: View>(
-    plan: &Plan,
-    view: &V,
-    test: Test,
-    left: &[u32],
-    columns: &[Binding],
-    place: usize,
-    column: Binding,
+    noting: &NotedColumn<V>,
     rows: &[Listed<Value>],
     at: usize,
     notes: &mut Listed<Note>,
 )
-    requires few { FewGrains plan.now }
-    requires test { IsTest plan.now (V.seen view.now) column.operand test }
-    requires left { LeftOf plan.now (V.seen view.now) left.now test }
-    ensures { notes.new ≡ changed_by (next_note plan.now (V.seen view.now) columns.now place column)
-        (slice_get rows.now at) at notes.old }
+    requires { IsNoting V.seen noting.now }
+    ensures { notes.new ≡ changed_by (noted_next V.seen noting.now) (slice_get rows.now at) at notes.old }
 {
     if let Some(row) = rows.get(at) {
-        note_row(
-            plan,
-            view,
-            test,
-            left,
-            columns,
-            place,
-            column,
-            row.as_slice(),
-            at,
-            notes,
-        );
+        note_row(noting, row.as_slice(), at, notes);
     }
 }
 
-fn note_in_rows<V: View>(
-    plan: &Plan,
-    view: &V,
-    test: Test,
-    left: &[u32],
-    columns: &[Binding],
-    place: usize,
-    column: Binding,
-    rows: &[Listed<Value>],
-    notes: &mut Listed<Note>,
-)
-    requires few { FewGrains plan.now }
-    requires test { IsTest plan.now (V.seen view.now) column.operand test }
-    requires left { LeftOf plan.now (V.seen view.now) left.now test }
-    ensures { notes.new ≡ each_changed (next_note plan.now (V.seen view.now) columns.now place column) rows.now
-        notes.old }
+fn note_in_rows<V: View>(noting: &NotedColumn<V>, rows: &[Listed<Value>], notes: &mut Listed<Note>)
+    requires { IsNoting V.seen noting.now }
+    ensures { notes.new ≡ each_changed (noted_next V.seen noting.now) rows.now notes.old }
 {
     for at in 0..rows.len() {
-        note_row_at(
-            plan, view, test, left, columns, place, column, rows, at, notes,
-        );
+        note_row_at(noting, rows, at, notes);
     }
 }
 
@@ -208,17 +155,16 @@ fn note_column<V: View>(
 {
     let test = test_of(plan, view, column.operand);
     tell_left(plan, view, test, &mut notes.left);
-    note_in_rows(
+    let noting = NotedColumn {
         plan,
         view,
-        test,
-        notes.left.as_slice(),
         columns,
         place,
         column,
-        rows,
-        &mut notes.rows,
-    );
+        test,
+        left: notes.left.as_slice(),
+    };
+    note_in_rows(&noting, rows, &mut notes.rows);
 }
 
 #[tactic(auto, using(crate::proofs::ChangingLemmas::changing))]
