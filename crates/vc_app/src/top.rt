@@ -201,8 +201,7 @@ pub fn desk<F: Shelf, K: Keeper, D: Door, S: Sink>(
     // `gen`: the lines of the first families are written, and nothing else.
     ensures families { (count : ℕ) → asked.IsGen words.now count → EndsGen count (S.written out.old)
         (S.written out.new) (S.faults out.old) (S.faults out.new) result × (K.texts keeper.new ≡ K.texts keeper.old) }
-    // `serve`: links are served one after another, each from the state that the one before it left, and what is said
-    // is why not all were.
+    // `serve`: links are served in turn, each from the state that the one before it left; if not all were, why is said.
     ensures serve { (s : Service) → asked.IsServe words.now s → EndsServe
         (telling D.Conn.left D.Conn.written D.Conn.faults) s
         (outside (F.files shelf.old) (F.faults shelf.old) (F.faults shelf.new) (S.written out.old)
@@ -213,8 +212,7 @@ pub fn desk<F: Shelf, K: Keeper, D: Door, S: Sink>(
         (D.address door.old) (D.address door.new) (D.faults door.old) (D.faults door.new)) result }
     // Any other leaves the door as it was.
     ensures door { asked.IsNoServe words.now → door.new ≡ door.old }
-    // Of words that ask for none of the four, what each status promises, one field a status: its cause, and what was
-    // written and saved.
+    // Of any other words, what each status promises, one field a status: its cause, and what was written and saved.
     ensures status { asked.IsOther words.now → IsStatus words.now
         (outside (F.files shelf.old) (F.faults shelf.old) (F.faults shelf.new) (S.written out.old)
         (S.written out.new) (S.faults out.old) (S.faults out.new))
