@@ -41,7 +41,8 @@ lists_found lists = found_from [] lists 0 refl
 
 -- the list of a number is that of its span
 pub list_told : (numbers : List ℕ) (spans : List Span) (place : ℕ)
-    → list_at (map (numbers_in numbers) spans) place ≡ list_or_none (option_map (numbers_in numbers) (slice_get spans place))
+    → list_at (map (numbers_in numbers) spans) place
+    ≡ list_or_none (option_map (numbers_in numbers) (slice_get spans place))
 list_told numbers spans place = ap list_or_none (slice_get-map (numbers_in numbers) spans place)
 
 -- so are all, where none is to come

@@ -101,8 +101,9 @@ twice e = cc
 -- what is told of a rule: the text that it gives a variable that isn't restrictable, by itself; and of no other one
 abbrev told_of : Bool → Kind → Hint
 told_of restrictable kind =
-    hint_in (record pump { vars = record { slot = 0; characteristic = 0; domain = 0; restrictable = restrictable } ∷ [] })
-    kind
+    hint_in (record pump {
+      vars = record { slot = 0; characteristic = 0; domain = 0; restrictable = restrictable } ∷ [];
+    }) kind
 
 a_text : told_of false (Among 0 (Against Equal (Text 7))) ≡ GivesText 0 7
 a_text = refl

@@ -1,5 +1,5 @@
--- In a clear set the rule of a variable's last grain says nothing new where the variable has a value: a grain alone that
--- isn't out is the value's.
+-- In a clear set the rule of a variable's last grain says nothing new where the variable has a value: a grain alone
+-- that isn't out is the value's.
 use Rattle.std.proofs.Common.{◌≡◌, ℕ, suc, ◌<◌, Bool, true, false, cond, not, ◌==◌, List, [], ◌∷◌}
 use Rattle.std.proofs.Common.{refl, sym, ◌∙◌, ap, subst, inl, inr, arith}
 use Rattle.std.specs.Prelude.{Option, None, Some, is_some, nat_eq, slice_get}
@@ -42,7 +42,8 @@ any_place p (x ∷ xs) e =
     ]
 
 module _
-    (plan : Plan) (set : List Atom) (v : ℕ) (a : Value) (clear : is_clear plan set ≡ true) (is : value_in set v ≡ Some a)
+    (plan : Plan) (set : List Atom) (v : ℕ) (a : Value) (clear : is_clear plan set ≡ true)
+    (is : value_in set v ≡ Some a)
   where
     f : Facts plan set
     f = facts plan set clear
