@@ -39,7 +39,7 @@ impl Lists {
     pub fn new(alloc: Global, lists: &[Listed<u32>]) -> Result<Lists, AllocError>
         ensures { IfOk result (λ all. all ≡ lists.now) }
     {
-        let mut spans = Listed::new(alloc);
+        let mut spans = Listed::from_vec(Vec::with_capacity(alloc, lists.len())?);
         let mut numbers = Listed::new(alloc);
         let mut rest = lists;
         while let [list, more @ ..] = rest {

@@ -369,7 +369,7 @@ fn glances_of(alloc: Global, plan: &Plan) -> Result<Listed<Glance>, AllocError>
     requires { length plan.now.rules < 2 ^ 32 }
     ensures { IfOk result (λ glances. glances ≡ glances_of plan.now) }
 {
-    let mut glances = Listed::new(alloc);
+    let mut glances = Listed::from_vec(Vec::with_capacity(alloc, plan.rules.len())?);
     for rule in 0..plan.rules.len() {
         glances.push(glance_by(plan, rule as u32))?;
     }
