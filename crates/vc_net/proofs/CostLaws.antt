@@ -22,11 +22,11 @@ use Rattle.vc_plan_reasons.specs.Checking.{concluded, step_form}
 use Rattle.vc_plan_reasons.specs.Things.{Thing}
 use Rattle.vc_plan_reasons.specs.Work.{reach_of, work_of}
 use Rattle.vc_net_log.specs.Logs.{cited_by, set_of}
-use Rattle.vc_net_work.specs.Spending.{AreOn, rules_among}
-use Rattle.vc_net_work.proofs.SpendLaws.{reach_holds_what_is_written, rules_are_within_work}
+use Rattle.vc_net_waking.specs.Spending.{AreOn, rules_among}
+use Rattle.vc_net_waking.proofs.SpendLaws.{reach_holds_what_is_written, rules_are_within_work}
 use Rattle.vc_net_going.specs.declared.work.Work.{Work}
 use Rattle.vc_net_going.specs.Breaking.{steps_with}
-use Rattle.vc_net_renewing.specs.Behind.{StaysBehind}
+use Rattle.vc_net_going.specs.Behind.{StaysBehind}
 use Rattle.vc_net.specs.Costing.{CostsItsWork, IsBehind, left_undone, to_do}
 use Rattle.vc_net.specs.Ending.{IsSettled}
 use Rattle.vc_net_going.specs.Going.{IsBrokenOff}

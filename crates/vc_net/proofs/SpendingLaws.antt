@@ -11,8 +11,8 @@ use Rattle.vc_plan_reasons.specs.Things.{Thing}
 use Rattle.vc_net_laws.specs.Working.{same_giver}
 use Rattle.vc_net_laws.proofs.NetLaws.Working.{giver_exact, giver_itself}
 use Rattle.vc_net_sources.specs.Asking.{evaluations}
-use Rattle.vc_net_work.specs.Spending.{rules_among, touches_one}
-use Rattle.vc_net_work.proofs.CountLaws.{added_are, added_once, both_counted}
+use Rattle.vc_net_waking.specs.Spending.{rules_among, touches_one}
+use Rattle.vc_net_waking.proofs.CountLaws.{added_are, added_once, both_counted}
 use Rattle.vc_net_going.specs.declared.work.Work.{Work}
 use Rattle.vc_net_going.specs.Going.{HasGoneOn, IsBrokenOff}
 use Rattle.vc_net_going.specs.Spending.{IsSpent}

@@ -4,7 +4,7 @@ use Rattle.vc_plan.specs.declared.atoms.Culprit.{Culprit}
 use Rattle.vc_plan.specs.declared.plans.Plan.{Plan}
 use Rattle.vc_plan_reasons.specs.Things.{Thing}
 use Rattle.vc_plan_reasons.specs.Work.{work_of}
-pub use Rattle.vc_net_renewing.specs.Behind.{IsBehind, to_do}
+pub use Rattle.vc_net_going.specs.Behind.{IsBehind, to_do}
 use Rattle.vc_net.specs.Nets.{Netted}
 
 -- what is left undone of what is to be done: nothing where the net has settled, all where something contradicts

@@ -3,7 +3,7 @@ use Rattle.std.specs.Prelude.{◌≡◌, ℕ, true, List, nat_eq, slice_get}
 use Rattle.vc_base.specs.Sets.{has}
 use Rattle.vc_plan.specs.declared.plans.Plan.{Plan}
 use Rattle.vc_plan_reasons.specs.Fitting.{procedure_writes}
-pub use Rattle.vc_net_renewing.specs.Differing.{SameBeside}
+pub use Rattle.vc_net_going.specs.Differing.{SameBeside}
 
 -- each variable that a statement of the plan writes is among these
 abbrev pub AreAllWritten : Plan → List ℕ → Type 0

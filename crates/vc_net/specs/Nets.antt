@@ -10,7 +10,7 @@ use Rattle.vc_rule.specs.Rooms.{rooms_of}
 use Rattle.vc_rule_yield.specs.Yielding.{Rooms}
 use Rattle.vc_net_going.specs.declared.work.Work.{Work}
 use Rattle.vc_net_going.specs.Going.{IsGoing}
-pub use Rattle.vc_net_renewing.specs.Differing.{AreFor}
+pub use Rattle.vc_net_going.specs.Differing.{AreFor}
 
 -- the sources, what is worked on, and how much room there is for what a giver says
 pub record Netted : Type 0 where

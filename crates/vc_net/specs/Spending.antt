@@ -9,7 +9,7 @@ use Rattle.vc_plan.specs.Seen.{same_atom}
 use Rattle.vc_plan_reasons.specs.Checking.{concluded}
 use Rattle.vc_plan_reasons.specs.Things.{Thing, has_thing, thing_of}
 use Rattle.vc_net_laws.specs.Wakings.{rules_at}
-use Rattle.vc_net_work.specs.Spending.{AreOn, HoldsWhatIsWritten}
+use Rattle.vc_net_waking.specs.Spending.{AreOn, HoldsWhatIsWritten}
 use Rattle.vc_net_going.specs.declared.work.Work.{Work}
 use Rattle.vc_net_going.specs.Spending.{IsSpent}
 

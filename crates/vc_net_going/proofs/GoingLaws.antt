@@ -27,7 +27,7 @@ use Rattle.vc_plan_reasons.specs.Checking.{concluded, is_accepted, set_with, ste
 use Rattle.vc_plan_reasons.specs.Things.{has_thing, thing_of}
 use Rattle.vc_net_laws.specs.Wakings.{rules_at}
 use Rattle.vc_plan_reasons.proofs.ReasonLaws.Givers.{giving_in}
-use Rattle.vc_rule_laws.proofs.FollowingLaws.{next_is_accepted, next_may_wait}
+use Rattle.vc_rule.proofs.FollowingLaws.{next_is_accepted, next_may_wait}
 use Rattle.vc_rule_yield.specs.Yielding.{Conclusion}
 use Rattle.vc_net_laws.specs.Forced.{is_quiet}
 use Rattle.vc_net_laws.specs.Waking.{is_woken}
@@ -50,7 +50,7 @@ use Rattle.vc_net_waking.specs.Waking.{waking, with_givers}
 use Rattle.vc_net_waking.proofs.GiverLaws.{others_wait_on, sizes_stay}
 use Rattle.vc_net_waking.proofs.WakingLaws.{waking_is_few, woken_wait}
 use Rattle.vc_net_going.specs.Spending.{Spends}
-use Rattle.vc_net_work.proofs.SpendLaws.{conclusions_are_of_things, rules_woken_are_few, woken_are_on}
+use Rattle.vc_net_waking.proofs.SpendLaws.{conclusions_are_of_things, rules_woken_are_few, woken_are_on}
 use Rattle.vc_net_going.specs.Going.{HasCome, IsGoing, MayCome, WasFound, is_asked_or_quiet, turns_of}
 use Rattle.vc_net_going.specs.declared.work.Work.{Work}
 use Rattle.vc_net_going.specs.Working.{IsWorkOf, with_conclusion}

@@ -1,5 +1,10 @@
 pub mod BreakLaws
+pub mod ChangeLaws
 pub mod GoingLaws
 pub mod GoingRows
+pub mod KeepingLaws
 pub mod PlanFacts
+pub mod ReachLaws
+pub mod RenewLaws
+pub mod RenewRows
 pub mod TurnLaws

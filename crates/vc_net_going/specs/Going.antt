@@ -11,7 +11,7 @@ use Rattle.vc_plan.specs.Settle.{settlement_of}
 use Rattle.vc_plan.specs.Sources.{Sources}
 use Rattle.vc_plan_blame.specs.Laws.{Blames}
 use Rattle.vc_plan_reasons.specs.Checking.{concluded, is_accepted, set_with}
-use Rattle.vc_rule_laws.specs.Following.{IsNext}
+use Rattle.vc_rule.specs.Following.{IsNext}
 use Rattle.vc_rule_premises.specs.Saying.{concluding}
 use Rattle.vc_rule_yield.specs.Yielding.{Conclusion}
 use Rattle.vc_net_laws.specs.Forced.{IsForced, is_quiet}
@@ -26,7 +26,7 @@ use Rattle.vc_net_going.specs.declared.turn.Turn.{Turn}
 use Rattle.vc_net_going.specs.declared.turn.Turn.TheVariants as turns
 use Rattle.vc_net_going.specs.Breaking.{clash_in}
 use Rattle.vc_net_going.specs.Spending.{Spends}
-use Rattle.vc_net_work.specs.Spending.{HoldsWhatIsWritten, touches_one}
+use Rattle.vc_net_waking.specs.Spending.{HoldsWhatIsWritten, touches_one}
 use Rattle.vc_plan_reasons.specs.Things.{Thing, has_thing, thing_of}
 use Rattle.vc_net_going.specs.declared.work.Work.{Work}
 use Rattle.vc_net_going.specs.Working.{IsWorkOf}

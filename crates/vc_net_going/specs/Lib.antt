@@ -1,5 +1,9 @@
 pub mod Beginning
+pub mod Behind
 pub mod Breaking
+pub mod Differing
 pub mod Going
+pub mod Keeping
+pub mod Renewing
 pub mod Spending
 pub mod Working

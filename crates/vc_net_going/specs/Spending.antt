@@ -10,7 +10,7 @@ use Rattle.vc_plan.specs.Seen.{same_atom}
 use Rattle.vc_plan_reasons.specs.Checking.{concluded}
 use Rattle.vc_plan_reasons.specs.Things.{Thing, has_thing, thing_of}
 use Rattle.vc_net_laws.specs.Wakings.{rules_at}
-use Rattle.vc_net_work.specs.Spending.{AreOn, HoldsWhatIsWritten, rules_among, touches_one}
+use Rattle.vc_net_waking.specs.Spending.{AreOn, HoldsWhatIsWritten, rules_among, touches_one}
 use Rattle.vc_net_going.specs.declared.work.Work.{Work}
 
 -- who waits touches one of the things, the steps behind those in front conclude atoms of them, and the rules asked so

@@ -1,7 +1,7 @@
 //! Each law of how many rules are asked, called once: a law that asked for anything couldn't be.
 
 use std::test::Fail;
-use vc_net_work::laws::{
+use vc_net_waking::laws::{
     beginners_are_on, reach_holds_what_is_written, rules_are_within_work, woken_are_on,
 };
 

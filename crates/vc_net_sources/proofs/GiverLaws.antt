@@ -44,11 +44,11 @@ use Rattle.vc_rule_premises.proofs.SayingLaws.{fresh_is_said}
 use Rattle.vc_rule_premises.proofs.SufficingLaws.{each_from, part_says, premises_are_a_part}
 use Rattle.vc_rule_grains.specs.Kinds.{slot_of}
 use Rattle.vc_rule.proofs.FoundLaws as rule_found
-use Rattle.vc_rule_laws.specs.Bounding.{IsWithinPlaces, place_for}
-use Rattle.vc_rule_laws.specs.Following.{AllFollow, IsNext}
-use Rattle.vc_rule_laws.proofs.BoundLaws as rule_bounds
-use Rattle.vc_rule_laws.proofs.CountingLemmas.{slot_few}
-use Rattle.vc_rule_laws.proofs.FollowingLaws as rules
+use Rattle.vc_rule.specs.Bounding.{IsWithinPlaces, place_for}
+use Rattle.vc_rule.specs.Following.{AllFollow, IsNext}
+use Rattle.vc_rule.proofs.BoundLaws as rule_bounds
+use Rattle.vc_rule.proofs.CountingLemmas.{slot_few}
+use Rattle.vc_rule.proofs.FollowingLaws as rules
 use Rattle.vc_net_places.specs.Cells.{own_bound}
 use Rattle.vc_net_places.specs.Places as places
 use Rattle.vc_net_sources.specs.Asking.{found_from, origin_by, source_said, why_there}

@@ -33,7 +33,7 @@ use Rattle.vc_plan.specs.Valid.{IsValid}
 use Rattle.vc_rule_yield.specs.Yielding.{Conclusion, Rooms}
 use Rattle.vc_rule_premises.specs.Saying.{concluding, conclusion_from, said_from, HasRoomFor}
 use Rattle.vc_rule.specs.Rooms.{acting_reads, room_of_kind, rooms_of, rooms_of_rules}
-use Rattle.vc_rule_laws.proofs.RoomLaws as rules
+use Rattle.vc_rule.proofs.RoomLaws as rules
 use Rattle.vc_net_sources.specs.Asking.{source_said, why_there}
 use Rattle.vc_net_sources.specs.Laws.{GrainsFitPlaces, RoomsSuffice}
 use Rattle.vc_net_sources.proofs.GiverLaws.{why_short}

@@ -15,7 +15,7 @@ use Rattle.vc_plan_reasons.specs.Checking.{is_silent}
 use Rattle.vc_rule_premises.specs.Saying.{given_of, said_from}
 use Rattle.vc_rule.specs.Resting.{rests}
 use Rattle.vc_rule.proofs.RestingLaws.{resting_find_nothing}
-use Rattle.vc_rule_laws.proofs.BoundLaws.{clear_lies_in_grains}
+use Rattle.vc_rule.proofs.BoundLaws.{clear_lies_in_grains}
 use Rattle.vc_net_sources.specs.Asking.{is_last_of_known, rests_at, rests_if, tells_nothing, why_there}
 use Rattle.vc_net_sources.specs.Laws.{RestingAreQuiet, SilentSourcesCostNothing, SilentSourcesFindNothing}
 use Rattle.vc_net_sources.proofs.GiverLaws.{found_is_given}

@@ -22,7 +22,7 @@ use Rattle.vc_rule_yield.specs.Yielding.{Conclusion}
 use Rattle.vc_rule_premises.specs.Saying.{clashing, concluding, given_of, silent, HasRoomFor}
 use Rattle.vc_rule_premises.specs.Sufficing.{each_premise}
 use Rattle.vc_rule.specs.Rooms.{rooms_of}
-use Rattle.vc_rule_laws.specs.Following.{IsNext}
+use Rattle.vc_rule.specs.Following.{IsNext}
 use Rattle.vc_net_places.specs.Cells.{own_bound}
 use Rattle.vc_net_places.specs.Places.{place_for}
 use Rattle.vc_net_sources.specs.Asking.{evaluations, found_from, is_at_rest, origin_of, tells_nothing}

@@ -1,4 +1,8 @@
-pub mod ComingLaws
-pub mod GiverLaws
-pub mod WakingLaws
 pub mod BeginningLaws
+pub mod ComingLaws
+pub mod CountLaws
+pub mod GiverLaws
+pub mod SpendLaws
+pub mod Spreading
+pub mod StartLaws
+pub mod WakingLaws

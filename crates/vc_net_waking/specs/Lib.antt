@@ -1,3 +1,4 @@
 pub mod Beginning
 pub mod Laws
+pub mod Spending
 pub mod Waking

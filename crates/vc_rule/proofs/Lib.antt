@@ -1,3 +1,6 @@
+pub mod BoundLaws
+pub mod CountingLemmas
+pub mod FollowingLaws
 pub mod FoundLaws
 pub mod FoundLemmas
 pub mod FoundRows
@@ -6,5 +9,7 @@ pub mod PassingLemmas
 pub mod ReadingLaws
 pub mod RestingLaws
 pub mod RestingRows
+pub mod RoomLaws
 pub mod RoomLemmas
 pub mod StandingLaws
+pub mod TakingLemmas

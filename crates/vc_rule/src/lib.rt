@@ -1,4 +1,5 @@
-//! Rules, evaluated: what a rule says at a view, with what it follows from.
+//! Rules, evaluated: what a rule says at a view, with what it follows from; and laws of what is found: it follows from
+//! its premises alone, these are few, and the rooms of a yield suffice for it.
 #![tactic(auto)]
 
 pub mod evaluating;

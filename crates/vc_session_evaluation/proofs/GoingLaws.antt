@@ -29,7 +29,7 @@ use Rattle.vc_plan.specs.Writes.{depth_of, depth_writes, greatest_depth, last_st
 use Rattle.vc_plan.proofs.PlanLaws.Rounds.{rounds_suffice}
 use Rattle.vc_plan_reasons.specs.Fitting.{sources_fit}
 use Rattle.vc_plan_reasons.proofs.ReasonLaws.Fitting.{stages_fit}
-use Rattle.vc_rule_laws.proofs.BoundLaws.{clear_lies_in_grains}
+use Rattle.vc_rule.proofs.BoundLaws.{clear_lies_in_grains}
 use Rattle.vc_proc_look_ups.specs.LookUps.{AreLookUpsOf}
 use Rattle.vc_rule_terms.specs.Computing.{LiesInGrains}
 use Rattle.vc_net_log.specs.Logs.{set_of}

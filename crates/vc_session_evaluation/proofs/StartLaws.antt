@@ -18,7 +18,7 @@ use Rattle.vc_net_laws.specs.Wakings.{things_of}
 use Rattle.vc_net_going.specs.declared.work.Work.{Work}
 use Rattle.vc_net.specs.Costing.{IsBehind, left_undone, to_do}
 use Rattle.vc_net.specs.Nets.{Netted}
-use Rattle.vc_net_renewing.proofs.ReachLaws.{on_more, reach_grows}
+use Rattle.vc_net_going.proofs.ReachLaws.{on_more, reach_grows}
 use Rattle.vc_session_evaluation.specs.Costing.{AreBehind, HasAllBehind, NetsStartBehind, behind_at_start}
 
 -- all things hold the variables whose sources differ

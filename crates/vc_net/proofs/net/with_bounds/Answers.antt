@@ -5,7 +5,7 @@ use Rattle.vc_plan.specs.Sources.{Sources}
 use Rattle.vc_net_going.specs.Going.{IsGoing}
 use Rattle.vc_rule_yield.specs.Yielding.{Yielded}
 use Rattle.vc_net_laws.specs.Wakings.{things_of}
-use Rattle.vc_net_work.proofs.StartLaws.{beginners_are_on}
+use Rattle.vc_net_waking.proofs.StartLaws.{beginners_are_on}
 use Rattle.vc_net.specs.Costing.{IsBehind}
 use Rattle.vc_plan_reasons.specs.Fitting.{sources_fit}
 use Rattle.vc_net.proofs.ChangeLaws.{nothing_fits}

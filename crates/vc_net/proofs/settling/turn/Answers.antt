@@ -1,6 +1,6 @@
 -- A source that tells nothing changes nothing. What another giver says fits the room; a clash breaks the net.
 use Rattle.std.proofs.Common.{◌≡◌, [], sym, ◌∙◌, subst, arith}
-use Rattle.vc_rule_laws.proofs.BoundLaws.{clear_lies_in_grains}
+use Rattle.vc_rule.proofs.BoundLaws.{clear_lies_in_grains}
 use Rattle.vc_rule_premises.specs.Saying.{HasRoomFor}
 use Rattle.vc_net_agenda.specs.Agendas.{meant}
 use Rattle.vc_net_log.specs.Logs.{seen_by, set_of}

@@ -6,7 +6,7 @@ use Rattle.vc_plan.specs.Sources.{Sources}
 use Rattle.vc_plan_lamp.specs.Lamp.{lamp}
 use Rattle.vc_plan_lamp.proofs.LampLaws.{lamp_is_valid}
 use Rattle.vc_net.specs.Differing.{AreAllWritten, SameBeside}
-use Rattle.vc_net_renewing.proofs.ChangeLaws.{nothing_past}
+use Rattle.vc_net_going.proofs.ChangeLaws.{nothing_past}
 use Rattle.vc_net.proofs.NumberLaws.{logs_are_short}
 use Rattle.vc_net_settling_tests.proofs.net.settled_with.Goals as goal
 

@@ -1,7 +1,7 @@
 -- The work goes on with the sources, which then are the net's; the steps that come do so behind those that are kept.
 use Rattle.std.proofs.Common.{[], sym, subst}
 use Rattle.vc_net_going.specs.Going.{IsGoing}
-use Rattle.vc_net_renewing.specs.Behind.{StaysBehind}
+use Rattle.vc_net_going.specs.Behind.{StaysBehind}
 use Rattle.vc_net.specs.Costing.{CostsItsWork}
 use Rattle.vc_net.specs.Nets.{IsNetOf, Netted}
 use Rattle.vc_net.proofs.CostLaws.{renewing_costs}

@@ -1,6 +1,6 @@
 -- The work goes on as with all variables, since what is written differs nowhere else.
 use Rattle.std.proofs.Common.{[], sym, subst}
-use Rattle.vc_net_renewing.specs.Behind.{StaysBehind}
+use Rattle.vc_net_going.specs.Behind.{StaysBehind}
 use Rattle.vc_net.specs.Costing.{CostsItsWork}
 use Rattle.vc_net.specs.Differing.{SameBeside}
 use Rattle.vc_net_going.specs.Going.{IsGoing}

@@ -1,4 +1,0 @@
-pub mod Behind
-pub mod Differing
-pub mod Keeping
-pub mod Renewing

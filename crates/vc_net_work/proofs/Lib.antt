@@ -1,4 +1,0 @@
-pub mod Spreading
-pub mod CountLaws
-pub mod SpendLaws
-pub mod StartLaws

@@ -1,8 +1,0 @@
-use Rattle.vc_net_work.proofs.SpendLaws.{conclusions_are_of_things, reach_holds_what_is_written}
-use Rattle.vc_net_work.proofs.laws.reach_holds_what_is_written.Goals as goal
-
-pub returns-clause-reach : goal.returns-clause-reach
-returns-clause-reach c = reach_holds_what_is_written
-
-pub returns-clause-conclusions : goal.returns-clause-conclusions
-returns-clause-conclusions c = conclusions_are_of_things

@@ -1,5 +1,0 @@
-use Rattle.vc_net_work.proofs.SpendLaws.{rules_are_within_work}
-use Rattle.vc_net_work.proofs.laws.rules_are_within_work.Goals as goal
-
-pub returns : goal.returns
-returns c = rules_are_within_work

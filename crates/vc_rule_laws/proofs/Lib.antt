@@ -1,5 +1,0 @@
-pub mod BoundLaws
-pub mod CountingLemmas
-pub mod FollowingLaws
-pub mod RoomLaws
-pub mod TakingLemmas

@@ -1,5 +1,0 @@
-use Rattle.vc_rule_laws.proofs.BoundLaws.{clear_lies_in_grains}
-use Rattle.vc_rule_laws.proofs.laws.clear_lies_in_grains.Goals as goal
-
-pub returns : goal.returns
-returns c = clear_lies_in_grains

@@ -1,5 +1,0 @@
-use Rattle.vc_rule_laws.proofs.FollowingLaws.{found_follows}
-use Rattle.vc_rule_laws.proofs.laws.found_follows.Goals as goal
-
-pub returns : goal.returns
-returns c = found_follows

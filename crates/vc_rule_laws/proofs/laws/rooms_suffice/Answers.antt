@@ -1,5 +1,0 @@
-use Rattle.vc_rule_laws.proofs.RoomLaws.{rooms_suffice}
-use Rattle.vc_rule_laws.proofs.laws.rooms_suffice.Goals as goal
-
-pub returns : goal.returns
-returns c = rooms_suffice
