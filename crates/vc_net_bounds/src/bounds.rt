@@ -1,7 +1,7 @@
 //! How many cells each place of a plan needs, and a clash.
 
 ghost use Rattle.std.specs.Prelude.{◌≡◌, ◌^◌, ◌<◌, ◌+◌, ◌++◌, max, map, length, IfOk, OnOk};
-ghost use Rattle.vc_plan.specs.Bounds.{clash_bound, source_bound};
+ghost use Rattle.vc_plan.specs.Bounds.{clash_bound, greatest, source_bound};
 ghost use Rattle.vc_plan.specs.Domains.{atom_count, count_of};
 ghost use Rattle.vc_net_places.specs.Cells.{all_places, bounds_of};
 ghost use Rattle.vc_net_places.specs.Places.{index_of};
@@ -105,26 +105,64 @@ fn take_rule(
     Ok(())
 }
 
+// Raises what is needed by what each of the rules needs.
+#[tactic(auto, using(crate::proofs::CountingLemmas::clash_next))]
+fn take_rules(
+    plan: &Plan,
+    index: &Places,
+    met: &mut Met,
+    kept: &mut Kept,
+    bounds: &mut Bounds,
+) -> Result<(), AllocError>
+    requires few { atom_count plan.now < 2 ^ 32 }
+    requires index { index.now ≡ index_of plan.now }
+    requires whole { length bounds.old.places ≡ length (all_places plan.now) }
+    requires kept { IsKept plan.now kept.old }
+    ensures places { OnOk result (bounds.new.places
+        ≡ raised_by_rules plan.now plan.now.rules bounds.old.places) }
+    ensures clash { OnOk result (bounds.new.clash
+        ≡ max bounds.old.clash (capped (greatest (clash_bound plan.now) plan.now.rules))) }
+{
+    let mut rest = plan.rules.as_slice();
+    while let [rule, more @ ..] = rest {
+        take_rule(plan, index, rule, met, kept, bounds)?;
+        rest = more;
+    }
+    Ok(())
+}
+
+// What sources need, raised by all rules.
+fn raised_by_rules(
+    alloc: Global,
+    plan: &Plan,
+    index: &Places,
+    mut bounds: Bounds,
+) -> Result<Bounds, AllocError>
+    requires few { atom_count plan.now < 2 ^ 32 }
+    requires index { index.now ≡ index_of plan.now }
+    requires whole { length bounds.places ≡ length (all_places plan.now) }
+    ensures places { IfOk result (λ raised. raised.places
+        ≡ raised_by_rules plan.now plan.now.rules bounds.places) }
+    ensures clash { IfOk result (λ raised. raised.clash
+        ≡ max bounds.clash (capped (greatest (clash_bound plan.now) plan.now.rules))) }
+{
+    let mut met = Met::new(alloc);
+    let mut kept = Kept::new(alloc);
+    take_rules(plan, index, &mut met, &mut kept, &mut bounds)?;
+    Ok(bounds)
+}
+
 // The bounds of the places after all rules, each capped, and that of a clash.
-#[tactic(auto, using(crate::proofs::CountingLemmas::clash_all, crate::proofs::CountingLemmas::clash_next))]
+#[tactic(auto, using(crate::proofs::CountingLemmas::clash_all))]
 fn capped_bounds(alloc: Global, plan: &Plan) -> Result<Bounds, AllocError>
     requires { atom_count plan.now < 2 ^ 32 }
     ensures places { IfOk result (λ bounds. bounds.places
         ≡ raised_by_rules plan.now plan.now.rules (map source_bound (all_places plan.now))) }
     ensures clash { IfOk result (λ bounds. bounds.clash ≡ capped (clash_cells plan.now)) }
 {
+    let places = source_bounds(alloc, plan)?;
     let index = Places::new(alloc, plan)?;
-    let mut met = Met::new(alloc);
-    let mut kept = Kept::new(alloc);
-    let mut bounds = Bounds {
-        places: source_bounds(alloc, plan)?,
-        clash: 1,
-    };
-    let mut rest = plan.rules.as_slice();
-    while let [rule, more @ ..] = rest {
-        take_rule(plan, &index, rule, &mut met, &mut kept, &mut bounds)?;
-        rest = more;
-    }
+    let bounds = raised_by_rules(alloc, plan, &index, Bounds { places, clash: 1 })?;
     Ok(bounds)
 }
 
