@@ -2,7 +2,8 @@
 
 ghost use Rattle.vc_net_waking.specs.Laws.{BeginnersSuffice, OthersWaitOn, SizesStay, WakingIsFew, WokenWait};
 ghost use Rattle.vc_net_waking.specs.Spending.{BeginnersAreOn, ConclusionsAreOfThings, EachTouchesSomething};
-ghost use Rattle.vc_net_waking.specs.Spending.{ReachHoldsWhatIsWritten, RulesAreWithinWork, RulesWokenAreFew, WokenAreOn};
+ghost use Rattle.vc_net_waking.specs.Spending.{ReachHoldsWhatIsWritten, RulesAreWithinWork, RulesWokenAreFew};
+ghost use Rattle.vc_net_waking.specs.Spending.{WokenAreOn};
 
 /// Whoever comes on an agenda, those who waited wait on, and it is of as many rules and variables.
 pub fn others_wait_on()
