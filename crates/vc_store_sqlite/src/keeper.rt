@@ -33,10 +33,7 @@ fn opened(rt: &HostRuntime, name: Option<&str>) -> Result<Place, Error> {
 }
 
 impl Place {
-    fn put(&mut self, name: &[u8], text: &[u8]) -> Result<(), Error> {
-        let Ok(name) = str::from_utf8(name) else {
-            return Err(Error::QueryReturnedNoRows);
-        };
+    fn put(&mut self, name: &str, text: &[u8]) -> Result<(), Error> {
         match self {
             Place::Nowhere => Err(Error::QueryReturnedNoRows),
             Place::Memory(connection) => put_row(connection, name, text),
@@ -44,10 +41,7 @@ impl Place {
         }
     }
 
-    fn get(&mut self, name: &[u8]) -> Result<Option<Vec<u8>>, Error> {
-        let Ok(name) = str::from_utf8(name) else {
-            return Err(Error::QueryReturnedNoRows);
-        };
+    fn get(&mut self, name: &str) -> Result<Option<Vec<u8>>, Error> {
         match self {
             Place::Nowhere => Err(Error::QueryReturnedNoRows),
             Place::Memory(connection) => get_row(connection, name),
@@ -55,16 +49,33 @@ impl Place {
         }
     }
 
-    fn remove(&mut self, name: &[u8]) -> Result<bool, Error> {
-        let Ok(name) = str::from_utf8(name) else {
-            return Err(Error::QueryReturnedNoRows);
-        };
+    fn remove(&mut self, name: &str) -> Result<bool, Error> {
         match self {
             Place::Nowhere => Err(Error::QueryReturnedNoRows),
             Place::Memory(connection) => remove_row(connection, name),
             Place::File(connection) => remove_row(connection, name),
         }
     }
+}
+
+// The name as text. No request has one that isn't.
+fn name_of(name: &[u8]) -> Result<&str, Error> {
+    match str::from_utf8(name) {
+        Ok(name) => Ok(name),
+        Err(_) => Err(Error::QueryReturnedNoRows),
+    }
+}
+
+fn put_at(place: &mut Place, name: &[u8], text: &[u8]) -> Result<(), Error> {
+    place.put(name_of(name)?, text)
+}
+
+fn get_at(place: &mut Place, name: &[u8]) -> Result<Option<Vec<u8>>, Error> {
+    place.get(name_of(name)?)
+}
+
+fn remove_at(place: &mut Place, name: &[u8]) -> Result<bool, Error> {
+    place.remove(name_of(name)?)
 }
 
 /// Texts in the table `saved` of a database file that SQLite reads, or of one in memory. Each call is a transaction of
@@ -132,14 +143,14 @@ impl Keeper for SqlKeeper {
     }
 
     fn put(&mut self, name: &[u8], text: &[u8]) -> Result<(), KeepFault> {
-        match self.place.put(name, text) {
+        match put_at(&mut self.place, name, text) {
             Ok(()) => Ok(()),
             Err(error) => Err(self.raise(error)),
         }
     }
 
     fn get(&mut self, name: &[u8]) -> Result<Option<Word>, KeepFault> {
-        match self.place.get(name) {
+        match get_at(&mut self.place, name) {
             Ok(Some(body)) => Ok(Some(Word::from_vec(body))),
             Ok(None) => Ok(None),
             Err(error) => Err(self.raise(error)),
@@ -147,7 +158,7 @@ impl Keeper for SqlKeeper {
     }
 
     fn remove(&mut self, name: &[u8]) -> Result<bool, KeepFault> {
-        match self.place.remove(name) {
+        match remove_at(&mut self.place, name) {
             Ok(there) => Ok(there),
             Err(error) => Err(self.raise(error)),
         }
