@@ -4,6 +4,8 @@
 #[cfg(test)]
 mod bill;
 #[cfg(test)]
+mod fixtures;
+#[cfg(test)]
 mod show;
 #[cfg(test)]
 mod show_rows;

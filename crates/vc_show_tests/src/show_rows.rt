@@ -1,106 +1,18 @@
 //! A variable that is asked for, of whose two texts one is hidden, and a set with a text.
 
-ghost use Rattle.std.specs.Prelude.{◌≡◌, ◌∷◌, [], false, length, IfOk, None, Some};
-ghost use Rattle.vc_value.specs.declared.table_header.Domain.TheVariants.{Texts};
+ghost use Rattle.std.specs.Prelude.{◌≡◌, ◌∷◌, [], length, None, Some};
 ghost use Rattle.vc_plan.specs.declared.conditions.Condition.TheVariants.{Specified};
 ghost use Rattle.vc_plan.specs.declared.conditions.Piece.TheVariants.{OneText};
 ghost use Rattle.vc_plan.specs.declared.plans.Named.TheVariants.{Var as NamedVar};
 ghost use Rattle.vc_show_rows.specs.Fitting.{RowsFit};
 
+use crate::fixtures::{Chosen, domains, sets, texts, variables};
 use std::alloc::Global;
 use std::process::Abort;
 use std::test::Fail;
-use vc_plan::{
-    Characteristic, Condition, Guard, Named, Object, Piece, Plan, Reading, Slot, TextSet, Var, View,
-};
+use vc_plan::{Characteristic, Condition, Guard, Named, Object, Piece, Plan, Slot};
 use vc_show_rows::{put_instance, put_row, rows_of};
-use vc_value::{Domain, Listed, Value, Word};
-
-// Says that all slots are here, that no variable has a value, and which text each set has.
-#[derive(Drop)]
-struct Chosen {
-    text: u32,
-}
-
-impl View for Chosen {
-    ghost use Rattle.std.specs.Prelude.{true, false, None};
-
-    ghost seen = { λ s. record { here = λ i. true; out = λ v g. false; value = λ v. None } };
-
-    fn here(&self, _slot: u32) -> bool {
-        true
-    }
-
-    fn out(&self, _var: u32, _grain: u32) -> bool {
-        false
-    }
-
-    fn value(&self, _var: u32) -> Option<Value> {
-        None
-    }
-}
-
-impl Reading for Chosen {
-    ghost use Rattle.std.specs.Prelude.{◌==◌};
-
-    ghost holdings = { λ s set text. text == s.text };
-
-    fn holds(&self, _set: u32, text: u32) -> bool {
-        text == self.text
-    }
-}
-
-fn domains<R: Abort>(rt: &R, alloc: Global) -> Listed<Domain>
-    ensures { result ≡ Texts (0 ∷ 1 ∷ []) ∷ [] }
-{
-    let mut texts = Listed::new(alloc);
-    texts.push(0).expect(rt, "memory");
-    texts.push(1).expect(rt, "memory");
-    let mut domains = Listed::new(alloc);
-    domains.push(Domain::Texts(texts)).expect(rt, "memory");
-    domains
-}
-
-fn texts<R: Abort>(rt: &R, alloc: Global) -> Listed<Word>
-    ensures { length result ≡ 2 }
-{
-    let mut texts = Listed::new(alloc);
-    texts
-        .push(Word::from_bytes(alloc, b"N").expect(rt, "memory"))
-        .expect(rt, "memory");
-    texts
-        .push(Word::from_bytes(alloc, b"H").expect(rt, "memory"))
-        .expect(rt, "memory");
-    texts
-}
-
-fn variables<R: Abort>(rt: &R, alloc: Global) -> Listed<Var>
-    ensures { result ≡ record { slot = 0; characteristic = 0; domain = 0; restrictable = false }
-        ∷ [] }
-{
-    let mut vars = Listed::new(alloc);
-    vars.push(Var {
-        slot: 0,
-        characteristic: 0,
-        domain: 0,
-        restrictable: false,
-    })
-    .expect(rt, "memory");
-    vars
-}
-
-fn sets<R: Abort>(rt: &R, alloc: Global) -> Listed<TextSet>
-    ensures { result ≡ record { slot = 0; characteristic = 1; domain = 0 } ∷ [] }
-{
-    let mut sets = Listed::new(alloc);
-    sets.push(TextSet {
-        slot: 0,
-        characteristic: 1,
-        domain: 0,
-    })
-    .expect(rt, "memory");
-    sets
-}
+use vc_value::{Domain, Listed, Word};
 
 fn conditions<R: Abort>(rt: &R, alloc: Global) -> Listed<Condition>
     ensures { result ≡ Specified 0 ∷ [] }
