@@ -1,6 +1,6 @@
 //! The rules of a plan, which has only so many.
 
-ghost use Rattle.std.specs.Prelude.{◌≡◌, ◌++◌, ◌<◌, length, IfOk, IfSome, IfNone};
+ghost use Rattle.std.specs.Prelude.{◌≡◌, ◌++◌, ◌<◌, ◌≤◌, length, IfOk, IfSome, IfNone};
 ghost use Rattle.vc_compile_plan.specs.Refusals.{most_rules};
 ghost use Rattle.vc_compile_plan.specs.Rules.{last_drafts, rule_drafts, slot_drafts_from};
 ghost use Rattle.vc_compile_numbering.specs.Growing.{seen};
@@ -13,8 +13,10 @@ use vc_compile_constraints::push_constraint_rules;
 use vc_compile_layout::Layout;
 use vc_compile_numbering::{Numbering, Trees};
 use vc_compile_rules::Room;
+use vc_compile_rules::adding::MOST_RULES;
 use vc_compile_rules::own::{push_last_rules, push_line_rules};
 use vc_plan::Rule;
+use vc_syntax_tree::Dependency;
 
 // Puts the rules of variables and of slots last.
 fn push_own_rules(
@@ -51,6 +53,31 @@ fn push_rules(
     }
 }
 
+fn restriction_count(tree: &Dependency) -> usize {
+    match tree {
+        Dependency::Constraint(constraint) => constraint.restrictions.len(),
+        Dependency::Precondition(_) => 0,
+        Dependency::Selection(_) => 0,
+        Dependency::Procedure(_) => 0,
+        Dependency::Term(_) => 0,
+    }
+}
+
+// How many rules there are where each constraint stands once, as far as a plan may have so many. Memory for them is
+// taken at once: a list that grows stands there twice while it is copied.
+fn expected_rules(layout: &Layout<'_, '_>) -> usize
+    ensures { result ≤ most_rules }
+{
+    let mut count = layout
+        .slots()
+        .len()
+        .saturating_add(layout.var_count() as usize);
+    for dependency in layout.names().model().dependencies.as_slice() {
+        count = count.saturating_add(restriction_count(&dependency.tree));
+    }
+    count.min(MOST_RULES)
+}
+
 /// The rules of a plan, with the conditions and terms that they have; none where a plan would have too many.
 pub fn rules_of(
     alloc: Global,
@@ -60,7 +87,9 @@ pub fn rules_of(
     ensures none { IfOk result (λ found. IfNone found
         (most_rules < length (rule_drafts (layout_seen layout.now)))) }
 {
-    let mut rules = Numbering::over(alloc, Trees::new(alloc)?);
+    let capacity = expected_rules(layout);
+    let trees = Trees::with_capacity(alloc, capacity)?;
+    let mut rules = Numbering::with_capacity(alloc, trees, capacity)?;
     match push_rules(alloc, layout, &mut rules)? {
         Room::Enough => Ok(Some(rules)),
         Room::TooMany => Ok(None),

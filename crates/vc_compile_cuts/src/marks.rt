@@ -196,7 +196,11 @@ pub fn put_relation(
             put_beside(out, setting, right, at_left)
         }
         Relation::Within(operand, items) => {
-            put_listed(out, characteristic_of(setting, operand), items.as_slice())
+            put_listed(
+                out,
+                characteristic_of(setting, operand.get()),
+                items.as_slice(),
+            )
         }
     }
 }

@@ -1,6 +1,6 @@
 //! Things with the numbers of their conditions and terms.
 
-ghost use Rattle.std.specs.Prelude.{◌≡◌, ◌∷◌, [], ◌++◌, OnOk};
+ghost use Rattle.std.specs.Prelude.{◌≡◌, ◌∷◌, [], ◌++◌, IfOk, OnOk};
 
 use crate::trees::Trees;
 use std::alloc::{AllocError, Global};
@@ -23,6 +23,22 @@ impl<X: Drop> Numbering<X> {
             trees,
             items: Listed::new(alloc),
         }
+    }
+
+    /// No things yet, over these conditions and terms, with capacity for so many.
+    pub fn with_capacity(
+        alloc: Global,
+        trees: Trees,
+        capacity: usize,
+    ) -> Result<Numbering<X>, AllocError>
+        ensures trees { IfOk result (λ numbering. numbering.trees ≡ trees) }
+        ensures items { IfOk result (λ numbering. numbering.items ≡ []) }
+    {
+        let items = Vec::with_capacity(alloc, capacity)?;
+        Ok(Numbering {
+            trees,
+            items: Listed::from_vec(items),
+        })
     }
 
     /// Puts a thing last.

@@ -27,11 +27,11 @@ fn number_from(count: usize) -> Result<u32, AllocError>
 }
 
 impl Trees {
-    /// No terms, and the one condition that asks nothing, which is number 0.
-    pub fn new(alloc: Global) -> Result<Trees, AllocError>
+    /// No terms, and the one condition that asks nothing, which is number 0; with capacity for so many conditions.
+    pub fn with_capacity(alloc: Global, capacity: usize) -> Result<Trees, AllocError>
         ensures { IfOk result (λ trees. kept trees ≡ record { conditions = plan.Always ∷ []; terms = [] }) }
     {
-        let mut conditions = Listed::new(alloc);
+        let mut conditions = Listed::from_vec(Vec::with_capacity(alloc, capacity)?);
         conditions.push(Condition::Always)?;
         Ok(Trees {
             conditions,

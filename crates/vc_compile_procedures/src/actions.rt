@@ -170,6 +170,6 @@ pub fn action_at(
             var: target(layout, site, name),
             term: add_term(alloc, layout, site, term, trees)?,
         }),
-        Act::Table(call) => look_up_at(alloc, layout, site, call, trees),
+        Act::Table(call) => look_up_at(alloc, layout, site, call.get(), trees),
     }
 }

@@ -161,7 +161,9 @@ fn of_relation(
         Relation::Compared(left, relator, right) => {
             of_comparison(alloc, layout, site, left, *relator, right, trees)
         }
-        Relation::Within(operand, items) => of_list(alloc, layout, site, operand, items.as_slice()),
+        Relation::Within(operand, items) => {
+            of_list(alloc, layout, site, operand.get(), items.as_slice())
+        }
     }
 }
 
@@ -260,7 +262,7 @@ pub fn demand_at(
 {
     match demand {
         Demand::Relation(relation) => of_relation(alloc, layout, site, relation, trees),
-        Demand::Table(call) => of_call(alloc, layout, site, call),
+        Demand::Table(call) => of_call(alloc, layout, site, call.get()),
         Demand::False => Ok(Kind::Never),
     }
 }

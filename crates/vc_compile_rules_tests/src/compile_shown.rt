@@ -13,7 +13,7 @@ use vc_model_parts::parts::{
     Operation, Table, Values,
 };
 use vc_plan::{Slot, TextSet, Var};
-use vc_syntax_tree::{Condition, Dependency, NameLeaf, NumberLeaf, Operand, Term};
+use vc_syntax_tree::{Condition, Dependency, NameLeaf, NumberLeaf, Operand, ShortWord, Term};
 use vc_types_names::Names;
 use vc_value::{Dec, Listed, Word};
 
@@ -23,7 +23,7 @@ fn word<R: Abort>(rt: &R, alloc: Global, text: &str) -> Word {
 
 fn name<R: Abort>(rt: &R, alloc: Global, text: &str) -> NameLeaf {
     NameLeaf {
-        name: word(rt, alloc, text),
+        name: ShortWord::from_bytes(alloc, text.as_bytes()).expect(rt, "memory"),
         start: 0,
         end: 1,
     }
@@ -180,7 +180,7 @@ fn layout<'n, 'm>(alloc: Global, names: &'n Names<'m>) -> Result<Layout<'n, 'm>,
 }
 
 fn shows_conditions<R: Abort>(rt: &R, alloc: Global, layout: &Layout<'_, '_>) -> bool {
-    let mut guards = Numbering::over(alloc, Trees::new(alloc).expect(rt, "memory"));
+    let mut guards = Numbering::over(alloc, Trees::with_capacity(alloc, 0).expect(rt, "memory"));
     let pushed = push_guards(alloc, layout, &mut guards);
     let (trees, guards) = guards.into_parts();
     let mut requirements = Numbering::over(alloc, trees);
@@ -194,7 +194,7 @@ fn shows_conditions<R: Abort>(rt: &R, alloc: Global, layout: &Layout<'_, '_>) ->
 }
 
 fn shows_items<R: Abort>(rt: &R, alloc: Global, layout: &Layout<'_, '_>) -> bool {
-    let mut lines = Numbering::over(alloc, Trees::new(alloc).expect(rt, "memory"));
+    let mut lines = Numbering::over(alloc, Trees::with_capacity(alloc, 0).expect(rt, "memory"));
     let pushed = push_lines(alloc, layout, &mut lines);
     let (trees, lines) = lines.into_parts();
     let mut operations = Numbering::over(alloc, trees);

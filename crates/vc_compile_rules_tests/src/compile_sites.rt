@@ -1,151 +1,33 @@
 //! A model of one object whose class has a number and a set of texts, and what dependencies say there.
 
-use std::alloc::{AllocError, Global};
+use crate::fixtures::{layout, model, name};
+use std::alloc::Global;
 use std::process::Abort;
 use std::test::Fail;
 use vc_compile_layout::Layout;
-use vc_compile_plan::Standing;
 use vc_compile_sites::{Site, condition_at, term_at};
-use vc_compile_uses::texts_of;
-use vc_model_parts::parts::{
-    BillItem, Characteristic, Class, Model, NamedDependency, Net, NumberValue, Object, Operation,
-    Table, TextValue, Values,
+use vc_model_parts::parts::{Model, NamedDependency, Net};
+use vc_plan::{Condition as PlanCondition, Term as PlanTerm};
+use vc_syntax_tree::{
+    Apart, Condition, Item, NumberLeaf, Operand, Relation, ShortWord, Term, TextLeaf,
 };
-use vc_plan::{Condition as PlanCondition, Slot, Term as PlanTerm, TextSet, Var};
-use vc_syntax_tree::{Condition, Item, NameLeaf, NumberLeaf, Operand, Relation, Term, TextLeaf};
 use vc_types::{At, Place};
 use vc_types_meanings::{Setting, Tree};
 use vc_types_names::Names;
-use vc_value::{Dec, Listed, Value, Word};
-
-fn word<R: Abort>(rt: &R, alloc: Global, text: &str) -> Word {
-    Word::from_bytes(alloc, text.as_bytes()).expect(rt, "memory")
-}
-
-fn name<R: Abort>(rt: &R, alloc: Global, text: &str) -> NameLeaf {
-    NameLeaf {
-        name: word(rt, alloc, text),
-        start: 0,
-        end: 1,
-    }
-}
+use vc_value::{Dec, Listed, Value};
 
 fn text<R: Abort>(rt: &R, alloc: Global, text: &str) -> TextLeaf {
     TextLeaf {
-        text: word(rt, alloc, text),
+        text: ShortWord::from_bytes(alloc, text.as_bytes()).expect(rt, "memory"),
         start: 0,
         end: 1,
     }
 }
 
-fn characteristic<R: Abort>(rt: &R, alloc: Global, name: &str, values: Values) -> Characteristic {
-    Characteristic {
-        name: word(rt, alloc, name),
-        restrictable: false,
-        required: false,
-        uses: Listed::new(alloc),
-        values,
-    }
-}
-
-// FLOW has numbers, EXTRAS has sets of texts.
-fn characteristics<R: Abort>(rt: &R, alloc: Global) -> Listed<Characteristic> {
-    let values: Listed<NumberValue> = Listed::new(alloc);
-    let numbers = Values::Numbers {
-        decimals: 0,
-        unit: None,
-        values,
-    };
-    let values: Listed<TextValue> = Listed::new(alloc);
-    let texts = Values::Texts {
-        length: 1,
-        multiple: true,
-        values,
-    };
-    let mut all = Listed::new(alloc);
-    all.push(characteristic(rt, alloc, "FLOW", numbers))
-        .expect(rt, "memory");
-    all.push(characteristic(rt, alloc, "EXTRAS", texts))
-        .expect(rt, "memory");
-    all
-}
-
-fn classes<R: Abort>(rt: &R, alloc: Global) -> Listed<Class> {
-    let mut members = Listed::new(alloc);
-    members.push(0).expect(rt, "memory");
-    members.push(1).expect(rt, "memory");
-    let mut classes = Listed::new(alloc);
-    classes
-        .push(Class {
-            name: word(rt, alloc, "K"),
-            members,
-        })
-        .expect(rt, "memory");
-    classes
-}
-
-fn objects<R: Abort>(rt: &R, alloc: Global) -> Listed<Object> {
-    let bill: Listed<BillItem> = Listed::new(alloc);
-    let operations: Listed<Operation> = Listed::new(alloc);
-    let mut objects = Listed::new(alloc);
-    objects
-        .push(Object {
-            material: word(rt, alloc, "M"),
-            class: 0,
-            nets: Listed::new(alloc),
-            procedures: Listed::new(alloc),
-            bill,
-            operations,
-        })
-        .expect(rt, "memory");
-    objects
-}
-
-fn model<R: Abort>(rt: &R, alloc: Global) -> Model {
-    let tables: Listed<Table> = Listed::new(alloc);
+fn without_dependencies<R: Abort>(rt: &R, alloc: Global) -> Model {
     let dependencies: Listed<NamedDependency> = Listed::new(alloc);
     let nets: Listed<Net> = Listed::new(alloc);
-    let mut texts = Listed::new(alloc);
-    texts.push(word(rt, alloc, "A")).expect(rt, "memory");
-    texts.push(word(rt, alloc, "B")).expect(rt, "memory");
-    Model {
-        name: word(rt, alloc, "M"),
-        version: 1,
-        characteristics: characteristics(rt, alloc),
-        texts,
-        classes: classes(rt, alloc),
-        tables,
-        dependencies,
-        nets,
-        objects: objects(rt, alloc),
-        root: 0,
-    }
-}
-
-fn layout<'n, 'm>(alloc: Global, names: &'n Names<'m>) -> Result<Layout<'n, 'm>, AllocError> {
-    let standings: Listed<Standing> = Listed::new(alloc);
-    let mut slots = Listed::new(alloc);
-    slots.push(Slot {
-        parent: None,
-        depth: 0,
-        object: 0,
-        line: 0,
-    })?;
-    let mut vars = Listed::new(alloc);
-    vars.push(Var {
-        slot: 0,
-        characteristic: 0,
-        domain: 0,
-        restrictable: false,
-    })?;
-    let mut sets = Listed::new(alloc);
-    sets.push(TextSet {
-        slot: 0,
-        characteristic: 1,
-        domain: 1,
-    })?;
-    let texts = texts_of(alloc, names.model())?;
-    Layout::new(alloc, names, standings, slots, vars, sets, texts)
+    model(rt, alloc, dependencies, nets, Listed::new(alloc))
 }
 
 const ROOT: Place = Place {
@@ -173,6 +55,7 @@ fn has_b<R: Abort>(rt: &R, alloc: Global) -> Condition {
         .push(Item::Text(text(rt, alloc, "B")))
         .expect(rt, "memory");
     let operand = Operand::Plain(name(rt, alloc, "EXTRAS"));
+    let operand = Apart::new(alloc, operand).expect(rt, "memory");
     Condition::Relation(Relation::Within(operand, items))
 }
 
@@ -254,7 +137,7 @@ fn in_a_model<R: Abort>(rt: &R, alloc: Global, model: &Model) -> bool {
 }
 
 fn of_the_model<R: Abort>(rt: &R, alloc: Global) -> bool {
-    let model = model(rt, alloc);
+    let model = without_dependencies(rt, alloc);
     let kept = in_a_model(rt, alloc, &model);
     drop(model);
     kept

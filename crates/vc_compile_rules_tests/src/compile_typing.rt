@@ -11,7 +11,7 @@ use vc_model_parts::{
     TextValue, Values,
 };
 use vc_plan::{Slot, TextSet, Var};
-use vc_syntax_tree::{Condition, Dependency, NameLeaf, Operand};
+use vc_syntax_tree::{Condition, Dependency, NameLeaf, Operand, ShortWord};
 use vc_types::TypeFaultKind;
 use vc_types_names::Names;
 use vc_value::{Listed, Word};
@@ -70,7 +70,7 @@ fn objects(alloc: Global) -> Result<Listed<Object>, AllocError> {
 // `SPECIFIED B`, where there is no B.
 fn dependencies(alloc: Global) -> Result<Listed<NamedDependency>, AllocError> {
     let condition = Condition::Specified(Operand::Plain(NameLeaf {
-        name: word(alloc, "B")?,
+        name: ShortWord::from_bytes(alloc, b"B")?,
         start: 10,
         end: 11,
     }));

@@ -11,3 +11,5 @@ mod compile_shown;
 mod compile_sites;
 #[cfg(test)]
 mod compile_typing;
+#[cfg(test)]
+mod fixtures;

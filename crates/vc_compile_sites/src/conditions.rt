@@ -252,7 +252,7 @@ pub fn relation_at(
             None => values_compared_at(alloc, layout, site, left, *relator, right),
         },
         Relation::Within(operand, items) => {
-            within_at(alloc, layout, site, operand, items.as_slice())
+            within_at(alloc, layout, site, operand.get(), items.as_slice())
         }
     }
 }

@@ -97,7 +97,7 @@ impl<'s, 'n, 'm, 't> Site<'s, 'n, 'm, 't> {
             Operand::Plain(_) => self.own,
             Operand::Owned(owner, _) => slot_of_owner(self, *owner),
             Operand::Member(variable, _) => {
-                self.slot_of_object(object_called(self.objects, variable.name.bytes()))
+                self.slot_of_object(object_called(self.objects, variable.get().name.bytes()))
             }
             Operand::Variable(leaf) => {
                 self.slot_of_object(object_with_alias(self.objects, leaf.name.bytes()))

@@ -10,8 +10,9 @@ use vc_model_parts::parts::{
 };
 use vc_plan::Slot;
 use vc_syntax_tree::{
-    Alias, Binding, Condition, Constraint, Demand, Dependency, NameLeaf, NumberLeaf,
-    Object as Declared, ObjectKind, Operand, Relation, Relator, Restriction, TableCall, Term,
+    Alias, Apart, Binding, Condition, Constraint, Demand, Dependency, NameLeaf, NumberLeaf,
+    Object as Declared, ObjectKind, Operand, Relation, Relator, Restriction, ShortWord, TableCall,
+    Term,
 };
 use vc_table::{Row, VariantTable};
 use vc_types_names::Names;
@@ -23,7 +24,7 @@ fn word<R: Abort>(rt: &R, alloc: Global, text: &str) -> Word {
 
 fn leaf<R: Abort>(rt: &R, alloc: Global, text: &str) -> NameLeaf {
     NameLeaf {
-        name: word(rt, alloc, text),
+        name: ShortWord::from_bytes(alloc, text.as_bytes()).expect(rt, "memory"),
         start: 0,
         end: 1,
     }
@@ -48,7 +49,8 @@ fn grain(low: i64, high: i64) -> Grain {
 
 // ?X.C
 fn member<R: Abort>(rt: &R, alloc: Global, characteristic: &str) -> Box<Term> {
-    let operand = Operand::Member(leaf(rt, alloc, "X"), leaf(rt, alloc, characteristic));
+    let variable = Apart::new(alloc, leaf(rt, alloc, "X")).expect(rt, "memory");
+    let operand = Operand::Member(variable, leaf(rt, alloc, characteristic));
     Box::new(alloc, Term::Operand(operand)).expect(rt, "memory")
 }
 
@@ -105,8 +107,9 @@ fn constraint<R: Abort>(rt: &R, alloc: Global) -> Dependency {
     restrictions
         .push(restriction(Demand::Relation(equation)))
         .expect(rt, "memory");
+    let called = Apart::new(alloc, call(rt, alloc)).expect(rt, "memory");
     restrictions
-        .push(restriction(Demand::Table(call(rt, alloc))))
+        .push(restriction(Demand::Table(called)))
         .expect(rt, "memory");
     let condition = Condition::Relation(relation(rt, alloc, Relator::Greater, 7_000_000));
     Dependency::Constraint(Constraint {

@@ -8,7 +8,7 @@ use vc_plan::{Condition, Term};
 
 // Two conditions and a term, of which one thing has the numbers.
 fn numbers<R: Abort>(rt: &R, alloc: Global) -> (u32, u32, u32, u32) {
-    let mut trees = Trees::new(alloc).expect(rt, "memory");
+    let mut trees = Trees::with_capacity(alloc, 0).expect(rt, "memory");
     let nothing = trees.add_if_asked(None).expect(rt, "memory");
     let first = trees
         .add_condition(Condition::Specified(7))
@@ -21,7 +21,7 @@ fn numbers<R: Abort>(rt: &R, alloc: Global) -> (u32, u32, u32, u32) {
 }
 
 fn counts<R: Abort>(rt: &R, alloc: Global) -> (usize, usize, usize) {
-    let mut things = Numbering::over(alloc, Trees::new(alloc).expect(rt, "memory"));
+    let mut things = Numbering::over(alloc, Trees::with_capacity(alloc, 0).expect(rt, "memory"));
     things
         .trees
         .add_term(Term::PartCount(0))

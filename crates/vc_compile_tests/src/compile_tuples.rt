@@ -9,7 +9,8 @@ use vc_model_parts::parts::{
 };
 use vc_plan::Slot;
 use vc_syntax_tree::{
-    Alias, Condition, Constraint, NameLeaf, Object as Declared, ObjectKind, Operand, Restriction,
+    Alias, Apart, Condition, Constraint, NameLeaf, Object as Declared, ObjectKind, Operand,
+    Restriction, ShortWord,
 };
 use vc_types_names::Names;
 use vc_value::{Listed, Word};
@@ -20,7 +21,7 @@ fn word<R: Abort>(rt: &R, alloc: Global, text: &str) -> Word {
 
 fn leaf<R: Abort>(rt: &R, alloc: Global, text: &str) -> NameLeaf {
     NameLeaf {
-        name: word(rt, alloc, text),
+        name: ShortWord::from_bytes(alloc, text.as_bytes()).expect(rt, "memory"),
         start: 0,
         end: 1,
     }
@@ -37,8 +38,10 @@ fn declared<R: Abort>(rt: &R, alloc: Global, variable: &str) -> Declared {
 
 // PART_OF ( ?Y , ?X ) AND SPECIFIED ?X.A
 fn condition<R: Abort>(rt: &R, alloc: Global) -> Box<Condition> {
-    let part = Condition::PartOf(leaf(rt, alloc, "Y"), leaf(rt, alloc, "X"));
-    let operand = Operand::Member(leaf(rt, alloc, "X"), leaf(rt, alloc, "A"));
+    let inner = Apart::new(alloc, leaf(rt, alloc, "Y")).expect(rt, "memory");
+    let part = Condition::PartOf(inner, leaf(rt, alloc, "X"));
+    let variable = Apart::new(alloc, leaf(rt, alloc, "X")).expect(rt, "memory");
+    let operand = Operand::Member(variable, leaf(rt, alloc, "A"));
     let both = Condition::And(
         Box::new(alloc, part).expect(rt, "memory"),
         Box::new(alloc, Condition::Specified(operand)).expect(rt, "memory"),

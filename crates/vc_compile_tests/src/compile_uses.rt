@@ -10,8 +10,8 @@ use vc_model_parts::parts::{
 };
 use vc_plan::Slot;
 use vc_syntax_tree::{
-    Condition, Constraint, Dependency, Item, NameLeaf, Object as Declared, Operand, Relation,
-    Restriction, TextLeaf,
+    Apart, Condition, Constraint, Dependency, Item, NameLeaf, Object as Declared, Operand,
+    Relation, Restriction, ShortWord, TextLeaf,
 };
 use vc_value::{Listed, Word};
 
@@ -31,17 +31,18 @@ fn condition<R: Abort>(rt: &R, alloc: Global, first: &str, second: &str) -> Box<
     for text in [first, second].as_slice() {
         items
             .push(Item::Text(TextLeaf {
-                text: word(rt, alloc, *text),
+                text: ShortWord::from_bytes(alloc, text.as_bytes()).expect(rt, "memory"),
                 start: 0,
                 end: 1,
             }))
             .expect(rt, "memory");
     }
     let operand = Operand::Plain(NameLeaf {
-        name: word(rt, alloc, "OPT"),
+        name: ShortWord::from_bytes(alloc, b"OPT").expect(rt, "memory"),
         start: 0,
         end: 3,
     });
+    let operand = Apart::new(alloc, operand).expect(rt, "memory");
     let relation = Relation::Within(operand, items);
     Box::new(alloc, Condition::Relation(relation)).expect(rt, "memory")
 }

@@ -50,7 +50,7 @@ fn put_parts(
             put_parts(out, objects, right)
         }
         Condition::PartOf(part, whole) => out.push(Part {
-            part: place_called(objects, part.name.bytes()),
+            part: place_called(objects, part.get().name.bytes()),
             whole: place_called(objects, whole.name.bytes()),
         }),
         Condition::Or(_, _) => Ok(()),

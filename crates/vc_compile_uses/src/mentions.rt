@@ -121,7 +121,7 @@ fn put_action<'a>(out: &mut Listed<&'a [u8]>, action: &'a Action) -> Result<(), 
         Action::Assign(_, term) => put_term(out, term),
         Action::SetDefault(_, term) => put_term(out, term),
         Action::DelDefault(_, term) => put_term(out, term),
-        Action::Table(call) => put_call(out, call),
+        Action::Table(call) => put_call(out, call.get()),
     }
 }
 
@@ -151,7 +151,7 @@ fn put_demand<'a>(out: &mut Listed<&'a [u8]>, demand: &'a Demand) -> Result<(), 
 {
     match demand {
         Demand::Relation(relation) => put_relation(out, relation),
-        Demand::Table(call) => put_call(out, call),
+        Demand::Table(call) => put_call(out, call.get()),
         Demand::False => Ok(()),
     }
 }

@@ -1,6 +1,6 @@
 //! Constraints, read from tokens.
 
-ghost use Rattle.std.specs.Prelude.{map, option_map};
+ghost use Rattle.std.specs.Prelude.{◌≡◌, map, option_map};
 ghost use Rattle.vc_syntax_terms.specs.Reading.{Gives, listed};
 ghost use Rattle.vc_syntax_terms.specs.TermReading as terms;
 ghost use Rattle.vc_syntax.specs.ConstraintReading as reads;
@@ -211,6 +211,15 @@ fn restriction_word(tokens: &[Token]) -> Result<&[Token], ReadFault>
     }
 }
 
+// The restrictions without room to spare, as a constraint may have thousands.
+fn fitted(restrictions: Listed<Restriction>) -> Listed<Restriction>
+    ensures { result ≡ restrictions }
+{
+    let mut inner = restrictions.into_vec();
+    inner.shrink_to_fit();
+    Listed::from_vec(inner)
+}
+
 fn restriction_section(
     alloc: Global,
     tokens: &[Token],
@@ -222,7 +231,7 @@ fn restriction_section(
     let rest = after_sign(Sign::Colon, rest)?;
     let (restrictions, rest) = restrictions(alloc, rest, left)?;
     let rest = after_sign(Sign::Period, rest)?;
-    Ok((restrictions, rest))
+    Ok((fitted(restrictions), rest))
 }
 
 fn inference_section(

@@ -14,7 +14,7 @@ use vc_syntax_terms::reading::{ReadFault, after_sign, any_named, named, sign_ahe
 use vc_syntax_terms::terms::{dotted, self_and_name, sum};
 use vc_syntax_tokens::token::{Dollar, Lexeme, Reserved, Sign, Token};
 use vc_syntax_tree::{
-    Action, Binding, Condition, Demand, NameLeaf, Restriction, Statement, TableCall, Term,
+    Action, Apart, Binding, Condition, Demand, NameLeaf, Restriction, Statement, TableCall, Term,
 };
 use vc_value::Listed;
 
@@ -135,6 +135,7 @@ fn action(alloc: Global, tokens: &[Token], left: u32) -> Result<(Action, &[Token
             rest @ ..,
         ] => {
             let (call, rest) = table_call(alloc, rest, left)?;
+            let call = Apart::new(alloc, call)?;
             Ok((Action::Table(call), rest))
         }
         _ => Err(ReadFault::Ungrammatical),
@@ -199,6 +200,7 @@ fn demand(alloc: Global, tokens: &[Token], left: u32) -> Result<(Demand, &[Token
             rest @ ..,
         ] => {
             let (call, rest) = table_call(alloc, rest, left)?;
+            let call = Apart::new(alloc, call)?;
             Ok((Demand::Table(call), rest))
         }
         [

@@ -130,7 +130,7 @@ pub fn put_relation(
             put_sign(out, relator_sign(*relator))?;
             put_term(alloc, out, right)
         }
-        Relation::Within(operand, items) => put_within(alloc, out, operand, items.as_slice()),
+        Relation::Within(operand, items) => put_within(alloc, out, operand.get(), items.as_slice()),
     }
 }
 
@@ -224,6 +224,6 @@ pub fn put_condition(
             put_word(out, Reserved::Specified)?;
             put_operand(alloc, out, operand)
         }
-        Condition::PartOf(part, whole) => put_part_of(alloc, out, part, whole),
+        Condition::PartOf(part, whole) => put_part_of(alloc, out, part.get(), whole),
     }
 }

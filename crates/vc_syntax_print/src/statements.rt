@@ -141,7 +141,7 @@ fn put_action(alloc: Global, out: &mut Listed<Lexeme>, action: &Action) -> Resul
             put_dollar(out, Dollar::DelDefault)?;
             put_default(alloc, out, name, term)
         }
-        Action::Table(call) => put_call(alloc, out, call),
+        Action::Table(call) => put_call(alloc, out, call.get()),
     }
 }
 
@@ -214,7 +214,7 @@ fn put_demand(alloc: Global, out: &mut Listed<Lexeme>, demand: &Demand) -> Resul
 {
     match demand {
         Demand::Relation(relation) => put_relation(alloc, out, relation),
-        Demand::Table(call) => put_call(alloc, out, call),
+        Demand::Table(call) => put_call(alloc, out, call.get()),
         Demand::False => put_word(out, Reserved::False),
     }
 }

@@ -91,7 +91,7 @@ pub fn put_operand(
     match operand {
         Operand::Plain(name) => put_name(alloc, out, name),
         Operand::Owned(owner, name) => put_owned(alloc, out, *owner, name),
-        Operand::Member(variable, name) => put_member(alloc, out, variable, name),
+        Operand::Member(variable, name) => put_member(alloc, out, variable.get(), name),
         Operand::Variable(name) => put_variable(alloc, out, name),
     }
 }

@@ -16,7 +16,7 @@ use crate::terms::{operand, sum};
 use std::alloc::Global;
 use vc_syntax_tokens::token::{Lexeme, Reserved, Sign, Token};
 use vc_syntax_tree::{
-    Condition, Item, NameLeaf, NumberLeaf, Relation, Relator, SignedNumber, TextLeaf,
+    Apart, Condition, Item, NameLeaf, NumberLeaf, Relation, Relator, SignedNumber, TextLeaf,
 };
 use vc_value::Listed;
 
@@ -156,6 +156,7 @@ fn within(alloc: Global, tokens: &[Token]) -> Result<(Relation, &[Token]), ReadF
     let rest = after_sign(Sign::OpenParen, rest)?;
     let (items, rest) = items(alloc, rest)?;
     let rest = after_sign(Sign::CloseParen, rest)?;
+    let operand = Apart::new(alloc, operand)?;
     Ok((Relation::Within(operand, items), rest))
 }
 
@@ -189,6 +190,7 @@ fn part_of(alloc: Global, tokens: &[Token]) -> Result<(Box<Condition>, &[Token])
     let rest = after_sign(Sign::Comma, rest)?;
     let (whole, rest) = variable_ahead(alloc, rest)?;
     let rest = after_sign(Sign::CloseParen, rest)?;
+    let part = Apart::new(alloc, part)?;
     let condition = boxed(alloc, Condition::PartOf(part, whole))?;
     Ok((condition, rest))
 }

@@ -9,8 +9,7 @@ ghost use Rattle.vc_syntax_terms.specs.Reading.{Gives};
 use std::alloc::{AllocError, AllocFailed, Global};
 use vc_syntax_tokens::spelling::reserved_spelling;
 use vc_syntax_tokens::token::{Dollar, Lexeme, Reserved, Sign, Token};
-use vc_syntax_tree::{NameLeaf, NumberLeaf, TextLeaf};
-use vc_value::Word;
+use vc_syntax_tree::{NameLeaf, NumberLeaf, ShortWord, TextLeaf};
 
 /// Why tokens were not read.
 #[derive(Clone, Copy, Debug, PartialEq, Eq)]
@@ -48,7 +47,7 @@ pub fn name_leaf(alloc: Global, token: &Token) -> Result<NameLeaf, ReadFault>
 {
     match &token.lexeme {
         Lexeme::Name(name) => {
-            let name = Word::from_bytes(alloc, name.bytes())?;
+            let name = ShortWord::from_bytes(alloc, name.bytes())?;
             Ok(NameLeaf {
                 name,
                 start: token.start,
@@ -65,7 +64,7 @@ pub fn any_name_leaf(alloc: Global, token: &Token) -> Result<NameLeaf, ReadFault
 {
     match &token.lexeme {
         Lexeme::Reserved(word) => {
-            let name = Word::from_bytes(alloc, reserved_spelling(*word).as_bytes())?;
+            let name = ShortWord::from_bytes(alloc, reserved_spelling(*word).as_bytes())?;
             Ok(NameLeaf {
                 name,
                 start: token.start,
@@ -92,7 +91,7 @@ pub fn variable_leaf(alloc: Global, token: &Token) -> Result<NameLeaf, ReadFault
 {
     match &token.lexeme {
         Lexeme::Variable(name) => {
-            let name = Word::from_bytes(alloc, name.bytes())?;
+            let name = ShortWord::from_bytes(alloc, name.bytes())?;
             Ok(NameLeaf {
                 name,
                 start: token.start,
@@ -109,7 +108,7 @@ pub fn text_leaf(alloc: Global, token: &Token) -> Result<TextLeaf, ReadFault>
 {
     match &token.lexeme {
         Lexeme::Text(text) => {
-            let text = Word::from_bytes(alloc, text.bytes())?;
+            let text = ShortWord::from_bytes(alloc, text.bytes())?;
             Ok(TextLeaf {
                 text,
                 start: token.start,

@@ -13,7 +13,7 @@ use crate::reading::{
 };
 use std::alloc::Global;
 use vc_syntax_tokens::token::{Dollar, Lexeme, Reserved, Sign, Token};
-use vc_syntax_tree::{Function, NameLeaf, Operand, Operator, Owner, Term};
+use vc_syntax_tree::{Apart, Function, NameLeaf, Operand, Operator, Owner, Term};
 
 fn owner_of(dollar: Dollar) -> Result<Owner, ReadFault>
     ensures { Gives (λ owner. owner) result (reads.owner_of dollar) }
@@ -45,6 +45,7 @@ fn member(
     match sign_ahead(Sign::Dot, tokens) {
         Some(rest) => {
             let (name, rest) = named(alloc, rest)?;
+            let variable = Apart::new(alloc, variable)?;
             Ok((Operand::Member(variable, name), rest))
         }
         None => Ok((Operand::Variable(variable), tokens)),

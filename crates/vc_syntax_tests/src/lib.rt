@@ -11,3 +11,5 @@ mod syntax_reading;
 mod syntax_terms;
 #[cfg(test)]
 mod syntax_tokens;
+#[cfg(test)]
+mod syntax_tree;

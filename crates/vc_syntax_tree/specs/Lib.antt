@@ -1,1 +1,2 @@
+pub mod ShortWords
 pub mod Trees

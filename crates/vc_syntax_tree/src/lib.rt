@@ -1,12 +1,17 @@
 //! The trees of dependencies. A leaf keeps the first byte of its token and the byte after its last.
 #![tactic(auto)]
 
-use vc_value::{Dec, Listed, Word};
+pub mod apart;
+pub mod short_word;
+
+pub use apart::Apart;
+pub use short_word::ShortWord;
+use vc_value::{Dec, Listed};
 
 /// A name in upper case; of a variable, without `?`.
 #[derive(Debug, Drop)]
 pub struct NameLeaf {
-    pub name: Word,
+    pub name: ShortWord,
     pub start: u32,
     pub end: u32,
 }
@@ -14,7 +19,7 @@ pub struct NameLeaf {
 /// A text without its quotes.
 #[derive(Debug, Drop)]
 pub struct TextLeaf {
-    pub text: Word,
+    pub text: ShortWord,
     pub start: u32,
     pub end: u32,
 }
@@ -43,7 +48,7 @@ pub enum Operand {
     /// `$SELF.C`, `$PARENT.C` or `$ROOT.C`.
     Owned(Owner, NameLeaf),
     /// `?X.C`: a characteristic of a variable's object.
-    Member(NameLeaf, NameLeaf),
+    Member(Apart<NameLeaf>, NameLeaf),
     /// `?V`: a variable of a WHERE.
     Variable(NameLeaf),
 }
@@ -116,7 +121,7 @@ pub enum Item {
 pub enum Relation {
     Compared(Box<Term>, Relator, Box<Term>),
     /// `A IN ( 'X' , 1 - 5 )`.
-    Within(Operand, Listed<Item>),
+    Within(Apart<Operand>, Listed<Item>),
 }
 
 /// A condition.
@@ -129,7 +134,7 @@ pub enum Condition {
     /// `SPECIFIED A`, and `A SPECIFIED` too.
     Specified(Operand),
     /// `PART_OF ( ?X , ?Y )`.
-    PartOf(NameLeaf, NameLeaf),
+    PartOf(Apart<NameLeaf>, NameLeaf),
 }
 
 /// `column = term` in a TABLE.
@@ -153,7 +158,7 @@ pub enum Action {
     Assign(NameLeaf, Box<Term>),
     SetDefault(NameLeaf, Box<Term>),
     DelDefault(NameLeaf, Box<Term>),
-    Table(TableCall),
+    Table(Apart<TableCall>),
 }
 
 /// A statement of a procedure, with its IF.
@@ -167,7 +172,7 @@ pub struct Statement {
 #[derive(Debug, Drop)]
 pub enum Demand {
     Relation(Relation),
-    Table(TableCall),
+    Table(Apart<TableCall>),
     False,
 }
 

@@ -76,7 +76,9 @@ pub fn instance_of(at: At, objects: &[Object], operand: &Operand) -> Instance
     match operand {
         Operand::Plain(_) => Instance::Own,
         Operand::Owned(owner, _) => of_owner(at, *owner),
-        Operand::Member(variable, _) => of_object(object_called(objects, variable.name.bytes())),
+        Operand::Member(variable, _) => {
+            of_object(object_called(objects, variable.get().name.bytes()))
+        }
         Operand::Variable(leaf) => of_object(object_with_alias(objects, leaf.name.bytes())),
     }
 }

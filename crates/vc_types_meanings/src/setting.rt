@@ -90,7 +90,7 @@ impl<'n, 'm, 't> Setting<'n, 'm, 't> {
                 self.names,
                 self.place.at,
                 leaf.name.bytes(),
-                self.referent(variable),
+                self.referent(variable.get()),
             ),
             Operand::Variable(leaf) => variable_value(self.place.at, self.referent(leaf)),
         }

@@ -53,7 +53,7 @@ pub fn put_parted<'a>(
         Condition::Relation(_) => Ok(()),
         Condition::Specified(_) => Ok(()),
         Condition::PartOf(part, whole) => {
-            out.push(part)?;
+            out.push(part.get())?;
             out.push(whole)
         }
     }

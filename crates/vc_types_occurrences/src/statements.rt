@@ -90,7 +90,7 @@ fn put_action_call<'a>(
         Action::Assign(_, _) => Ok(()),
         Action::SetDefault(_, _) => Ok(()),
         Action::DelDefault(_, _) => Ok(()),
-        Action::Table(call) => out.push(call),
+        Action::Table(call) => out.push(call.get()),
     }
 }
 
@@ -117,7 +117,7 @@ fn put_demanded_call<'a>(
 {
     match demand {
         Demand::Relation(_) => Ok(()),
-        Demand::Table(call) => out.push(call),
+        Demand::Table(call) => out.push(call.get()),
         Demand::False => Ok(()),
     }
 }

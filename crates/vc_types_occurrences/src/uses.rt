@@ -106,7 +106,7 @@ fn put_relation_uses(
             put_left_uses(out, setting, for_set, left)?;
             put_term_uses(out, setting, right)
         }
-        Relation::Within(operand, _) => put_set(out, setting, operand),
+        Relation::Within(operand, _) => put_set(out, setting, operand.get()),
     }
 }
 

@@ -136,7 +136,7 @@ fn relates_wrongly(setting: &Setting, relation: &Relation) -> bool
             setting, left, *relator, right,
         ),
         Relation::Within(operand, items) => {
-            some_item_differs(sort_of_operand(setting, operand), items.as_slice())
+            some_item_differs(sort_of_operand(setting, operand.get()), items.as_slice())
         }
     }
 }

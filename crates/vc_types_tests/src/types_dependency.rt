@@ -6,7 +6,8 @@ use vc_model_parts::{
     Characteristic, Class, Model, NamedDependency, Net, Object as Material, Table, Values,
 };
 use vc_syntax_tree::{
-    Condition, Dependency, NameLeaf, NumberLeaf, Operand, Relation, Relator, Term, TextLeaf,
+    Condition, Dependency, NameLeaf, NumberLeaf, Operand, Relation, Relator, ShortWord, Term,
+    TextLeaf,
 };
 use vc_types::{At, Place, TypeFaultKind};
 use vc_types_dependency::{Instance, TypeFault, type_dependency, type_term};
@@ -77,7 +78,7 @@ fn model(alloc: Global) -> Result<Model, AllocError> {
 
 fn operand(alloc: Global) -> Result<Operand, AllocError> {
     Ok(Operand::Plain(NameLeaf {
-        name: word(alloc, "A")?,
+        name: ShortWord::from_bytes(alloc, b"A")?,
         start: 0,
         end: 1,
     }))
@@ -85,7 +86,7 @@ fn operand(alloc: Global) -> Result<Operand, AllocError> {
 
 fn text(alloc: Global) -> Result<Term, AllocError> {
     Ok(Term::Text(TextLeaf {
-        text: word(alloc, "X")?,
+        text: ShortWord::from_bytes(alloc, b"X")?,
         start: 4,
         end: 7,
     }))

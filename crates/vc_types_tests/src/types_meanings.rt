@@ -6,7 +6,9 @@ use std::test::Fail;
 use vc_model_parts::{
     Characteristic, Class, Model, NamedDependency, Net, Object as Material, Table, Values,
 };
-use vc_syntax_tree::{Alias, Constraint, Dependency, NameLeaf, Object, ObjectKind, Operand, Owner};
+use vc_syntax_tree::{
+    Alias, Apart, Constraint, Dependency, NameLeaf, Object, ObjectKind, Operand, Owner, ShortWord,
+};
 use vc_types::{At, Meaning, Place};
 use vc_types_meanings::{Setting, borrowed};
 use vc_types_names::Names;
@@ -18,7 +20,7 @@ fn word<R: Abort>(rt: &R, alloc: Global, text: &str) -> Word {
 
 fn leaf<R: Abort>(rt: &R, alloc: Global, text: &str) -> NameLeaf {
     NameLeaf {
-        name: word(rt, alloc, text),
+        name: ShortWord::from_bytes(alloc, text.as_bytes()).expect(rt, "memory"),
         start: 0,
         end: 0,
     }
@@ -147,7 +149,8 @@ fn lacks_a_parent<R: Abort>(rt: &R, alloc: Global) -> bool {
 
 fn is_of_the_object<R: Abort>(rt: &R, alloc: Global) -> bool {
     let constraint = constraint(rt, alloc);
-    let member = Operand::Member(leaf(rt, alloc, "X"), leaf(rt, alloc, "A"));
+    let variable = Apart::new(alloc, leaf(rt, alloc, "X")).expect(rt, "memory");
+    let member = Operand::Member(variable, leaf(rt, alloc, "A"));
     let meaning = meaning_at(rt, alloc, At::Constraint, &constraint, &member);
     meaning == Meaning::Characteristic(0)
 }

@@ -4,7 +4,9 @@ use std::alloc::Global;
 use std::process::Abort;
 use std::test::Fail;
 use vc_model_parts::{Characteristic, Class, Model, NamedDependency, Net, Object, Table};
-use vc_syntax_tree::{Action, Condition, Dependency, NameLeaf, Operand, Statement, Term};
+use vc_syntax_tree::{
+    Action, Apart, Condition, Dependency, NameLeaf, Operand, ShortWord, Statement, Term,
+};
 use vc_types::{At, Place};
 use vc_types_meanings::{Setting, Tree, borrowed};
 use vc_types_names::Names;
@@ -13,7 +15,7 @@ use vc_value::{Listed, Word};
 
 fn leaf<R: Abort>(rt: &R, alloc: Global, text: &str) -> NameLeaf {
     NameLeaf {
-        name: Word::from_bytes(alloc, text.as_bytes()).expect(rt, "memory"),
+        name: ShortWord::from_bytes(alloc, text.as_bytes()).expect(rt, "memory"),
         start: 0,
         end: 0,
     }
@@ -44,7 +46,8 @@ fn model(alloc: Global) -> Model {
 // `$SELF.A = B IF PART_OF ( ?X , ?Y )`.
 fn procedure<R: Abort>(rt: &R, alloc: Global) -> Dependency {
     let term = Term::Operand(Operand::Plain(leaf(rt, alloc, "B")));
-    let condition = Condition::PartOf(leaf(rt, alloc, "X"), leaf(rt, alloc, "Y"));
+    let part = Apart::new(alloc, leaf(rt, alloc, "X")).expect(rt, "memory");
+    let condition = Condition::PartOf(part, leaf(rt, alloc, "Y"));
     let mut statements = Listed::new(alloc);
     statements
         .push(Statement {
