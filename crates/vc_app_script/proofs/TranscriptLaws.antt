@@ -45,6 +45,10 @@ begins desk plan saved faults Holds its none holds =
     subst (λ p. Holds p (start_state saved faults)) its
     (subst (Holds desk.plan) (ap (λ sessions. kept sessions saved faults) none) holds)
 
+-- the state of a desk beside its keeper
+abbrev pub state_beside : {Keeper : Type 0} → (Keeper → Option Texts) → (Keeper → ℕ) → Kept → Keeper → State
+state_beside texts faults desk keeper = state_of desk.sessions (texts keeper) (faults keeper)
+
 -- what is so far, from the state before
 pub record SoFar (plan : Plan) (script left : List ℕ) (before state : State) (old new : Option (List ℕ)) : Type 0 where
   pub done : List (List ℕ)
@@ -52,19 +56,6 @@ pub record SoFar (plan : Plan) (script left : List ℕ) (before state : State) (
   pub bytes : List ℕ
   pub transcript : Transcript plan before done bytes state
   pub written : Appends old new bytes
-
-pub so_far_push : (plan : Plan) (script left : List ℕ) (before state : State) (old new : Option (List ℕ))
-    (line later : List ℕ) (next : State) (newer : Option (List ℕ))
-    → SoFar plan script left before state old new → lines_of left ≡ line ∷ lines_of later
-    → LineDone plan state line next new newer
-    → SoFar plan script later before next old newer
-so_far_push plan script left before state old new line later next newer s first d = record {
-  done = s.done ++ line ∷ [];
-  lines = s.lines ∙ ap (λ ls. s.done ++ ls) first ∙ sym (append_assoc s.done (line ∷ []) (lines_of later));
-  bytes = s.bytes ++ d.bytes;
-  transcript = Run-push (AnswersLine plan) before s.done line s.bytes state d.bytes next s.transcript d.answer;
-  written = Appends-trans old new newer s.bytes d.bytes s.written d.written;
-}
 
 pub all_done : (plan : Plan) (script left : List ℕ) (before state : State) (old new : Option (List ℕ))
     → SoFar plan script left before state old new → lines_of left ≡ [] → IsAnswered plan script before state old new
@@ -75,38 +66,52 @@ all_done plan script left before state old new s none = record {
   written = s.written;
 }
 
-pub some_done : (plan : Plan) (script left : List ℕ) (before state : State) (old new : Option (List ℕ))
-    (line later : List ℕ) (next : State) (newer : Option (List ℕ))
-    → SoFar plan script left before state old new → lines_of left ≡ line ∷ lines_of later
-    → LineUnsaid plan state line next new newer
-    → IsAnsweredSoFar plan script before next old newer
-some_done plan script left before state old new line later next newer s first d = record {
-  done = s.done;
-  left = lines_of left;
-  lines = s.lines;
-  bytes = s.bytes;
-  last = state;
-  transcript = s.transcript;
-  stands = subst (λ ls. StandsAt plan state ls next) (sym first) d.stands;
-  written = subst (λ b. Appends old newer b) (append-nil s.bytes)
-      (Appends-trans old new newer s.bytes [] s.written d.written);
-}
+-- one line more, by a desk that has the plan
+module _ (plan own : Plan) (script left : List ℕ) (before state : State) (old new : Option (List ℕ))
+    (line later : List ℕ) (next : State) (newer : Option (List ℕ)) (s : SoFar plan script left before state old new)
+    (first : lines_of left ≡ line ∷ lines_of later)
+    (same : own ≡ plan) where
+  pub so_far_push : LineDone own state line next new newer → SoFar plan script later before next old newer
+  so_far_push made =
+      let d : LineDone plan state line next new newer
+      = subst (λ p. LineDone p state line next new newer) same made in
+      record {
+        done = s.done ++ line ∷ [];
+        lines = s.lines ∙ ap (λ ls. s.done ++ ls) first ∙ sym (append_assoc s.done (line ∷ []) (lines_of later));
+        bytes = s.bytes ++ d.bytes;
+        transcript = Run-push (AnswersLine plan) before s.done line s.bytes state d.bytes next s.transcript d.answer;
+        written = Appends-trans old new newer s.bytes d.bytes s.written d.written;
+      }
 
-pub cut_short : (plan : Plan) (script left : List ℕ) (before state : State) (old new : Option (List ℕ))
-    (line later : List ℕ) (next : State) (newer : Option (List ℕ))
-    → SoFar plan script left before state old new → lines_of left ≡ line ∷ lines_of later
-    → LineCut plan state line next new newer
-    → IsCutShort plan script before next old newer
-cut_short plan script left before state old new line later next newer s first d = record {
-  done = s.done;
-  line = line;
-  left = lines_of later;
-  lines = s.lines ∙ ap (λ ls. s.done ++ ls) first;
-  bytes = s.bytes;
-  last = state;
-  transcript = s.transcript;
-  front = d.front;
-  rest = d.rest;
-  answer = d.answer;
-  written = Appends-trans old new newer s.bytes d.front s.written d.written;
-}
+  pub some_done : LineUnsaid own state line next new newer → IsAnsweredSoFar plan script before next old newer
+  some_done made =
+      let d : LineUnsaid plan state line next new newer
+      = subst (λ p. LineUnsaid p state line next new newer) same made in
+      record {
+        done = s.done;
+        left = lines_of left;
+        lines = s.lines;
+        bytes = s.bytes;
+        last = state;
+        transcript = s.transcript;
+        stands = subst (λ ls. StandsAt plan state ls next) (sym first) d.stands;
+        written = subst (λ b. Appends old newer b) (append-nil s.bytes)
+            (Appends-trans old new newer s.bytes [] s.written d.written);
+      }
+
+  pub cut_short : LineCut own state line next new newer → IsCutShort plan script before next old newer
+  cut_short made =
+      let d : LineCut plan state line next new newer = subst (λ p. LineCut p state line next new newer) same made in
+      record {
+        done = s.done;
+        line = line;
+        left = lines_of later;
+        lines = s.lines ∙ ap (λ ls. s.done ++ ls) first;
+        bytes = s.bytes;
+        last = state;
+        transcript = s.transcript;
+        front = d.front;
+        rest = d.rest;
+        answer = d.answer;
+        written = Appends-trans old new newer s.bytes d.front s.written d.written;
+      }

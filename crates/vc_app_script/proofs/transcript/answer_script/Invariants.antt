@@ -1,14 +1,14 @@
 use Rattle.std.proofs.Common.{◌≡◌, ◌≤◌, length}
-use Rattle.vc_desk.specs.Desks.{IsDesk, state_of}
-use Rattle.vc_app_script.proofs.TranscriptLaws.{SoFar}
+use Rattle.vc_desk.specs.Desks.{IsDesk}
+use Rattle.vc_app_script.proofs.TranscriptLaws.{SoFar, state_beside}
 use Rattle.vc_app_script.proofs.transcript.answer_script.Given as goal
 
 -- the lines before `rest` are answered
 abbrev pub invariant-loop-line : goal.invariant-loop-line
 invariant-loop-line g l = record {
   so_far : SoFar l.fn.desk.plan l.script l.rest
-      (state_of l.fn.desk.sessions (g.K.Keeper.texts l.fn.keeper) (g.K.Keeper.faults l.fn.keeper))
-      (state_of l.desk.sessions (g.K.Keeper.texts l.keeper) (g.K.Keeper.faults l.keeper))
+      (state_beside g.K.Keeper.texts g.K.Keeper.faults l.fn.desk l.fn.keeper)
+      (state_beside g.K.Keeper.texts g.K.Keeper.faults l.desk l.keeper)
       (g.S.Sink.written l.fn.out) (g.S.Sink.written l.out);
   later : g.S.Sink.faults l.fn.out ≤ g.S.Sink.faults l.out;
   is : IsDesk l.desk;
