@@ -1,6 +1,6 @@
 //! Owned bytes of names and texts in trees, which are short nearly always.
 
-ghost use Rattle.std.specs.Prelude.{◌≡◌, IfOk, IfSome};
+ghost use Rattle.std.specs.Prelude.{◌≡◌, ◌<◌, length, IfOk, IfSome, IfNone};
 ghost use Rattle.vc_value.specs.Words.{same_bytes};
 
 use std::alloc::{AllocError, Global};
@@ -29,7 +29,8 @@ impl Model for Few {
 impl Few {
     /// These bytes, if they are no more.
     pub fn from_bytes(bytes: &[u8]) -> Option<Few>
-        ensures { IfSome result (λ few. few ≡ bytes.now) }
+        ensures some { IfSome result (λ few. few ≡ bytes.now) }
+        ensures none { IfNone result (15 < length bytes.now) }
     {
         if bytes.len() > MOST {
             return None;
