@@ -5,8 +5,7 @@ ghost use Rattle.vc_net_places.specs.Cells.{total};
 ghost use Rattle.vc_plan.specs.Domains.{numbers_below};
 ghost use Rattle.vc_app_gen.specs.Tallies as tallies;
 
-use vc_plan::{Plan, View};
-use vc_rule_terms::elements::element;
+use vc_plan::{Plan, View, element};
 use vc_value::{Value, Word};
 
 /// How many values are known, and the numbers behind their V together.

@@ -4,7 +4,7 @@ use Rattle.vc_plan.specs.declared.plans.Line.{Line}
 use Rattle.vc_plan.specs.declared.plans.Plan.{Plan}
 use Rattle.vc_plan.specs.Orders.{are_in_order}
 use Rattle.vc_plan.specs.Valid.{IsValid}
-use Rattle.vc_rule_terms.specs.Computing.{TermsFit}
+use Rattle.vc_plan_values.specs.Computing.{TermsFit}
 
 abbrev pub lines_by_slot : List Line → Bool
 lines_by_slot lines = are_in_order (λ a b. nat_le a.slot b.slot) lines

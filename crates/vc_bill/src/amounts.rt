@@ -4,11 +4,10 @@ ghost use Rattle.std.specs.Prelude.{◌≡◌};
 ghost use Rattle.vc_plan.specs.Bills.{stored};
 ghost use Rattle.vc_plan.specs.Parts.{amount_at, quantity_of};
 ghost use Rattle.vc_plan.specs.Readings.{full_reading};
-ghost use Rattle.vc_rule_terms.specs.Computing.{LiesInGrains, TermsFit};
+ghost use Rattle.vc_plan_values.specs.Computing.{LiesInGrains, TermsFit};
 
-use vc_plan::{Plan, Reading};
+use vc_plan::{Plan, Reading, element};
 use vc_rule_readings::parts::amount;
-use vc_rule_terms::elements::element;
 use vc_value::Dec;
 
 /// The amount of the plan's term of this number, where it has one.

@@ -4,7 +4,7 @@ ghost use Rattle.std.specs.Prelude.{◌≡◌, ◌<◌, ◌≤◌, ◌+◌, ◌&
 ghost use Rattle.vc_plan.specs.Bills.{bill_from, bill_line, bill_of, component_of, is_line_of, takes_line};
 ghost use Rattle.vc_plan.specs.Domains.{numbers_below};
 ghost use Rattle.vc_plan.specs.Readings.{full_reading};
-ghost use Rattle.vc_rule_terms.specs.Computing.{LiesInGrains, TermsFit};
+ghost use Rattle.vc_plan_values.specs.Computing.{LiesInGrains, TermsFit};
 ghost use Rattle.vc_bill.specs.Fitting.{BillFits};
 ghost use Rattle.vc_bill.specs.Walking.{line_bill};
 
@@ -13,8 +13,7 @@ use crate::components::{component_at, components_of};
 use crate::ranges::{end_of, first_of};
 use crate::selecting::is_selected;
 use std::alloc::{AllocError, Global};
-use vc_plan::{BillLine, Line, Plan, Reading};
-use vc_rule_terms::elements::element;
+use vc_plan::{BillLine, Line, Plan, Reading, element};
 use vc_value::Listed;
 
 // Whether a line is taken: a configurable one where its slot is here, another by its selection conditions.

@@ -3,7 +3,7 @@
 ghost use Rattle.std.specs.Prelude.{◌≡◌, ◌<◌, ◌^◌, ◌&&◌, ◌++◌, length, slice_get, IfOk, OnOk, Some};
 ghost use Rattle.vc_plan.specs.Bills.{operation_line, routing_of, takes_operation};
 ghost use Rattle.vc_plan.specs.Readings.{full_reading};
-ghost use Rattle.vc_rule_terms.specs.Computing.{LiesInGrains, TermsFit};
+ghost use Rattle.vc_plan_values.specs.Computing.{LiesInGrains, TermsFit};
 ghost use Rattle.vc_bill.specs.Fitting.{BillFits};
 ghost use Rattle.vc_bill.specs.Walking.{taken_operation};
 

@@ -6,11 +6,11 @@ ghost use Rattle.vc_plan.specs.Bills.{is_selected};
 ghost use Rattle.vc_plan.specs.Kleene.{is_true};
 ghost use Rattle.vc_plan.specs.Readings.{full_reading};
 ghost use Rattle.vc_plan.specs.Truth.{truth_at};
-ghost use Rattle.vc_rule_terms.specs.Computing.{LiesInGrains, TermsFit};
+ghost use Rattle.vc_plan_values.specs.Computing.{LiesInGrains, TermsFit};
 
 use vc_plan::{Plan, Reading, Selection};
+use vc_plan_values::is_true;
 use vc_rule_readings::full_truth;
-use vc_show::sets::is_true;
 
 fn some_holds<R: Reading>(plan: &Plan, reading: &R, selections: &[Selection]) -> bool
     requires fit { TermsFit plan.now }

@@ -7,8 +7,7 @@ ghost use Rattle.vc_bill.specs.Texts as texts;
 
 use crate::numbers::{put_decimal, put_digits};
 use std::alloc::{AllocError, Global};
-use vc_plan::{BillLine, Line, Operation, OperationLine, Plan};
-use vc_rule_terms::elements::element;
+use vc_plan::{BillLine, Line, Operation, OperationLine, Plan, element};
 use vc_value::{Dec, Word};
 
 // Puts a number last, and a space.

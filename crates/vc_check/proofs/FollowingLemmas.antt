@@ -24,7 +24,7 @@ use Rattle.vc_plan.proofs.PlanLaws.Facts.{Facts, facts}
 use Rattle.vc_plan_reasons.specs.Checking.{are_of, first_refused_step, follows, given_by, is_accepted, set_with}
 use Rattle.vc_plan_reasons.specs.Checking.{giver_of, things_read}
 use Rattle.vc_plan_reasons.proofs.ReasonLaws.Closed.{accepted_unrefused}
-use Rattle.vc_check_truth.specs.Computing.{LiesInGrains}
+use Rattle.vc_plan_values.specs.Computing.{LiesInGrains}
 use Rattle.vc_check.specs.Citing.{CanCheck}
 
 -- a variable counts for more than one atom

@@ -12,7 +12,7 @@ use Rattle.vc_plan.specs.Sources.{Sources}
 use Rattle.vc_plan_reasons.specs.Checking.{are_of}
 use Rattle.vc_plan_reasons.specs.Things.{giver_reads}
 use Rattle.vc_check_board.specs.Fitting.{HaveGrains}
-use Rattle.vc_check_truth.specs.Computing.{TermsFit}
+use Rattle.vc_plan_values.specs.Computing.{TermsFit}
 
 -- a valid plan's terms fit, its atoms, rules and variables are few, and its variables have grains
 pub record CanCheck (plan : Plan) : Type 0 where

@@ -20,11 +20,11 @@ use crate::accepting::refused;
 use crate::citing::cite;
 use crate::following::{clashes_at, reads_all};
 use std::alloc::{AllocError, Global};
-use vc_check_board::values::{element, same_atom};
+use vc_check_board::values::same_atom;
 use vc_check_board::{Board, is_clear};
 use vc_check_givers::Giver;
 use vc_check_givers::givers::is_by;
-use vc_plan::{Atom, Clash, Culprit, Kind, Origin, Plan, Step};
+use vc_plan::{Atom, Clash, Culprit, Kind, Origin, Plan, Step, element};
 use vc_plan_sources::Sources;
 use vc_value::Listed;
 

@@ -1,4 +1,3 @@
 pub mod BoardLemmas
 pub mod ClearLemmas
-pub mod GrainLemmas
 pub mod RangeLemmas

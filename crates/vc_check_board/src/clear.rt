@@ -7,9 +7,10 @@ ghost use Rattle.vc_plan.specs.Domains.{atom_count};
 ghost use Rattle.vc_plan.specs.Seen.{is_here, is_parent_here, is_slot_here, says, seen_of};
 ghost use Rattle.vc_check_board.specs.Fitting.{HaveGrains, fits, grain_fits, is_apart};
 
-use crate::grains::{grain_count, holds, some_holds};
-use crate::values::{element, is_value};
-use vc_plan::{Atom, Plan, View};
+use crate::values::is_value;
+use vc_plan::{Atom, Plan, View, element};
+use vc_plan_values::grains::holds;
+use vc_plan_values::{grain_count, some_holds};
 use vc_value::Value;
 
 /// Whether the plan has what the atom is of.

@@ -3,7 +3,6 @@
 
 pub mod board;
 pub mod clear;
-pub mod grains;
 pub mod values;
 
 pub use board::Board;

@@ -9,9 +9,8 @@ ghost use Rattle.vc_check_chains.specs.Places.{HasPlaces};
 
 use std::alloc::{AllocError, Global};
 use vc_check::citing::cite;
-use vc_check_board::values::element;
 use vc_check_board::{Board, is_clear};
-use vc_plan::{Action, Atom, Culprit, FilledColumn, Mark, Origin, Plan, Procedure, Step};
+use vc_plan::{Action, Atom, Culprit, FilledColumn, Mark, Origin, Plan, Procedure, Step, element};
 use vc_plan_sources::Sources;
 use vc_value::{Listed, Value};
 

@@ -9,9 +9,8 @@ ghost use Rattle.vc_plan_reasons.specs.Things.{slot_at, slots_of_var, thing_of, 
 ghost use Rattle.vc_check_givers.specs.Givers.{giver_meant};
 
 use crate::givers::Giver;
-use vc_check_board::values::element;
 use vc_check_table::columns::is_given;
-use vc_plan::{Atom, Condition, Kind, Plan, Rule, Term};
+use vc_plan::{Atom, Condition, Kind, Plan, Rule, Term, element};
 
 #[tactic(auto, using(crate::proofs::ReadingLemmas::parts))]
 fn term_reads(term: &Term, var: u32) -> bool

@@ -9,36 +9,27 @@ ghost use Rattle.vc_plan.specs.Gives.{acts, giver_says, gives, kind_gives, rule_
 ghost use Rattle.vc_plan.specs.Kleene.{is_true};
 ghost use Rattle.vc_plan.specs.Seen.{same_atom};
 ghost use Rattle.vc_plan_reasons.specs.Checking.{is_silent};
-ghost use Rattle.vc_check_truth.specs.Computing.{LiesInGrains, TermsFit};
+ghost use Rattle.vc_plan_values.specs.Computing.{LiesInGrains, TermsFit};
 ghost use Rattle.vc_check_gives.specs.Parts.{all_said};
 ghost use Rattle.vc_check_givers.specs.Givers.{giver_meant, said_given};
 
 use crate::givers::Giver;
 use vc_check_board::clear::says;
-use vc_check_board::values::element;
 use vc_check_gives::comparing::compare;
 use vc_check_gives::equating::equate;
 use vc_check_gives::kinds::{among, if_here, last, line, of_entry, of_user};
 use vc_check_gives::{Part, Parts, parts};
 use vc_check_table as tables;
 use vc_check_truth::truth;
-use vc_plan::{Atom, Binding, Kind, Kleene, Plan, Rule, View};
+use vc_plan::{Atom, Binding, Kind, Plan, Rule, View, element};
 use vc_plan_sources::Sources;
+use vc_plan_values::is_true;
 
 /// What a giver says: parts, or a table call of the rule.
 #[derive(Clone, Copy)]
 pub enum Said<'a> {
     Of(Parts<'a>),
     ByTable(&'a Rule, u32, &'a [Binding]),
-}
-
-fn is_true(truth: Kleene) -> bool
-    ensures { result ≡ is_true truth }
-{
-    match truth {
-        Kleene::True => true,
-        _ => false,
-    }
 }
 
 fn are_here<V: View>(view: &V, slots: &[u32]) -> bool

@@ -1,3 +1,2 @@
-pub mod AssignLemmas
 pub mod CountingLemmas
 pub mod PartLemmas

@@ -11,7 +11,7 @@ use Rattle.vc_plan.specs.Domains.{grains_of, is_grain_with}
 use Rattle.vc_plan.specs.Pieces.{is_inside, is_outside, is_part}
 use Rattle.vc_plan.specs.Restrictions.{failing}
 use Rattle.vc_plan.specs.Seen.{Seen, says}
-use Rattle.vc_check_truth.specs.Values.{meant}
+use Rattle.vc_plan_values.specs.Values.{meant}
 use Rattle.vc_check_gives.specs.declared.parts.Part.{Part}
 use Rattle.vc_check_gives.specs.declared.parts.Part.TheVariants.{Nothing, Clash, Slot, To, Others}
 use Rattle.vc_check_gives.specs.declared.parts.Parts.{Parts}

@@ -3,47 +3,17 @@
 ghost use Rattle.std.specs.Prelude.{◌≡◌, ◌^◌, ◌<◌};
 ghost use Rattle.vc_plan.specs.Domains.{atom_count};
 ghost use Rattle.vc_plan.specs.Kleene.{is_false};
-ghost use Rattle.vc_plan.specs.Restrictions.{compare, lone, lone_inferred, related};
-ghost use Rattle.vc_check_truth.specs.Computing.{LiesInGrains, TermsFit};
-ghost use Rattle.vc_check_truth.specs.Values.{meant_if};
+ghost use Rattle.vc_plan.specs.Restrictions.{compare, lone_inferred, related};
+ghost use Rattle.vc_plan_values.specs.Computing.{LiesInGrains, TermsFit};
+ghost use Rattle.vc_plan_values.specs.Values.{meant_if};
 ghost use Rattle.vc_check_gives.specs.Parts.{given_by, part_given};
 
 use crate::confining::confined;
-use crate::kinds::is_inferred;
 use crate::parts::{Part, Parts};
 use crate::tests::Test;
-use vc_check_board::values::element;
-use vc_check_truth::{TermValue, compared, term_value, turned};
-use vc_plan::{Kleene, Plan, Relation, Rule, Term, View};
-
-/// The variable that the term is, if it is one alone.
-pub fn lone(plan: &Plan, term: u32) -> Option<u32>
-    ensures { result ≡ lone plan.now term }
-{
-    match element(plan.terms.as_slice(), term) {
-        Some(Term::Read(var)) => Some(*var),
-        _ => None,
-    }
-}
-
-/// The variable that the term is, if it is one alone that the rule may narrow.
-pub fn lone_inferred(plan: &Plan, rule: &Rule, term: u32) -> Option<u32>
-    ensures { result ≡ lone_inferred plan.now rule.now term }
-{
-    match lone(plan, term) {
-        Some(var) if is_inferred(rule, var) => Some(var),
-        _ => None,
-    }
-}
-
-fn is_false(truth: Kleene) -> bool
-    ensures { result ≡ is_false truth }
-{
-    match truth {
-        Kleene::False => true,
-        _ => false,
-    }
-}
+use vc_check_truth::term_value;
+use vc_plan::{Plan, Relation, Rule, View};
+use vc_plan_values::{TermValue, compared, is_false, lone_inferred, turned};
 
 fn related<'a, V: View>(
     plan: &Plan,

@@ -11,8 +11,7 @@ ghost use Rattle.vc_check_gives.specs.Parts.{part_given, passes_by};
 use crate::grains_left::{Remaining, left_with, only_value};
 use crate::parts::Part;
 use crate::tests::Test;
-use vc_check_board::values::element;
-use vc_plan::{Plan, View};
+use vc_plan::{Plan, View, element};
 use vc_value::Value;
 
 /// Whether the net may exclude grains of the variable.

@@ -1,46 +1,18 @@
 //! Equations of two terms.
 
-ghost use Rattle.std.specs.Prelude.{◌≡◌, ◌≤◌, ◌&&◌, min, is_none};
-ghost use Rattle.vc_plan.specs.Pieces.{same_value};
+ghost use Rattle.std.specs.Prelude.{◌≡◌, ◌&&◌, is_none};
 ghost use Rattle.vc_plan.specs.Readings.{net_reading};
-ghost use Rattle.vc_plan.specs.Restrictions.{assigned, decimals_in_side, differ, equal_to, equate, rounded_value};
-ghost use Rattle.vc_plan.specs.Truth.{number_in, number_of_value, value_at};
-ghost use Rattle.vc_check_truth.specs.Computing.{ArgumentFits, LiesInGrains, TermsFit};
-ghost use Rattle.vc_check_truth.specs.Values.{meant, meant_if};
+ghost use Rattle.vc_plan.specs.Restrictions.{assigned, equal_to, equate};
+ghost use Rattle.vc_plan.specs.Truth.{number_of_value, value_at};
+ghost use Rattle.vc_plan_values.specs.Computing.{ArgumentFits, LiesInGrains, TermsFit};
+ghost use Rattle.vc_plan_values.specs.Values.{meant, meant_if};
 ghost use Rattle.vc_check_gives.specs.Parts.{given_by, part_given};
-ghost use Rattle.vc_check_gives.specs.Storing.{stored_value};
 
-use crate::comparing::{lone, lone_inferred};
 use crate::parts::{Part, Parts};
-use crate::tests::decimals_of;
-use vc_check_board::grains::some_holds;
-use vc_check_truth::{TermValue, term_value};
+use vc_check_truth::term_value;
 use vc_plan::{Plan, Rule, View};
-use vc_value::Value;
-
-fn rounded_value(decimals: u8, value: TermValue) -> TermValue
-    requires decimals { decimals ≤ 6 }
-    requires fits { ArgumentFits (number_in (meant value)) }
-    ensures { meant result ≡ rounded_value decimals (meant value) }
-{
-    match value {
-        TermValue::Text(text) => TermValue::Text(text),
-        TermValue::Number(number) => TermValue::Number(number.rounded(decimals)),
-    }
-}
-
-// The value, where it is small enough to be stored.
-fn stored_value(value: TermValue) -> Option<Value>
-    ensures { result ≡ stored_value (meant value) }
-{
-    match value {
-        TermValue::Text(text) => Some(Value::Text(text)),
-        TermValue::Number(number) => match number.to_dec() {
-            Some(number) => Some(Value::Num(number)),
-            None => None,
-        },
-    }
-}
+use vc_plan_values::rounding::{decimals_of_sides, differ, rounded_value};
+use vc_plan_values::{TermValue, decimals_of, lone, lone_inferred, some_holds, stored_value};
 
 fn assigned<'a>(plan: &Plan, var: u32, value: TermValue) -> Part<'a>
     requires { TermsFit plan.now }
@@ -79,54 +51,6 @@ fn value_of_side<V: View>(plan: &Plan, view: &V, term: u32) -> Option<TermValue>
     ensures small { ArgumentFits (number_of_value (meant_if result)) }
 {
     term_value(plan, view, term)
-}
-
-fn same_value(first: TermValue, second: TermValue) -> bool
-    ensures { result ≡ same_value (meant first) (meant second) }
-{
-    match (first, second) {
-        (TermValue::Text(text), TermValue::Text(other)) => text == other,
-        (TermValue::Number(number), TermValue::Number(other)) => {
-            number.millionths == other.millionths
-        }
-        _ => false,
-    }
-}
-
-fn differ(decimals: u8, first: Option<TermValue>, second: Option<TermValue>) -> bool
-    requires decimals { decimals ≤ 6 }
-    requires first { ArgumentFits (number_of_value (meant_if first)) }
-    requires second { ArgumentFits (number_of_value (meant_if second)) }
-    ensures { result ≡ differ decimals (meant_if first) (meant_if second) }
-{
-    match (first, second) {
-        (Some(first), Some(second)) => {
-            !same_value(
-                rounded_value(decimals, first),
-                rounded_value(decimals, second),
-            )
-        }
-        _ => false,
-    }
-}
-
-fn decimals_in_side(plan: &Plan, var: Option<u32>) -> u8
-    requires { TermsFit plan.now }
-    ensures is { result ≡ decimals_in_side plan.now var }
-    ensures few { result ≤ 6 }
-{
-    match var {
-        Some(var) => decimals_of(plan, var),
-        None => 6,
-    }
-}
-
-fn decimals_of_sides(plan: &Plan, left: Option<u32>, right: Option<u32>) -> u8
-    requires { TermsFit plan.now }
-    ensures is { result ≡ min (decimals_in_side plan.now left) (decimals_in_side plan.now right) }
-    ensures few { result ≤ 6 }
-{
-    decimals_in_side(plan, left).min(decimals_in_side(plan, right))
 }
 
 fn are_none(left: Option<u32>, right: Option<u32>) -> bool

@@ -11,8 +11,9 @@ ghost use Rattle.vc_check_gives.specs.Counting.{remaining_of, with_one};
 ghost use Rattle.vc_check_gives.specs.Parts.{passes_by};
 
 use crate::tests::{Test, is_grain_with};
-use vc_check_board::grains::{grain_count, holds, piece};
 use vc_plan::{Piece, Plan, View};
+use vc_plan_values::grains::holds;
+use vc_plan_values::{grain_count, piece};
 use vc_value::Value;
 
 /// None, one alone, or more.

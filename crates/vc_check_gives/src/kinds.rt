@@ -9,7 +9,7 @@ ghost use Rattle.vc_plan.specs.Restrictions.{among, is_inferred};
 ghost use Rattle.vc_plan.specs.Seen.{is_here, is_parent_here};
 ghost use Rattle.vc_plan.specs.declared.atoms.Atom.TheVariants.{Here};
 ghost use Rattle.vc_plan_sources.specs.Changes.{entry_from};
-ghost use Rattle.vc_check_truth.specs.Computing.{TermsFit};
+ghost use Rattle.vc_plan_values.specs.Computing.{TermsFit};
 ghost use Rattle.vc_check_gives.specs.Parts.{part_given};
 
 use crate::confining::{clash_if_none, confined, of_not_out};
@@ -18,14 +18,8 @@ use crate::parts::Part;
 use crate::tests::allowed_of;
 use vc_check_board::clear::{is_here, is_parent_here};
 use vc_plan::{Mark, Plan, Restriction, Rule, View};
+use vc_plan_values::is_inferred;
 use vc_value::Value;
-
-/// Whether the rule may narrow the variable.
-pub fn is_inferred(rule: &Rule, var: u32) -> bool
-    ensures { result ≡ is_inferred rule.now var }
-{
-    rule.inferred.as_slice().iter().any(|other| *other == var)
-}
 
 /// What is said where the variable is restricted against literals.
 pub fn among<'a, V: View>(

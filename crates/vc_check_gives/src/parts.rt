@@ -11,9 +11,9 @@ ghost use Rattle.vc_check_gives.specs.declared.parts.Parts.TheVariants.{Both};
 
 use crate::tests::{Test, is_grain_with, passes};
 use vc_check_board::clear::says;
-use vc_check_board::grains::{grain_count, piece};
 use vc_check_board::values::same_atom;
 use vc_plan::{Atom, Plan, View};
+use vc_plan_values::{grain_count, piece};
 use vc_value::Value;
 
 /// A part of what a giver says.

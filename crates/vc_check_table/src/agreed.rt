@@ -8,8 +8,8 @@ ghost use Rattle.vc_plan.specs.TableRows.{agreed, columns_of, has_cell, value_if
 ghost use Rattle.vc_check_table.specs.Columns.{agreed_if, agrees, possible_elsewhere};
 
 use crate::columns::{first_cell, has_cell, is_possible_elsewhere};
-use vc_check_board::grains::some_holds;
 use vc_plan::{Binding, Plan, View};
+use vc_plan_values::some_holds;
 use vc_value::{Listed, Value};
 
 fn first_possible<'a, V: View>(

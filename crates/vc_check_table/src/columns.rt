@@ -9,10 +9,11 @@ ghost use Rattle.vc_plan.specs.TableRows.{cell_passes, columns_of, first_cell, f
 ghost use Rattle.vc_plan.specs.TableRows.{is_column_of, is_possible, is_possible_in, other_columns};
 ghost use Rattle.vc_check_table.specs.Columns.{fits_elsewhere, has_own_cell, has_own_grain};
 
-use vc_check_board::grains::{grain_count, holds};
-use vc_check_board::values::{element, same_value};
+use vc_check_board::values::same_value;
 use vc_check_gives::grains_left::is_left;
-use vc_plan::{Binding, Operand, Plan, View};
+use vc_plan::{Binding, Operand, Plan, View, element};
+use vc_plan_values::grain_count;
+use vc_plan_values::grains::holds;
 use vc_value::Value;
 
 /// Whether the column is given the variable.

@@ -7,8 +7,7 @@ ghost use Rattle.vc_plan.specs.TableRows.{is_possible_in, rows_of};
 ghost use Rattle.vc_check_table.specs.Columns.{keeps, row_keeps};
 
 use crate::columns::{has_grain, is_possible_elsewhere, is_possible_in};
-use vc_check_board::values::element;
-use vc_plan::{Binding, Plan, View};
+use vc_plan::{Binding, Plan, View, element};
 use vc_value::{Listed, Value};
 
 /// The rows of the table; none where there is no such table.

@@ -14,10 +14,10 @@ ghost use Rattle.vc_check_table.specs.Columns.{gives_narrowed, says_narrowed};
 use crate::agreed::agreed;
 use crate::columns::is_given;
 use crate::rows::{keeps, rows_of, some_is_possible};
-use vc_check_board::grains::grain_count;
 use vc_check_gives::confining::{is_restrictable, value_part};
 use vc_check_gives::{Parts, parts};
 use vc_plan::{Atom, Binding, Plan, Rule, View};
+use vc_plan_values::grain_count;
 use vc_value::{Listed, Value};
 
 fn is_dropped<V: View>(

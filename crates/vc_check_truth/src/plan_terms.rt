@@ -3,12 +3,12 @@
 ghost use Rattle.std.specs.Prelude.{◌≡◌};
 ghost use Rattle.vc_plan.specs.Readings.{net_reading};
 ghost use Rattle.vc_plan.specs.Truth.{truth_at, value_at};
-ghost use Rattle.vc_check_truth.specs.Computing.{TermsFit, LiesInGrains};
-ghost use Rattle.vc_check_truth.specs.Values.{meant_if};
+ghost use Rattle.vc_plan_values.specs.Computing.{TermsFit, LiesInGrains};
+ghost use Rattle.vc_plan_values.specs.Values.{meant_if};
 
-use crate::{TermValue, conditions, numbers};
-use vc_check_board::values::element;
-use vc_plan::{Kleene, Plan, View};
+use crate::{conditions, numbers};
+use vc_plan::{Kleene, Plan, View, element};
+use vc_plan_values::TermValue;
 
 /// The truth of the plan's condition of this number at what the view says, as a net asks it: what
 /// has no value yet is unknown.

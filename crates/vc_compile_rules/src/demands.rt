@@ -24,7 +24,7 @@ use vc_compile_sites::{Site, literal_of, lone_of, term_at};
 use vc_plan::{
     Binding as PlanBinding, Kind, Operand as PlanOperand, Relation as PlanRelation, Restriction,
 };
-use vc_rule_terms::relations::turned;
+use vc_plan_values::turned;
 use vc_syntax_tree::{Binding, Demand, Item, Operand, Relation, Relator, TableCall, Term};
 use vc_value::{Listed, Value};
 

@@ -6,8 +6,7 @@ ghost use Rattle.vc_plan.specs.Valid.{IsValid};
 ghost use Rattle.vc_desk_names.specs.Meant as meant;
 ghost use Rattle.vc_show.specs.Fitting.{ShownFits};
 
-use vc_plan::{Named, Plan};
-use vc_rule_terms::elements::element;
+use vc_plan::{Named, Plan, element};
 use vc_show_rows::finding::{class_of, named_of};
 use vc_value::equals_ignoring_case;
 

@@ -6,11 +6,10 @@ ghost use Rattle.vc_value.specs.Decimals.{read_number};
 ghost use Rattle.vc_plan.specs.declared.plans.Named.TheVariants.{Var};
 ghost use Rattle.vc_desk_names.specs.Meant as meant;
 
-use vc_plan::{Named, Plan};
+use vc_plan::{Named, Plan, element};
+use vc_plan_values::texts_of;
 use vc_rule_table::cells::domain_of;
-use vc_rule_terms::elements::element;
 use vc_session::listing::may_be_given;
-use vc_show::sets::texts_of;
 use vc_value::{Dec, Domain, Value};
 
 fn is_word(plan: &Plan, text: u32, word: &[u8]) -> bool

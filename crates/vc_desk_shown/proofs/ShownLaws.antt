@@ -20,7 +20,7 @@ use Rattle.vc_plan.specs.declared.atoms.Atom.{Atom}
 use Rattle.vc_plan.proofs.StageProofs.LastStage.{last_stage_settles}
 use Rattle.vc_plan_reasons.specs.Blaming.{IsStatus, IsStatusAfter}
 use Rattle.vc_plan_users.specs.Choosing.{users_of}
-use Rattle.vc_rule_terms.specs.Computing.{LiesInGrains}
+use Rattle.vc_plan_values.specs.Computing.{LiesInGrains}
 use Rattle.vc_net.specs.Ending.{clash_of}
 use Rattle.vc_net.specs.Nets.{Netted, outcome_by}
 use Rattle.vc_session_stages.specs.Stages.{is_late_seen, seen_at}

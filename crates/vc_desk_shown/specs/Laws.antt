@@ -7,7 +7,7 @@ use Rattle.vc_plan.specs.Evaluate.{evaluation_of, is_late, last_set, reached}
 use Rattle.vc_plan.specs.Seen.{seen_of}
 use Rattle.vc_plan.specs.Valid.{IsValid}
 use Rattle.vc_plan_users.specs.Choosing.{users_of}
-use Rattle.vc_rule_terms.specs.Computing.{LiesInGrains}
+use Rattle.vc_plan_values.specs.Computing.{LiesInGrains}
 use Rattle.vc_session.specs.Sessions.{IsSessionOf, Opened, last_seen}
 
 -- the evaluation came to an end, the session says just what the last set says, values lie in grains, and who is late is

@@ -2,7 +2,7 @@
 
 ghost use Rattle.std.specs.Prelude.{◌≡◌, ◌≤◌, ◌++◌, false, length, slice_index_or, OnOk, IfOk};
 ghost use Rattle.vc_plan_users.specs.Choosing.{users_of};
-ghost use Rattle.vc_rule_terms.specs.Computing.{LiesInGrains};
+ghost use Rattle.vc_plan_values.specs.Computing.{LiesInGrains};
 ghost use Rattle.vc_session.specs.Sessions.{last_seen};
 ghost use Rattle.vc_show_rows.specs.Fitting.{RowsFit};
 ghost use Rattle.vc_desk_shown.specs.Shown as shown;

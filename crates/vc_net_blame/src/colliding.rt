@@ -12,9 +12,8 @@ use crate::culprits::first_blamed;
 use crate::odds::first_at_odds;
 use crate::running_out::exhausted;
 use vc_net_standing::{Fact, Standing};
-use vc_plan::{Atom, Culprit, Plan};
-use vc_rule_grains::remaining::grain_count;
-use vc_rule_terms::elements::element;
+use vc_plan::{Atom, Culprit, Plan, element};
+use vc_plan_values::grain_count;
 use vc_rule_yield::Bounded;
 
 /// Whom to blame where the fact comes beside what stands, and can't stand there. The premises are then those atoms that

@@ -8,8 +8,7 @@ ghost use Rattle.vc_net_blame.specs.Finding.{culprit_by};
 ghost use Rattle.vc_net_blame.specs.Searching.{first_blamed, last_origin, origin_at, origin_in};
 
 use vc_net_standing::{Fact, Standing};
-use vc_plan::{Atom, Culprit, Kind, Origin, Plan};
-use vc_rule_terms::elements::element;
+use vc_plan::{Atom, Culprit, Kind, Origin, Plan, element};
 use vc_rule_yield::same_atom;
 
 /// Whom the first of the atoms blames of which somebody is to blame, where the last fact comes beside what stands.

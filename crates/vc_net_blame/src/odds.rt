@@ -11,8 +11,7 @@ ghost use Rattle.vc_net_blame.specs.Searching.{first_at_odds, out_at_odds};
 
 use vc_net_standing::Fact;
 use vc_plan::{Atom, Plan};
-use vc_rule_grains::grains::piece;
-use vc_rule_terms::lies_in;
+use vc_plan_values::{lies_in, piece};
 use vc_rule_yield::atoms::same_value;
 use vc_value::Value;
 

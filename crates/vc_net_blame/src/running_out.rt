@@ -10,9 +10,8 @@ ghost use Rattle.vc_plan_blame.specs.Blame.{exhausted_by};
 ghost use Rattle.vc_net_standing.specs.Standing.{atoms_of};
 
 use vc_net_standing::Standing;
-use vc_plan::{Atom, Plan};
-use vc_rule_grains::remaining::grain_count;
-use vc_rule_terms::elements::element;
+use vc_plan::{Atom, Plan, element};
+use vc_plan_values::grain_count;
 use vc_rule_yield::same_atom;
 
 /// The first variable that has no grain left where the last atom comes beside what stands.

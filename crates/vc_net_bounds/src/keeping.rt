@@ -12,12 +12,9 @@ use crate::tables::count_rows;
 use indexmap::IndexSet;
 use std::alloc::{AllocError, Global};
 use std::marker::Model;
-use vc_plan::{Binding, Piece, Plan, count_of};
-use vc_rule_grains::grains::piece;
-use vc_rule_grains::remaining::grain_count;
+use vc_plan::{Binding, Piece, Plan, count_of, element};
+use vc_plan_values::{grain_count, lies_in, piece};
 use vc_rule_table::rows::{is_column_of, rows_of};
-use vc_rule_terms::elements::element;
-use vc_rule_terms::lies_in;
 use vc_value::{Listed, Value};
 
 /// A column of a table, against the grains of a domain.

@@ -17,9 +17,7 @@ use crate::tables::raise_table;
 use std::alloc::AllocError;
 use vc_net_places::Places;
 use vc_plan::{Kind, Plan, Relation, Restriction, Rule, count_of};
-use vc_rule_grains::grains::is_restrictable;
-use vc_rule_grains::kinds::is_inferred;
-use vc_rule_sides::sides::lone_inferred;
+use vc_plan_values::{is_inferred, is_restrictable, lone_inferred};
 use vc_value::Listed;
 
 #[tactic(auto, using(crate::proofs::KindLemmas::among_steps))]

@@ -10,8 +10,7 @@ use crate::capping::capped;
 use indexmap::IndexSet;
 use std::alloc::{AllocError, Global};
 use std::marker::Model;
-use vc_plan::{Condition, Plan, Rule, Term};
-use vc_rule_terms::elements::element;
+use vc_plan::{Condition, Plan, Rule, Term, element};
 
 /// The variables that were met, each once.
 #[derive(Drop)]

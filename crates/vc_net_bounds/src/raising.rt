@@ -10,9 +10,9 @@ ghost use Rattle.vc_net_bounds.specs.Raising.{where_failing};
 
 use vc_net_places::Places;
 use vc_plan::Plan;
+use vc_plan_values::{grain_count, is_restrictable};
 use vc_rule_grains::Test;
-use vc_rule_grains::grains::{is_grain_with, is_restrictable};
-use vc_rule_grains::remaining::grain_count;
+use vc_rule_grains::grains::is_grain_with;
 use vc_value::Listed;
 
 // Nothing happens where there is no place of this number.

@@ -3,13 +3,14 @@
 ghost use Rattle.std.specs.Prelude.{◌≡◌, min};
 ghost use Rattle.vc_plan.specs.Domains.{decimals_in, decimals_of, domain_of};
 ghost use Rattle.vc_plan.specs.Restrictions.{allows, literal_for};
-ghost use Rattle.vc_rule_terms.specs.Values.{meant};
+ghost use Rattle.vc_plan_values.specs.Values.{meant};
 ghost use Rattle.vc_rule_grains.specs.Tests.{allowed_by};
 
 use vc_plan::{Plan, Relation, Restriction};
-use vc_rule_grains::allowing::{Allowed, literal_for};
+use vc_plan_values::TermValue;
+use vc_plan_values::rounding::literal_for;
+use vc_rule_grains::allowing::Allowed;
 use vc_rule_table::cells::domain_of;
-use vc_rule_terms::TermValue;
 use vc_value::{Domain, Value};
 
 fn decimals_in(domain: &Domain) -> u8

@@ -11,8 +11,7 @@ use crate::capping::{capped, capped_sum};
 use crate::meeting::{Met, condition_size, sides_size};
 use std::alloc::AllocError;
 use vc_plan::{Kind, Plan, Rule, count_of};
-use vc_rule_grains::grains::is_restrictable;
-use vc_rule_sides::sides::lone_inferred;
+use vc_plan_values::{is_restrictable, lone_inferred};
 use vc_rule_table::rows::rows_of;
 
 #[tactic(auto, using(crate::proofs::CappingLemmas::sum_of_capped))]

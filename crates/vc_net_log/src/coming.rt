@@ -12,11 +12,9 @@ ghost use Rattle.vc_net_standing.specs.Standing.{seen_by};
 ghost use Rattle.vc_net_log.specs.Coming.{are_by_slot, has_full, is_full, is_full_with, lies_in_left};
 
 use vc_net_standing::Standing;
-use vc_plan::{Plan, Var, View, count_of};
+use vc_plan::{Plan, Var, View, count_of, element};
+use vc_plan_values::{lies_in, piece};
 use vc_rule_grains::finding::grain_of;
-use vc_rule_grains::grains::piece;
-use vc_rule_terms::elements::element;
-use vc_rule_terms::lies_in;
 use vc_rule_yield::atoms::same_value;
 use vc_value::Value;
 

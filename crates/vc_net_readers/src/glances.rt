@@ -5,9 +5,8 @@ ghost use Rattle.vc_net_readers.specs.Glances.{glance_by, hint_among, hint_by, h
 
 use crate::triggers::trigger_by;
 use vc_net_laws::Trigger;
-use vc_plan::{Kind, Plan, Relation, Restriction, count_of};
-use vc_rule_grains::grains::is_restrictable;
-use vc_rule_terms::elements::element;
+use vc_plan::{Kind, Plan, Relation, Restriction, count_of, element};
+use vc_plan_values::is_restrictable;
 use vc_value::Value;
 
 /// What a rule says, as far as it is told at a glance.

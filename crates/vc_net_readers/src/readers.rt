@@ -19,8 +19,7 @@ use std::alloc::{AllocError, Global};
 use std::marker::Model;
 use vc_net_laws::Trigger;
 use vc_net_places::Places;
-use vc_plan::Plan;
-use vc_rule_terms::elements::element;
+use vc_plan::{Plan, element};
 use vc_value::Listed;
 
 /// The rules of a plan by what they touch and what they wait for. All memory is taken at `new`.

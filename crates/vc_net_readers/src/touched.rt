@@ -9,8 +9,7 @@ ghost use Rattle.vc_plan_reasons.specs.Things.{vars_of_column, vars_of_kind, var
 ghost use Rattle.vc_net_readers.specs.Touched.{slots_told, touched_slots, touched_vars};
 
 use std::alloc::{AllocError, Global};
-use vc_plan::{Binding, Condition, Kind, Operand, Plan, Rule, Term};
-use vc_rule_terms::elements::element;
+use vc_plan::{Binding, Condition, Kind, Operand, Plan, Rule, Term, element};
 use vc_value::Listed;
 
 fn append_vars_in(term: &Term, vars: &mut Listed<u32>) -> Result<(), AllocError>

@@ -13,8 +13,7 @@ ghost use Rattle.vc_net_readers.specs.Waiting.{is_own};
 
 use crate::glances::{Glance, Hint};
 use vc_net_laws::Trigger;
-use vc_plan::{Binding, Condition, Kind, Operand, Plan, Rule, Term};
-use vc_rule_terms::elements::element;
+use vc_plan::{Binding, Condition, Kind, Operand, Plan, Rule, Term, element};
 
 #[tactic(auto, using(crate::proofs::TouchedLemmas::any_of_parts))]
 fn is_in(term: &Term, var: u32) -> bool

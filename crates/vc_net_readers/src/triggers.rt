@@ -12,10 +12,9 @@ ghost use Rattle.vc_net_readers.specs.Waiting.{grain_held, grain_in, grain_with,
 
 use vc_net_laws::Trigger;
 use vc_net_places::Places;
-use vc_plan::{Atom, Condition, Plan, Relation, Rule, Term};
+use vc_plan::{Atom, Condition, Plan, Relation, Rule, Term, element};
+use vc_plan_values::grain_count;
 use vc_rule_grains::finding::{first_grain, grain_among_numbers, grain_of};
-use vc_rule_grains::remaining::grain_count;
-use vc_rule_terms::elements::element;
 use vc_value::{Domain, Value};
 
 fn literal_equals(value: Value, other: &Term) -> Option<Trigger>

@@ -17,7 +17,7 @@ use Rattle.vc_plan_reasons.specs.Checking.{concluded, is_accepted, is_silent, se
 use Rattle.vc_plan_reasons.specs.Fitting.{sources_fit}
 use Rattle.vc_plan_blame.specs.Blame.{clash_by, culprit_giving}
 use Rattle.vc_plan_blame.specs.Laws.{Blames}
-use Rattle.vc_rule_terms.specs.Computing.{LiesInGrains}
+use Rattle.vc_plan_values.specs.Computing.{LiesInGrains}
 use Rattle.vc_rule_yield.specs.Yielding.{Conclusion}
 use Rattle.vc_rule_premises.specs.Saying.{clashing, concluding, given_of, silent, HasRoomFor}
 use Rattle.vc_rule_premises.specs.Sufficing.{each_premise}

@@ -29,9 +29,8 @@ use vc_net_readers::touching::touches_as_told;
 use vc_net_readers::triggers::grain_held;
 use vc_net_readers::{Glance, Hint, Readers};
 use vc_net_sources::{rests_at, tells_nothing};
-use vc_plan::{Atom, Plan, View};
+use vc_plan::{Atom, Plan, View, element};
 use vc_plan_sources::Sources;
-use vc_rule_terms::elements::element;
 use vc_rule_yield::atoms::same_value;
 use vc_value::Value;
 

@@ -4,6 +4,7 @@
 pub mod atoms;
 pub mod conditions;
 pub mod counts;
+pub mod elements;
 pub mod laws;
 pub mod plans;
 pub mod procedures;
@@ -16,6 +17,7 @@ pub mod views;
 pub use atoms::{Atom, Clash, Culprit, Mark, Origin, Outcome, Step};
 pub use conditions::{Condition, Kleene, Piece, Relation};
 pub use counts::{atom_count, count_of, stages};
+pub use elements::element;
 pub use plans::{
     Characteristic, Guard, Line, Named, Object, Operation, Plan, Requirement, Selection, Slot,
     Table, TableColumn, TextSet, Var,

@@ -27,7 +27,7 @@ use Rattle.vc_plan.specs.Statements.{with_value, without_default}
 use Rattle.vc_plan.specs.TableRows.{has_left, rows_of}
 use Rattle.vc_plan.specs.Truth.{truth_at, value_at}
 use Rattle.vc_plan.specs.Writes.{all_run, is_triggered, run_procedure}
-use Rattle.vc_rule_terms.specs.Computing.{LiesInGrains}
+use Rattle.vc_plan_values.specs.Computing.{LiesInGrains}
 use Rattle.vc_rule_readings.specs.Beside.{seen_beside}
 use Rattle.vc_proc.specs.Overlays.{EntriesLie, held_by}
 use Rattle.vc_proc.proofs.WritingLemmas.{held_lies, left_lies}

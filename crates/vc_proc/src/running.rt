@@ -4,18 +4,17 @@ ghost use Rattle.std.specs.Prelude.{◌≡◌, slice_get, Some};
 ghost use Rattle.vc_plan.specs.Pieces.{lies_in};
 ghost use Rattle.vc_plan.specs.TableRows.{cell_passes};
 ghost use Rattle.vc_plan.specs.Writes.{is_triggered, run_procedure};
-ghost use Rattle.vc_rule_terms.specs.Computing.{LiesInGrains};
+ghost use Rattle.vc_plan_values.specs.Computing.{LiesInGrains};
 ghost use Rattle.vc_proc_look_ups.specs.LookUps.{AreLookUpsOf};
 ghost use Rattle.vc_proc.specs.Overlays.{EntriesLie};
 ghost use Rattle.vc_proc.specs.Stages.{CanRun};
 
 use crate::overlay::Overlay;
 use crate::statements::run_statements;
-use vc_plan::{Piece, Plan, Procedure, Reading, Trigger, View};
+use vc_plan::{Piece, Plan, Procedure, Reading, Trigger, View, element};
+use vc_plan_values::lies_in;
 use vc_proc_look_ups::LookUps;
 use vc_rule_readings::Beside;
-use vc_rule_terms::elements::element;
-use vc_rule_terms::lies_in;
 use vc_value::Value;
 
 fn value_lies_in(value: Option<Value>, piece: Piece) -> bool

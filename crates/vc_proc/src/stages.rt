@@ -7,7 +7,7 @@ ghost use Rattle.vc_plan.specs.Evaluate.{holds};
 ghost use Rattle.vc_plan.specs.Valid.{IsValid};
 ghost use Rattle.vc_plan.specs.Writes.{all_run, depth_of, is_at, procedures_at, run_procedure};
 ghost use Rattle.vc_plan_users.specs.Choosing.{users_of};
-ghost use Rattle.vc_rule_terms.specs.Computing.{LiesInGrains};
+ghost use Rattle.vc_plan_values.specs.Computing.{LiesInGrains};
 ghost use Rattle.vc_rule_readings.specs.Finding.{stands_by};
 ghost use Rattle.vc_proc_look_ups.specs.LookUps.{AreLookUpsOf};
 ghost use Rattle.vc_proc.specs.Overlays.{EntriesLie};
@@ -17,10 +17,9 @@ use crate::overlay::Overlay;
 use crate::running::run_procedure;
 use crate::stage::Stage;
 use crate::summing::is_summing;
-use vc_plan::{Plan, Procedure, Reading, View, stages};
+use vc_plan::{Plan, Procedure, Reading, View, element, stages};
 use vc_plan_users::UserValues;
 use vc_proc_look_ups::LookUps;
-use vc_rule_terms::elements::element;
 
 // Whether the procedure of this number is one of the slot, of the summing ones or of the others.
 fn is_at(plan: &Plan, summing: bool, slot: u32, proc: u32) -> bool

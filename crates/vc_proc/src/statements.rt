@@ -1,13 +1,13 @@
 //! Running statements.
 
-ghost use Rattle.std.specs.Prelude.{◌≡◌, ◌+◌, ◌^◌, ◌<◌, length};
+ghost use Rattle.std.specs.Prelude.{◌≡◌, ◌^◌, ◌<◌, length};
 ghost use Rattle.vc_plan.specs.Kleene.{is_true};
 ghost use Rattle.vc_plan.specs.Parts.{procedure_reading};
 ghost use Rattle.vc_plan.specs.Statements.{acted, all_stated, stated, with_default, with_hard, with_value};
 ghost use Rattle.vc_plan.specs.Statements.{without_default};
 ghost use Rattle.vc_plan.specs.Truth.{number_of_value};
-ghost use Rattle.vc_rule_terms.specs.Computing.{ArgumentFits, LiesInGrains, TermsFit};
-ghost use Rattle.vc_rule_terms.specs.Values.{meant_if};
+ghost use Rattle.vc_plan_values.specs.Computing.{ArgumentFits, LiesInGrains, TermsFit};
+ghost use Rattle.vc_plan_values.specs.Values.{meant_if};
 ghost use Rattle.vc_rule_table.specs.Cells.{FewGrains};
 ghost use Rattle.vc_proc_look_ups.specs.LookUps.{AreLookUpsOf};
 ghost use Rattle.vc_proc.specs.Overlays.{EntriesLie};
@@ -17,10 +17,10 @@ ghost use Rattle.vc_proc.specs.Writing.{place_from};
 use crate::looking_up::look_up;
 use crate::overlay::Overlay;
 use crate::writing::{Place, enter_default, enter_hard, take_default};
-use vc_plan::{Action, Kleene, Plan, Reading, Statement, View};
+use vc_plan::{Action, Plan, Reading, Statement, View};
+use vc_plan_values::{TermValue, is_true};
 use vc_proc_look_ups::LookUps;
 use vc_rule_readings::{procedure_truth, procedure_value};
-use vc_rule_terms::TermValue;
 
 fn assign(plan: &Plan, place: Place, var: u32, value: Option<TermValue>, overlay: &mut Overlay)
     requires fit { TermsFit plan.now }
@@ -108,15 +108,6 @@ fn act<R: Reading>(
             filled.as_slice(),
             overlay,
         ),
-    }
-}
-
-fn is_true(truth: Kleene) -> bool
-    ensures { result ≡ is_true truth }
-{
-    match truth {
-        Kleene::True => true,
-        _ => false,
     }
 }
 

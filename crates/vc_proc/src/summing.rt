@@ -5,8 +5,7 @@ ghost use Rattle.std.specs.List.{list_any};
 ghost use Rattle.vc_plan.specs.Monotone.{condition_sums, has_part_sum};
 ghost use Rattle.vc_plan.specs.Writes.{action_sums, asked_sums, is_summing, statement_sums, term_sums};
 
-use vc_plan::{Action, Condition, KeyTerm, Plan, Procedure, Statement, Term};
-use vc_rule_terms::elements::element;
+use vc_plan::{Action, Condition, KeyTerm, Plan, Procedure, Statement, Term, element};
 
 fn has_part_sum(term: &Term) -> bool
     ensures { result ≡ has_part_sum term.now }

@@ -7,17 +7,17 @@ ghost use Rattle.vc_plan.specs.Seen.{is_value};
 ghost use Rattle.vc_plan.specs.Statements.{entered, fitted, is_default_of, mark_of, takes_default, with_default};
 ghost use Rattle.vc_plan.specs.Statements.{with_hard, without_default};
 ghost use Rattle.vc_plan.specs.Truth.{number_in};
-ghost use Rattle.vc_rule_terms.specs.Computing.{ArgumentFits, TermsFit};
-ghost use Rattle.vc_rule_terms.specs.Values.{meant};
+ghost use Rattle.vc_plan_values.specs.Computing.{ArgumentFits, TermsFit};
+ghost use Rattle.vc_plan_values.specs.Values.{meant};
 ghost use Rattle.vc_rule_table.specs.Cells.{FewGrains};
 ghost use Rattle.vc_proc.specs.Overlays.{EntriesLie, written_from};
 ghost use Rattle.vc_proc.specs.Writing.{mark_for, place_from};
 
 use crate::overlay::{Overlay, Written};
 use vc_plan::{Mark, Plan, View};
+use vc_plan_values::TermValue;
 use vc_rule_sides::assigning::{Assigned, equal_to};
 use vc_rule_table::cells::has_left;
-use vc_rule_terms::TermValue;
 use vc_rule_yield::atoms::same_value;
 use vc_value::Value;
 

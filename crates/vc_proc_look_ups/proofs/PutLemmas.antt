@@ -16,7 +16,7 @@ use Rattle.vc_plan.specs.declared.procedures.KeyTerm.{KeyTerm}
 use Rattle.vc_plan.specs.declared.procedures.Procedure.{Procedure}
 use Rattle.vc_plan.specs.declared.procedures.Statement.{Statement}
 use Rattle.vc_plan.specs.TableRows.{rows_in, rows_of}
-use Rattle.vc_rule_terms.proofs.TermLemmas.{PassesIf, all_get}
+use Rattle.vc_plan_values.proofs.TermLemmas.{PassesIf, all_get}
 use Rattle.vc_proc_look_ups.specs.declared.orders.Order.{Order}
 use Rattle.vc_proc_look_ups.specs.LookUps.{AreOrdersIn, IsOrderIn, KeepOrders, Puts, has_order, serves}
 use Rattle.vc_proc_look_ups.specs.LookUps.{serves_procedure}

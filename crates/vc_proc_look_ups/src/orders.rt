@@ -7,8 +7,7 @@ ghost use Rattle.vc_proc_look_ups.specs.Orders.{IsOrderOf, are_columns_of, colum
 use crate::ranks::compare_rows;
 use std::alloc::{AllocError, Global};
 use std::cmp::Ordering;
-use vc_plan::KeyTerm;
-use vc_rule_terms::elements::element;
+use vc_plan::{KeyTerm, element};
 use vc_value::{Listed, Value};
 
 /// The numbers of a table's rows, in the order of the rows' cells in these columns. Rows with the same cells there

@@ -1,12 +1,12 @@
 //! How the cells of rows stand to each other.
 
 ghost use Rattle.std.specs.Prelude.{◌≡◌, slice_get, Some};
-ghost use Rattle.vc_rule_terms.specs.Values.{meant_if};
+ghost use Rattle.vc_plan_values.specs.Values.{meant_if};
 ghost use Rattle.vc_proc_look_ups.specs.Ranks.{cell_rank, compared, count_of, kind_of, rows_compared, value_rank};
 
 use std::cmp::Ordering;
-use vc_rule_terms::TermValue;
-use vc_rule_terms::elements::element;
+use vc_plan::element;
+use vc_plan_values::TermValue;
 use vc_value::Value;
 use vc_value_wide::Wide;
 

@@ -50,8 +50,8 @@ use Rattle.vc_plan.specs.Valid.{IsValid}
 use Rattle.vc_plan.proofs.PlanLaws.Atoms.{atom_exact, atom_itself}
 use Rattle.vc_plan.proofs.PlanLaws.Extending.{value_has}
 use Rattle.vc_plan.proofs.PlanLaws.Facts.{facts}
-use Rattle.vc_rule_terms.specs.Computing.{LiesInGrains}
-use Rattle.vc_rule_terms.proofs.TermLemmas.{PassesIf, all_get}
+use Rattle.vc_plan_values.specs.Computing.{LiesInGrains}
+use Rattle.vc_plan_values.proofs.TermLemmas.{PassesIf, all_get}
 use Rattle.vc_rule_yield.specs.Yielding.{Conclusion}
 use Rattle.vc_rule_premises.specs.Cited.{cited_once}
 use Rattle.vc_rule_premises.specs.Citing.{values_of, why_it_acts}

@@ -25,7 +25,7 @@ use Rattle.vc_plan.specs.Pieces.{lies_in}
 use Rattle.vc_plan.specs.Reads.{vars_of_condition}
 use Rattle.vc_plan.specs.Seen.{Seen, same_atom}
 use Rattle.vc_plan.proofs.PlanLaws.Atoms.{atom_exact, atom_itself}
-use Rattle.vc_rule_terms.specs.Computing.{LiesInGrains}
+use Rattle.vc_plan_values.specs.Computing.{LiesInGrains}
 use Rattle.vc_rule_premises.specs.Cited.{cited_once}
 use Rattle.vc_rule_premises.specs.Citing.{value_of, values_of, deciding_if, why_it_acts}
 use Rattle.vc_rule_premises.proofs.CitedLaws.{nothing_else_is_cited, few_are_cited}

@@ -26,7 +26,7 @@ use Rattle.vc_plan.specs.Gives.{acts}
 use Rattle.vc_plan.specs.Pieces.{is_inside, lies_in}
 use Rattle.vc_plan.specs.Restrictions.{allows, failing, is_inferred, left_with}
 use Rattle.vc_plan.specs.Seen.{Seen, is_here, is_left, is_left_by, is_value, says}
-use Rattle.vc_rule_terms.specs.Computing.{LiesInGrains}
+use Rattle.vc_plan_values.specs.Computing.{LiesInGrains}
 use Rattle.vc_rule_premises.specs.Citing.{why_it_acts}
 use Rattle.vc_rule_premises.specs.Saying.{concluding, conclusion_from, said_from, said_with, silent}
 use Rattle.vc_rule_grains.specs.Kinds.{among_said, last_said, why_among, why_last}

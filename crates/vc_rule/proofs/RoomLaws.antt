@@ -39,7 +39,7 @@ use Rattle.vc_plan.specs.TableRows.{is_possible_in, missing_grains, narrowed, ot
 use Rattle.vc_plan.specs.Truth.{compared, value_at}
 use Rattle.vc_plan.specs.Valid.{IsValid}
 use Rattle.vc_plan.proofs.PlanLaws.Atoms.{atom_exact, atom_itself}
-use Rattle.vc_rule_terms.specs.Computing.{LiesInGrains}
+use Rattle.vc_plan_values.specs.Computing.{LiesInGrains}
 use Rattle.vc_rule_yield.specs.Yielding.{Conclusion, Rooms}
 use Rattle.vc_rule_premises.specs.Cited.{cited_once}
 use Rattle.vc_rule_premises.specs.Citing.{why_it_acts}

@@ -11,7 +11,7 @@ use Rattle.vc_plan.specs.Bounds.{clash_bound, greatest, place_bound}
 use Rattle.vc_plan.specs.Clear.{is_clear}
 use Rattle.vc_plan.specs.Seen.{Seen, seen_of}
 use Rattle.vc_plan.specs.Valid.{IsValid}
-use Rattle.vc_rule_terms.specs.Computing.{LiesInGrains}
+use Rattle.vc_plan_values.specs.Computing.{LiesInGrains}
 use Rattle.vc_rule_premises.specs.Saying.{Said, clashing, concluding}
 use Rattle.vc_rule.specs.Evaluating.{found_at}
 

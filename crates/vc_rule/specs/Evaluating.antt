@@ -7,7 +7,7 @@ use Rattle.vc_plan.specs.declared.rules.Rule.{Rule}
 use Rattle.vc_plan.specs.Gives.{acts}
 use Rattle.vc_plan.specs.Seen.{Seen}
 use Rattle.vc_plan.specs.Valid.{IsValid}
-use Rattle.vc_rule_terms.specs.Computing.{TermsFit}
+use Rattle.vc_plan_values.specs.Computing.{TermsFit}
 use Rattle.vc_rule_yield.specs.Yielding.{Yielded}
 use Rattle.vc_rule_premises.specs.Citing.{cited_all, why_it_acts}
 use Rattle.vc_rule_premises.specs.Saying.{Said, silent, said_with, taken}

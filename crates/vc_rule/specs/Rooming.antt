@@ -3,7 +3,7 @@ use Rattle.std.specs.Prelude.{ℕ}
 use Rattle.vc_plan.specs.declared.plans.Plan.{Plan}
 use Rattle.vc_plan.specs.Seen.{Seen}
 use Rattle.vc_plan.specs.Valid.{IsValid}
-use Rattle.vc_rule_terms.specs.Computing.{LiesInGrains}
+use Rattle.vc_plan_values.specs.Computing.{LiesInGrains}
 use Rattle.vc_rule_premises.specs.Saying.{HasRoomFor}
 use Rattle.vc_rule.specs.Evaluating.{found_at}
 use Rattle.vc_rule.specs.Rooms.{rooms_of}

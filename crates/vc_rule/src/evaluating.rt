@@ -2,18 +2,17 @@
 
 ghost use Rattle.std.specs.Prelude.{◌≡◌, ◌+◌, ◌^◌, ◌<◌};
 ghost use Rattle.vc_plan.specs.Domains.{atom_count};
-ghost use Rattle.vc_rule_terms.specs.Computing.{TermsFit, LiesInGrains};
+ghost use Rattle.vc_plan_values.specs.Computing.{TermsFit, LiesInGrains};
 ghost use Rattle.vc_rule_premises.specs.Saying.{held, taken, HasRoomFor};
 ghost use Rattle.vc_rule.specs.Evaluating.{kind_said, found_at, taken_from, RulesFit};
 
 use crate::giving::say_among_or_text;
 use std::sync::ledger::Ledger;
-use vc_plan::{Kind, Plan, Rule, View};
+use vc_plan::{Kind, Plan, Rule, View, element};
 use vc_rule_grains::{say_last, say_line, say_never};
 use vc_rule_premises::cite_if_it_acts;
 use vc_rule_sides::{say_compare, say_equate};
 use vc_rule_table_saying::say_table;
-use vc_rule_terms::elements::element;
 use vc_rule_yield::Yield;
 use vc_value_steps::Steps;
 

@@ -4,16 +4,15 @@ ghost use Rattle.std.specs.Prelude.{◌≡◌, IfSome};
 ghost use Rattle.vc_value.specs.declared.value.Value.TheVariants.{Text};
 ghost use Rattle.vc_plan.specs.declared.conditions.Relation.TheVariants.{Equal};
 ghost use Rattle.vc_plan.specs.declared.rules.Restriction.TheVariants.{Against};
-ghost use Rattle.vc_rule_terms.specs.Computing.{TermsFit};
+ghost use Rattle.vc_plan_values.specs.Computing.{TermsFit};
 ghost use Rattle.vc_rule_premises.specs.Saying.{taken};
 ghost use Rattle.vc_rule_grains.specs.Finding.{GrainsFit, grain_with};
 ghost use Rattle.vc_rule_grains.specs.Kinds.{among_said};
 ghost use Rattle.vc_rule.specs.Giving.{GivesText, is_free_for, is_there};
 
 use vc_plan::{Atom, Plan, Relation, Restriction, Rule, View};
+use vc_plan_values::{is_inferred, is_restrictable};
 use vc_rule_grains::finding::grain_of;
-use vc_rule_grains::grains::is_restrictable;
-use vc_rule_grains::kinds::is_inferred;
 use vc_rule_grains::say_among;
 use vc_rule_yield::Yield;
 use vc_value::Value;

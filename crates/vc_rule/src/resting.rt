@@ -5,7 +5,7 @@ ghost use Rattle.vc_plan.specs.Domains.{count_of};
 ghost use Rattle.vc_rule.specs.Resting.{are_two_left, asks_for, asks_for_text, is_text, rests};
 
 use vc_plan::{Kind, Plan, Relation, Restriction, View, count_of};
-use vc_rule_grains::grains::is_restrictable;
+use vc_plan_values::is_restrictable;
 use vc_value::Value;
 
 /// Whether it gives a variable that isn't restrictable the text that this has, or is the rule of a variable's last

@@ -1,7 +1,7 @@
 //! How much room a yield needs for what the rules of a plan say.
 
 ghost use Rattle.std.specs.Prelude.{◌≡◌, length, slice_get, IfOk, IfSome};
-ghost use Rattle.vc_plan.specs.Reads.{vars_in, vars_of_condition, vars_of_term, vars_read};
+ghost use Rattle.vc_plan.specs.Reads.{vars_in, vars_of_term, vars_read};
 ghost use Rattle.vc_plan.specs.Restrictions.{lone_inferred};
 ghost use Rattle.vc_plan.specs.TableRows.{rows_of};
 ghost use Rattle.vc_rule_yield.specs.Scratches.{has_rooms};
@@ -11,10 +11,9 @@ ghost use Rattle.vc_rule.specs.Rooms.{most_grains};
 ghost use Rattle.vc_rule.specs.Rooms.{most_rows, room_by, room_in, room_of_kind, rooms_of, sides_reads, table_room};
 
 use std::alloc::{AllocError, Global};
-use vc_plan::{Condition, Kind, Plan, Rule, Table, Term, count_of};
-use vc_rule_sides::sides::lone_inferred;
+use vc_plan::{Condition, Kind, Plan, Rule, Table, Term, count_of, element};
+use vc_plan_values::lone_inferred;
 use vc_rule_table::cells::grain_count;
-use vc_rule_terms::elements::element;
 use vc_rule_yield::{Scratch, Yield};
 use vc_value::Domain;
 

@@ -28,10 +28,11 @@ use Rattle.vc_plan.specs.Alike.{is_proper}
 use Rattle.vc_plan.specs.Domains.{atom_count, domain_of, grains_in, is_grain_with, numbers_below, passes}
 use Rattle.vc_plan.specs.Orders.{are_apart}
 use Rattle.vc_plan.specs.Pieces.{is_inside, lies_in}
-use Rattle.vc_rule_terms.proofs.TermLemmas.{PassesIf, all_get}
+use Rattle.vc_plan_values.proofs.TermLemmas.{PassesIf, all_get}
 use Rattle.vc_rule_grains.specs.Finding.{grain_in, PassesOnly}
-use Rattle.vc_rule_grains.specs.Tests.{stored_value}
-use Rattle.vc_rule_grains.proofs.GrainLemmas.{count_within}
+use Rattle.vc_plan_values.specs.Values.{stored_value}
+use Rattle.vc_plan_values.proofs.GrainLemmas.{count_within}
+use Rattle.vc_plan_values.proofs.StoredLemmas.{stored_is}
 
 find_from : (p : ℕ → Bool) (g n m : ℕ) → n - g ≡ suc m
     → find p (range_with_len g (n - g)) ≡ cond (p g) (Some g) (find p (range_with_len (g + 1) m))
@@ -336,15 +337,7 @@ domain_few plan v x domain vars domains few e f h k =
     let all : domain_of plan (slice_get plan.vars v) ≡ Some domain = ap (domain_of plan) at ∙ is in
     subst (λ o. length (grains_in o) < 2 ^ 32) all (count_within plan v few)
 
--- what is stored is the value itself; at `=` it is all that passes
-pub stored_is : (a b : Value) → stored_value a ≡ Some b → a ≡ b
-stored_is (Text t) b e = cc
-stored_is (Num n) b e = by (nat_lt (unsigned_abs n.millionths) (10 ^ 15)) e
-  where
-    by : (c : Bool) → option_map Num (cond c (Some (record { millionths = n.millionths })) None) ≡ Some b → Num n ≡ b
-    by true k = cc
-    by false k = absurd (cc)
-
+-- at `=` what is stored is all that passes
 pub equal_only : (r : Relation) (a : Value) (o : Option Value) → r ≡ Equal → o ≡ stored_value a
     → IfSome o (PassesOnly (is_inside r a))
 equal_only r a None e f = tt

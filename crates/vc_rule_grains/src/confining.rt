@@ -14,10 +14,11 @@ ghost use Rattle.vc_rule_grains.specs.Confining.{outs_with, why_left, confined_s
 ghost use Rattle.vc_rule_grains.specs.Finding.{GrainsFit};
 
 use crate::finding::grain_of;
-use crate::grains::{is_grain_with, is_restrictable, only_value, stands};
-use crate::remaining::{Remaining, grain_count, remaining_of};
+use crate::grains::{is_grain_with, only_value, stands};
+use crate::remaining::{Remaining, remaining_of};
 use crate::testing::Test;
 use vc_plan::{Atom, Plan, View};
+use vc_plan_values::{grain_count, is_restrictable};
 use vc_rule_yield::Yield;
 
 /// Says what follows where the variable is to lie in grains that pass the test: if it is

@@ -9,8 +9,7 @@ ghost use Rattle.vc_plan.specs.Orders.{are_apart};
 ghost use Rattle.vc_plan.specs.Pieces.{lies_in};
 ghost use Rattle.vc_rule_grains.specs.Finding.{grain_in, grain_with, GrainsFit};
 
-use vc_plan::Plan;
-use vc_rule_terms::elements::element;
+use vc_plan::{Plan, element};
 use vc_value::{Domain, GrainList, Value};
 
 // Where the text stands if they have ascending consecutive numbers, as texts that first occur together do.
@@ -23,7 +22,7 @@ fn guessed(texts: &[u32], text: u32) -> u32
     }
 }
 
-#[tactic(auto, using(crate::proofs::GrainLemmas::text_at))]
+#[tactic(auto, using(vc_plan_values::proofs::GrainLemmas::text_at))]
 fn is_text_at(texts: &[u32], text: u32, grain: u32) -> bool
     ensures { result ≡ passes (lies_in (Text text)) (slice_get (map OneText texts.now) grain) }
 {

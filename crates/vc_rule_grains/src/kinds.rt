@@ -1,13 +1,12 @@
 //! What rules of the kinds Among, Never, Last and Line say where they act.
 
-ghost use Rattle.std.specs.Prelude.{◌≡◌, ◌==◌, ◌∷◌, [], slice_get};
-ghost use Rattle.std.specs.List.{list_any};
+ghost use Rattle.std.specs.Prelude.{◌≡◌, slice_get};
 ghost use Rattle.vc_base.specs.Rounds.{atoms};
 ghost use Rattle.vc_plan.specs.Answers.{last_atoms, value_atoms, only_value};
 ghost use Rattle.vc_plan.specs.Gives.{not_out};
 ghost use Rattle.vc_plan.specs.Restrictions.{is_inferred};
 ghost use Rattle.vc_plan.specs.Seen.{parent_in, is_here};
-ghost use Rattle.vc_rule_terms.specs.Computing.{TermsFit};
+ghost use Rattle.vc_plan_values.specs.Computing.{TermsFit};
 ghost use Rattle.vc_rule_premises.specs.Citing.{cited_all};
 ghost use Rattle.vc_rule_premises.specs.Saying.{said_from, taken};
 ghost use Rattle.vc_rule_grains.specs.Finding.{GrainsFit};
@@ -18,8 +17,8 @@ use crate::confining::{cite_outs, confine, say_if_none};
 use crate::grains::{only_value, stands};
 use crate::remaining::{Remaining, remaining_of};
 use crate::testing::AnyPiece;
-use vc_plan::{Atom, Plan, Restriction, Rule, View};
-use vc_rule_terms::elements::element;
+use vc_plan::{Atom, Plan, Restriction, Rule, View, element};
+use vc_plan_values::is_inferred;
 use vc_rule_yield::Yield;
 
 /// Says that the rule's condition must not be true.
@@ -48,13 +47,6 @@ pub fn say_among<V: View>(
     } else {
         say_if_none(plan, view, var, &allowed, out);
     }
-}
-
-/// Whether the rule may narrow the variable.
-pub fn is_inferred(rule: &Rule, var: u32) -> bool
-    ensures { result ≡ is_inferred rule.now var }
-{
-    rule.inferred.as_slice().iter().any(|other| *other == var)
 }
 
 /// Says that the variable has its last grain's value, where its slot is here and one grain alone

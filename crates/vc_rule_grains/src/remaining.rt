@@ -1,16 +1,17 @@
 //! How many grains of a variable are left that pass a test.
 
-ghost use Rattle.std.specs.Prelude.{◌≡◌, ◌^◌, ◌<◌, ◌&&◌, if◌then◌else◌, None, option_to_list};
+ghost use Rattle.std.specs.Prelude.{◌≡◌, ◌&&◌, if◌then◌else◌, None, option_to_list};
 ghost use Rattle.std.specs.List.{filter};
 ghost use Rattle.vc_plan.specs.Seen.{is_left_by};
-ghost use Rattle.vc_plan.specs.Domains.{atom_count, count_of, is_grain_with};
+ghost use Rattle.vc_plan.specs.Domains.{is_grain_with};
 ghost use Rattle.vc_rule_grains.specs.Finding.{GrainsFit};
 ghost use Rattle.vc_rule_grains.specs.Remaining.{is_several, remaining_of, with_one, left_by};
 
 use crate::finding::grain_of;
 use crate::grains::{is_grain_with, is_left_by};
 use crate::testing::Test;
-use vc_plan::{Plan, View, count_of};
+use vc_plan::{Plan, View};
+use vc_plan_values::grain_count;
 use vc_value::Value;
 
 /// None, one alone, or more.
@@ -122,13 +123,4 @@ pub fn remaining_of<V: View, T: Test>(
             None => remaining_among(plan, view, var, test),
         },
     }
-}
-
-/// How many grains the variable has.
-#[tactic(auto, using(crate::proofs::GrainLemmas::count_within))]
-pub fn grain_count(plan: &Plan, var: u32) -> u32
-    requires { atom_count plan.now < 2 ^ 32 }
-    ensures { result ≡ count_of plan.now var }
-{
-    count_of(plan, var) as u32
 }

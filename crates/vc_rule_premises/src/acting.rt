@@ -10,13 +10,13 @@ ghost use Rattle.vc_plan.specs.Kleene.{is_true};
 ghost use Rattle.vc_plan.specs.Pieces.{relates};
 ghost use Rattle.vc_plan.specs.Readings.{net_reading};
 ghost use Rattle.vc_plan.specs.Truth.{truth};
-ghost use Rattle.vc_rule_terms.specs.Computing.{TermsFit, LiesInGrains};
+ghost use Rattle.vc_plan_values.specs.Computing.{TermsFit, LiesInGrains};
 ghost use Rattle.vc_rule_premises.specs.Citing.{cited_all, values_of, deciding_if, why_it_acts};
 
 use crate::citing::cite_deciding;
-use vc_plan::{Atom, Condition, Kleene, Plan, Relation, Rule, Term, View};
-use vc_rule_terms::elements::element;
-use vc_rule_terms::{of_value, relates, truth};
+use vc_plan::{Atom, Condition, Plan, Relation, Rule, Term, View, element};
+use vc_plan_values::{is_true, of_value, relates};
+use vc_rule_terms::truth;
 use vc_rule_yield::Yield;
 use vc_rule_yield::atoms::same_value;
 use vc_value::Value;
@@ -89,15 +89,6 @@ fn cite_if_true<V: View>(plan: &Plan, view: &V, rule: &Rule, out: &mut Yield) ->
         cite_condition(plan, view, rule.condition, out);
     }
     acts
-}
-
-fn is_true(truth: Kleene) -> bool
-    ensures { result ≡ is_true truth }
-{
-    match truth {
-        Kleene::True => true,
-        _ => false,
-    }
 }
 
 fn are_here<V: View>(view: &V, slots: &[u32]) -> bool

@@ -4,7 +4,7 @@ ghost use Rattle.std.specs.Prelude.{◌≡◌, map};
 ghost use Rattle.vc_plan.specs.declared.atoms.Atom.TheVariants.{Here};
 ghost use Rattle.vc_plan.specs.Readings.{net_reading};
 ghost use Rattle.vc_plan.specs.Reads.{vars_in};
-ghost use Rattle.vc_rule_terms.specs.Computing.{TermsFit, LiesInGrains, ConditionComputes};
+ghost use Rattle.vc_plan_values.specs.Computing.{TermsFit, LiesInGrains, ConditionComputes};
 ghost use Rattle.vc_rule_premises.specs.Citing.{cited_all, value_of, values_of, why_it_acts};
 ghost use Rattle.vc_rule_premises.specs.Deciding.{deciding};
 

@@ -26,9 +26,9 @@ use Rattle.vc_plan.specs.Seen.{Seen}
 use Rattle.vc_plan.specs.Sizes.{domain_size, grain_size}
 use Rattle.vc_plan.specs.Truth.{number_of_value, value_at}
 use Rattle.vc_plan.proofs.PlanLaws.Lists.{get_past}
-use Rattle.vc_rule_terms.specs.Computing.{LiesInGrains, OperandsFit, TermsFit}
-use Rattle.vc_rule_terms.proofs.SizeLemmas.{AtMost}
-use Rattle.vc_rule_terms.proofs.TermLemmas.{PassesIf, all_get}
+use Rattle.vc_plan_values.specs.Computing.{LiesInGrains, OperandsFit, TermsFit}
+use Rattle.vc_plan_values.proofs.SizeLemmas.{AtMost}
+use Rattle.vc_plan_values.proofs.TermLemmas.{PassesIf, all_get}
 use Rattle.vc_rule_readings.specs.Laws.{ValidSumsFit}
 use Rattle.vc_rule_readings.specs.Parted.{parted_reading}
 use Rattle.vc_rule_readings.specs.Summing.{SumsFit, addend, adds, part_total, stored_count}

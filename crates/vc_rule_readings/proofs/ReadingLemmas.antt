@@ -21,11 +21,11 @@ use Rattle.vc_plan.specs.Sizes.{applied_size, condition_small, domain_size, is_s
 use Rattle.vc_plan.specs.Sizes.{size_limit, term_size, value_size}
 use Rattle.vc_plan.specs.Truth.{number, number_in, number_of_value, term_value, value_at, value_in_term}
 use Rattle.vc_plan.specs.Truth.{value_of_number}
-use Rattle.vc_rule_terms.specs.Computing.{ArgumentFits, Computes, ConditionComputes, LiesInGrains, OperandsFit}
-use Rattle.vc_rule_terms.specs.Computing.{TermsFit}
-use Rattle.vc_rule_terms.proofs.SizeLemmas.{AtMost, applied_within, load_within, operated_within}
-use Rattle.vc_rule_terms.proofs.TermLemmas.{PassesIf, all_get, size_small}
-use Rattle.vc_rule_terms.proofs.TermLemmas as net
+use Rattle.vc_plan_values.specs.Computing.{ArgumentFits, Computes, ConditionComputes, LiesInGrains, OperandsFit}
+use Rattle.vc_plan_values.specs.Computing.{TermsFit}
+use Rattle.vc_plan_values.proofs.SizeLemmas.{AtMost, applied_within, load_within, operated_within}
+use Rattle.vc_plan_values.proofs.TermLemmas.{PassesIf, all_get, size_small}
+use Rattle.vc_plan_values.proofs.TermLemmas as net
 use Rattle.vc_rule_readings.specs.Laws.{FullValues}
 
 -- values are of their variables' domains, and sums no larger than sums over parts may get

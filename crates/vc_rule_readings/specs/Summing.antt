@@ -8,7 +8,7 @@ use Rattle.vc_plan.specs.Domains.{numbers_below}
 use Rattle.vc_plan.specs.Parts.{is_part, part_quantity, part_weight, total, var_of}
 use Rattle.vc_plan.specs.Readings.{Reading}
 use Rattle.vc_plan.specs.Seen.{Seen}
-use Rattle.vc_rule_terms.specs.Computing.{TermsFit}
+use Rattle.vc_plan_values.specs.Computing.{TermsFit}
 use Rattle.vc_rule_readings.specs.Finding.{stands_by}
 
 -- no step of a term is too wide, no sum over the slots is, numbers of 32 bits tell the variables, and these come by

@@ -10,7 +10,7 @@ use vc_value_wide::Wide;
 pub trait Facts {
     ghost use Rattle.vc_plan.specs.Readings.{Reading};
     ghost use Rattle.vc_plan.specs.Truth.{set_filled, set_holds, specified};
-    ghost use Rattle.vc_rule_terms.specs.Values.{count_if};
+    ghost use Rattle.vc_plan_values.specs.Values.{count_if};
 
     ghost reading: { Self → Reading };
 

@@ -5,8 +5,7 @@ ghost use Rattle.std.specs.Prelude.{◌≡◌, ◌<◌, ◌≤◌, ◌^◌, ℕ,
 ghost use Rattle.vc_plan.specs.Parts.{var_of};
 ghost use Rattle.vc_rule_readings.specs.Finding.{first_at, is_at, stands_by};
 
-use vc_plan::{Plan, TextSet, Var};
-use vc_rule_terms::elements::element;
+use vc_plan::{Plan, TextSet, Var, element};
 
 /// What has a characteristic at a slot.
 pub trait AtSlot {

@@ -7,16 +7,17 @@ ghost use Rattle.vc_plan.specs.Parts.{amount_at, amount_of, count_of_parts, is_p
 ghost use Rattle.vc_plan.specs.Parts.{part_weight, quantity_of, sum_of_parts};
 ghost use Rattle.vc_plan.specs.Readings.{full_reading};
 ghost use Rattle.vc_plan.specs.Truth.{number_of_value};
-ghost use Rattle.vc_rule_terms.specs.Computing.{LiesInGrains, OperandsFit, TermsFit};
-ghost use Rattle.vc_rule_terms.specs.Values.{count_if, meant_if};
+ghost use Rattle.vc_plan_values.specs.Computing.{LiesInGrains, OperandsFit, TermsFit};
+ghost use Rattle.vc_plan_values.specs.Values.{count_if, meant_if};
 ghost use Rattle.vc_rule_readings.specs.Finding.{stands_by};
 ghost use Rattle.vc_rule_readings.specs.Summing.{SumsFit, addend, adds, has_it, part_total, stored_count};
 
 use crate::finding::var_of;
-use crate::numbers::{joined, number_of_value};
-use vc_plan::{Operator, Plan, Reading};
-use vc_rule_terms::elements::element;
-use vc_rule_terms::{TermValue, term_value};
+use vc_plan::{Operator, Plan, Reading, element};
+use vc_plan_values::TermValue;
+use vc_plan_values::numbers::joined;
+use vc_plan_values::values::number_of_value;
+use vc_rule_terms::term_value;
 use vc_value::Dec;
 use vc_value_wide::Wide;
 

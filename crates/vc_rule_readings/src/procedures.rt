@@ -3,8 +3,8 @@
 ghost use Rattle.std.specs.Prelude.{◌≡◌};
 ghost use Rattle.vc_plan.specs.Parts.{procedure_reading};
 ghost use Rattle.vc_plan.specs.Truth.{number_of_value, truth_at, value_at};
-ghost use Rattle.vc_rule_terms.specs.Computing.{ArgumentFits, LiesInGrains, number_at};
-ghost use Rattle.vc_rule_terms.specs.Values.{count_if, meant_if};
+ghost use Rattle.vc_plan_values.specs.Computing.{ArgumentFits, LiesInGrains, number_at};
+ghost use Rattle.vc_plan_values.specs.Values.{count_if, meant_if};
 ghost use Rattle.vc_rule_readings.specs.Beside.{seen_beside};
 ghost use Rattle.vc_rule_readings.specs.Parted.{parted_reading};
 ghost use Rattle.vc_rule_readings.specs.Summing.{SumsFit};
@@ -15,9 +15,8 @@ use crate::parts::{part_count, part_sum};
 use crate::sets::{set_filled, set_holds};
 use crate::whole::specified;
 use crate::{numbers, truths};
-use vc_plan::{Kleene, Plan, Reading};
-use vc_rule_terms::TermValue;
-use vc_rule_terms::elements::element;
+use vc_plan::{Kleene, Plan, Reading, element};
+use vc_plan_values::TermValue;
 use vc_value::Value;
 use vc_value_wide::Wide;
 
@@ -29,7 +28,7 @@ pub struct Parted<'a, R> {
 }
 
 impl<'a, R: Reading> Facts for Parted<'a, R> {
-    ghost use Rattle.vc_rule_terms.specs.Computing.{LiesInGrains};
+    ghost use Rattle.vc_plan_values.specs.Computing.{LiesInGrains};
     ghost use Rattle.vc_rule_readings.specs.Parted.{parted_reading};
     ghost use Rattle.vc_rule_readings.specs.Summing.{SumsFit};
 

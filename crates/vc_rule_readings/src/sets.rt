@@ -1,37 +1,14 @@
 //! The texts that the user put into sets.
 
-ghost use Rattle.std.specs.Prelude.{◌≡◌, ◌&&◌, ◌==◌, Some};
+ghost use Rattle.std.specs.Prelude.{◌≡◌, ◌&&◌, ◌==◌};
 ghost use Rattle.std.specs.List.{filter, list_any};
-ghost use Rattle.vc_plan.specs.Domains.{texts_in, texts_of};
+ghost use Rattle.vc_plan.specs.Domains.{texts_of};
 ghost use Rattle.vc_plan.specs.Truth.{set_filled, set_holds};
 ghost use Rattle.vc_plan.specs.declared.conditions.Kleene.TheVariants.{False};
 
-use crate::truths::truth_of;
 use vc_plan::{Kleene, Plan, Reading};
-use vc_rule_terms::elements::element;
-use vc_value::Domain;
-
-fn texts_in(domain: &Domain) -> &[u32]
-    ensures { result.now ≡ texts_in (Some domain.now) }
-{
-    match domain {
-        Domain::Texts(texts) => texts.as_slice(),
-        Domain::Nums { .. } => &[],
-    }
-}
-
-/// The texts that the set may have.
-pub fn texts_of(plan: &Plan, set: u32) -> &[u32]
-    ensures { result.now ≡ texts_of plan.now set }
-{
-    match element(plan.sets.as_slice(), set) {
-        Some(x) => match element(plan.domains.as_slice(), x.domain) {
-            Some(domain) => texts_in(domain),
-            None => &[],
-        },
-        None => &[],
-    }
-}
+use vc_plan_values::texts_of;
+use vc_plan_values::truths::truth_of;
 
 fn has_text(texts: &[u32], text: u32) -> bool
     ensures { result ≡ list_any (λ x. x == text) texts.now }

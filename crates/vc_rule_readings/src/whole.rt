@@ -4,13 +4,12 @@ ghost use Rattle.std.specs.Prelude.{◌≡◌};
 ghost use Rattle.vc_plan.specs.declared.conditions.Kleene.TheVariants.{False};
 ghost use Rattle.vc_plan.specs.Readings.{full_reading};
 ghost use Rattle.vc_plan.specs.Truth.{specified, truth_at};
-ghost use Rattle.vc_rule_terms.specs.Computing.{LiesInGrains, TermsFit};
+ghost use Rattle.vc_plan_values.specs.Computing.{LiesInGrains, TermsFit};
 
 use crate::facts::Facts;
 use crate::sets::{set_filled, set_holds};
 use crate::truths::truth;
-use vc_plan::{Kleene, Plan, Reading};
-use vc_rule_terms::elements::element;
+use vc_plan::{Kleene, Plan, Reading, element};
 use vc_value::Value;
 use vc_value_wide::Wide;
 

@@ -7,7 +7,6 @@ use Rattle.vc_plan.specs.declared.plans.Plan.{Plan}
 use Rattle.vc_plan.specs.Answers.{nothing}
 use Rattle.vc_plan.specs.Seen.{Seen}
 use Rattle.vc_rule_premises.specs.Saying.{Said, said_from}
-pub use Rattle.vc_rule_grains.specs.Tests.{stored_value}
 use Rattle.vc_rule_sides.specs.Comparing.{values_in}
 use Rattle.vc_rule_sides.specs.declared.assigning.Assigned.{Assigned}
 use Rattle.vc_rule_sides.specs.declared.assigning.Assigned.TheVariants.{Nothing, NoGrain, To}

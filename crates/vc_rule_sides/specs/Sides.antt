@@ -4,7 +4,7 @@ use Rattle.vc_plan.specs.declared.atoms.Atom.{Atom}
 use Rattle.vc_plan.specs.declared.plans.Plan.{Plan}
 use Rattle.vc_plan.specs.Restrictions.{related}
 use Rattle.vc_plan.specs.Seen.{Seen}
-use Rattle.vc_rule_terms.specs.Values.{meant_if}
+use Rattle.vc_plan_values.specs.Values.{meant_if}
 use Rattle.vc_rule_premises.specs.Saying.{Said}
 use Rattle.vc_rule_sides.specs.Comparing.{values_in, related_said}
 use Rattle.vc_rule_sides.specs.declared.comparing.Side.{Side}

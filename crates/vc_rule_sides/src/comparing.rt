@@ -3,18 +3,20 @@
 ghost use Rattle.std.specs.Prelude.{◌≡◌, ◌++◌, IfSome};
 ghost use Rattle.vc_base.specs.Rounds.{is_clash};
 ghost use Rattle.vc_plan.specs.Kleene.{is_false};
-ghost use Rattle.vc_rule_terms.specs.Computing.{TermsFit, LiesInGrains};
-ghost use Rattle.vc_rule_terms.specs.Values.{meant};
+ghost use Rattle.vc_plan_values.specs.Computing.{TermsFit, LiesInGrains};
+ghost use Rattle.vc_plan_values.specs.Values.{meant};
 ghost use Rattle.vc_rule_premises.specs.Saying.{clashing, together, taken};
 ghost use Rattle.vc_rule_grains.specs.Finding.{GrainsFit, PassesOnly};
 ghost use Rattle.vc_rule_sides.specs.Comparing.{may_relate, values_in, compare_said};
 ghost use Rattle.vc_rule_sides.specs.Sides.{side_given, side_said};
 
-use crate::sides::{cite_values, confine_by, is_ruled_out, lone_inferred};
-use vc_plan::{Kleene, Piece, Plan, Relation, Rule, View};
+use crate::sides::{cite_values, confine_by, is_ruled_out};
+use vc_plan::{Piece, Plan, Relation, Rule, View};
+use vc_plan_values::{
+    TermValue, compared, is_false, is_inside, lone_inferred, opposite, stored_value, turned,
+};
 use vc_rule_grains::Test;
-use vc_rule_grains::allowing::stored_value;
-use vc_rule_terms::{TermValue, compared, is_inside, opposite, term_value, turned};
+use vc_rule_terms::term_value;
 use vc_rule_yield::Yield;
 use vc_value::Value;
 
@@ -26,7 +28,7 @@ pub struct MayRelate {
 }
 
 impl Test for MayRelate {
-    ghost use Rattle.vc_rule_terms.specs.Values.{meant};
+    ghost use Rattle.vc_plan_values.specs.Values.{meant};
     ghost use Rattle.vc_rule_sides.specs.Comparing.{may_relate};
 
     ghost passes = { λ s. may_relate s.relation (meant s.value) };
@@ -48,15 +50,6 @@ fn only_equal(relation: Relation, value: TermValue) -> Option<Value>
     match relation {
         Relation::Equal => stored_value(value),
         _ => None,
-    }
-}
-
-fn is_false(truth: Kleene) -> bool
-    ensures { result ≡ is_false truth }
-{
-    match truth {
-        Kleene::False => true,
-        _ => false,
     }
 }
 

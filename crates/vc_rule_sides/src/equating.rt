@@ -1,25 +1,25 @@
 //! Equations of two terms.
 
-ghost use Rattle.std.specs.Prelude.{◌≡◌, ◌^◌, ◌<◌, ◌≤◌, ◌∷◌, [], ◌&&◌, min, is_none};
+ghost use Rattle.std.specs.Prelude.{◌≡◌, ◌<◌, ◌∷◌, [], ◌&&◌, is_none};
 ghost use Rattle.vc_base.specs.Rounds.{atoms, is_clash};
-ghost use Rattle.vc_plan.specs.Pieces.{same_value};
 ghost use Rattle.vc_plan.specs.Readings.{net_reading};
-ghost use Rattle.vc_plan.specs.Restrictions.{lone, lone_inferred, decimals_in_side, differ};
+ghost use Rattle.vc_plan.specs.Restrictions.{lone, lone_inferred};
 ghost use Rattle.vc_plan.specs.Truth.{number_of_value, value_at};
-ghost use Rattle.vc_rule_terms.specs.Computing.{TermsFit, LiesInGrains, ArgumentFits};
-ghost use Rattle.vc_rule_terms.specs.Values.{meant, meant_if};
+ghost use Rattle.vc_plan_values.specs.Computing.{TermsFit, LiesInGrains, ArgumentFits};
+ghost use Rattle.vc_plan_values.specs.Values.{meant_if};
 ghost use Rattle.vc_rule_premises.specs.Saying.{said_from, taken, together};
 ghost use Rattle.vc_rule_sides.specs.Assigning.{assigned_given, equal_side_said};
 ghost use Rattle.vc_rule_sides.specs.Comparing.{values_in};
 ghost use Rattle.vc_rule_sides.specs.Equating.{equate_said};
 
-use crate::assigning::{Assigned, equal_to, rounded_value};
+use crate::assigning::{Assigned, equal_to};
 use crate::comparing::clash_by_values;
-use crate::sides::{cite_values, lone, lone_inferred};
+use crate::sides::cite_values;
 use vc_plan::{Atom, Plan, Rule, View};
-use vc_rule_grains::allowing::decimals_of;
+use vc_plan_values::rounding::{decimals_of_sides, differ};
+use vc_plan_values::{TermValue, lone, lone_inferred};
 use vc_rule_grains::grains::stands;
-use vc_rule_terms::{TermValue, term_value};
+use vc_rule_terms::term_value;
 use vc_rule_yield::Yield;
 
 /// A side of an equation.
@@ -39,57 +39,6 @@ fn value_of_side<V: View>(plan: &Plan, view: &V, term: u32) -> Option<TermValue>
     ensures small { ArgumentFits (number_of_value (meant_if result)) }
 {
     term_value(plan, view, term)
-}
-
-fn same_value(first: TermValue, second: TermValue) -> bool
-    ensures { result ≡ same_value (meant first) (meant second) }
-{
-    match (first, second) {
-        (TermValue::Text(text), TermValue::Text(other)) => text == other,
-        (TermValue::Number(number), TermValue::Number(other)) => {
-            number.millionths == other.millionths
-        }
-        _ => false,
-    }
-}
-
-// Whether both values are there and differ with so many decimals.
-fn differ(decimals: u8, first: Option<TermValue>, second: Option<TermValue>) -> bool
-    requires decimals { decimals ≤ 6 }
-    requires first { ArgumentFits (number_of_value (meant_if first)) }
-    requires second { ArgumentFits (number_of_value (meant_if second)) }
-    ensures { result ≡ differ decimals (meant_if first) (meant_if second) }
-{
-    match (first, second) {
-        (Some(first), Some(second)) => {
-            !same_value(
-                rounded_value(decimals, first),
-                rounded_value(decimals, second),
-            )
-        }
-        _ => false,
-    }
-}
-
-// The decimals of a side that is this variable; 6 where it isn't one.
-fn decimals_in_side(plan: &Plan, var: Option<u32>) -> u8
-    requires { TermsFit plan.now }
-    ensures is { result ≡ decimals_in_side plan.now var }
-    ensures few { result ≤ 6 }
-{
-    match var {
-        Some(var) => decimals_of(plan, var),
-        None => 6,
-    }
-}
-
-// The fewer of the decimals of two sides.
-fn decimals_of_sides(plan: &Plan, left: Option<u32>, right: Option<u32>) -> u8
-    requires { TermsFit plan.now }
-    ensures is { result ≡ min (decimals_in_side plan.now left) (decimals_in_side plan.now right) }
-    ensures few { result ≤ 6 }
-{
-    decimals_in_side(plan, left).min(decimals_in_side(plan, right))
 }
 
 fn is_clash(assigned: Assigned) -> bool

@@ -2,20 +2,18 @@
 
 ghost use Rattle.std.specs.Prelude.{◌≡◌, ◌++◌};
 ghost use Rattle.vc_base.specs.Rounds.{is_clash};
-ghost use Rattle.vc_plan.specs.Restrictions.{confined, lone, lone_inferred};
+ghost use Rattle.vc_plan.specs.Restrictions.{confined};
 ghost use Rattle.vc_rule_premises.specs.Citing.{cited_all};
 ghost use Rattle.vc_rule_premises.specs.Saying.{said_from, taken};
 ghost use Rattle.vc_rule_grains.specs.Confining.{why_confined};
 ghost use Rattle.vc_rule_grains.specs.Finding.{GrainsFit};
 ghost use Rattle.vc_rule_sides.specs.Comparing.{values_in};
 
-use vc_plan::{Plan, Rule, Term, View};
-use vc_rule_grains::grains::is_restrictable;
-use vc_rule_grains::kinds::is_inferred;
+use vc_plan::{Plan, View, element};
+use vc_plan_values::is_restrictable;
 use vc_rule_grains::remaining::{Remaining, remaining_of};
 use vc_rule_grains::{Test, confine};
 use vc_rule_premises::cite_term;
-use vc_rule_terms::elements::element;
 use vc_rule_yield::Yield;
 
 /// Cites the values of the variables that the plan's term of this number reads.
@@ -24,26 +22,6 @@ pub fn cite_values<V: View>(plan: &Plan, view: &V, term: u32, out: &mut Yield)
 {
     if let Some(term) = element(plan.terms.as_slice(), term) {
         cite_term(view, term, out);
-    }
-}
-
-/// The variable that the term is, if it is one alone.
-pub fn lone(plan: &Plan, term: u32) -> Option<u32>
-    ensures { result ≡ lone plan.now term }
-{
-    match element(plan.terms.as_slice(), term) {
-        Some(Term::Read(var)) => Some(*var),
-        _ => None,
-    }
-}
-
-/// The variable that the term is, if it is one alone that the rule may narrow.
-pub fn lone_inferred(plan: &Plan, rule: &Rule, term: u32) -> Option<u32>
-    ensures { result ≡ lone_inferred plan.now rule.now term }
-{
-    match lone(plan, term) {
-        Some(var) if is_inferred(rule, var) => Some(var),
-        _ => None,
     }
 }
 

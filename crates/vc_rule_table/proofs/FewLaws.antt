@@ -32,7 +32,7 @@ use Rattle.vc_plan.specs.Seen.{Seen, says}
 use Rattle.vc_plan.specs.TableRows.{rows_of, is_possible, is_possible_in, columns_of, other_columns, has_grain}
 use Rattle.vc_plan.specs.TableRows.{has_cell, missing_grains, first_cell, value_if, agreed, narrowed}
 use Rattle.vc_plan.specs.Valid.{IsValid}
-use Rattle.vc_rule_terms.proofs.TermLemmas.{PassesIf, all_get}
+use Rattle.vc_plan_values.proofs.TermLemmas.{PassesIf, all_get}
 use Rattle.vc_rule_yield.specs.Yielding.{Conclusion}
 use Rattle.vc_rule_premises.specs.Saying.{concluding, clash_when}
 use Rattle.vc_rule_table.specs.Laws.{premises_at_most, IsFew, TableIsFew}

@@ -10,9 +10,8 @@ ghost use Rattle.vc_rule_premises.specs.Citing.{cited_all};
 ghost use Rattle.vc_rule_table.specs.Cells.{FewGrains, grain_holds, left_among, holds_left, has_left_among, out_among};
 ghost use Rattle.vc_rule_table.specs.Reasons.{grains_out, cell_reasons, operand_reasons};
 
-use vc_plan::{Atom, Operand, Piece, Plan, View};
-use vc_rule_terms::elements::element;
-use vc_rule_terms::lies_in;
+use vc_plan::{Atom, Operand, Piece, Plan, View, element};
+use vc_plan_values::lies_in;
 use vc_rule_yield::Yield;
 use vc_rule_yield::atoms::same_value;
 use vc_value::{Domain, Value};

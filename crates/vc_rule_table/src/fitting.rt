@@ -12,9 +12,8 @@ ghost use Rattle.vc_rule_table.specs.Fitting.{IsTest, LeftOf, TellsLeft, holds_b
 ghost use Rattle.vc_rule_table.specs.Fitting.{test_passes, with_left};
 
 use crate::cells::{domain_of, has_left_among};
-use vc_plan::{Operand, Piece, Plan, View};
-use vc_rule_terms::elements::element;
-use vc_rule_terms::lies_in;
+use vc_plan::{Operand, Piece, Plan, View, element};
+use vc_plan_values::lies_in;
 use vc_rule_yield::atoms::same_value;
 use vc_value::{Dec, Domain, GrainList, Listed, Value};
 

@@ -6,8 +6,7 @@ ghost use Rattle.vc_rule_table.specs.Cells.{FewGrains, is_given, columns_but};
 ghost use Rattle.vc_rule_table.specs.Reasons.{first_misfit};
 
 use crate::cells::fits;
-use vc_plan::{Binding, Operand, Plan, View};
-use vc_rule_terms::elements::element;
+use vc_plan::{Binding, Operand, Plan, View, element};
 use vc_value::{Listed, Value};
 
 /// The rows of the table; none where there is no such table.

@@ -2,14 +2,7 @@
 #![tactic(auto)]
 
 pub mod conditions;
-pub mod elements;
-pub mod laws;
 pub mod numbers;
 pub mod plan_terms;
-pub mod relations;
-pub mod values;
 
-pub use conditions::compared;
 pub use plan_terms::{number, term_value, truth};
-pub use relations::{is_inside, lies_in, lies_in_some, of_value, opposite, relates, turned};
-pub use values::TermValue;

@@ -3,12 +3,12 @@
 ghost use Rattle.std.specs.Prelude.{◌≡◌};
 ghost use Rattle.vc_plan.specs.Readings.{net_reading};
 ghost use Rattle.vc_plan.specs.Truth.{truth_at, value_at};
-ghost use Rattle.vc_rule_terms.specs.Computing.{TermsFit, LiesInGrains, number_at};
-ghost use Rattle.vc_rule_terms.specs.Values.{meant_if, count_if};
+ghost use Rattle.vc_plan_values.specs.Computing.{TermsFit, LiesInGrains, number_at};
+ghost use Rattle.vc_plan_values.specs.Values.{meant_if, count_if};
 
-use crate::elements::element;
-use crate::{TermValue, conditions, numbers};
-use vc_plan::{Kleene, Plan, View};
+use crate::{conditions, numbers};
+use vc_plan::{Kleene, Plan, View, element};
+use vc_plan_values::TermValue;
 use vc_value_wide::Wide;
 
 /// The truth of the plan's condition of this number at what the view says, as a net asks it: what

@@ -4,7 +4,7 @@ ghost use Rattle.std.specs.Prelude.{◌≡◌, true, false, [], ◌∷◌, lengt
 ghost use Rattle.vc_value.specs.declared.table_header.Domain.TheVariants.{Texts};
 ghost use Rattle.vc_value.specs.declared.value.Value.TheVariants.{Text};
 ghost use Rattle.vc_plan.specs.declared.terms.Term.TheVariants.{Literal, Read};
-ghost use Rattle.vc_rule_terms.specs.Computing.{TermsFit};
+ghost use Rattle.vc_plan_values.specs.Computing.{TermsFit};
 ghost use Rattle.vc_rule_grains.specs.Finding.{GrainsFit};
 
 use std::alloc::Global;

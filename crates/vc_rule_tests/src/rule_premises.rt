@@ -1,7 +1,7 @@
 //! What is cited for conditions and rules, at a view of two values and one of none.
 
 ghost use Rattle.std.specs.Prelude.{◌≡◌, IfOk};
-ghost use Rattle.vc_rule_terms.specs.Computing.{TermsFit};
+ghost use Rattle.vc_plan_values.specs.Computing.{TermsFit};
 
 use std::alloc::Global;
 use std::process::Abort;

@@ -8,12 +8,12 @@ ghost use Rattle.vc_rule_readings.specs.Summing.{SumsFit};
 use std::alloc::{AllocError, Global};
 use std::test::Fail;
 use vc_plan::{Condition, Kleene, Line, Mark, Plan, Reading, Slot, Term, TextSet, View};
+use vc_plan_values::TermValue;
 use vc_rule_readings::parts::{part_count, part_sum};
 use vc_rule_readings::sets::{set_filled, set_holds};
 use vc_rule_readings::{
     Marks, amount, full_truth, procedure_number, procedure_truth, procedure_value,
 };
-use vc_rule_terms::TermValue;
 use vc_value::{Dec, Domain, Listed, Value, Word};
 use vc_value_wide::Wide;
 

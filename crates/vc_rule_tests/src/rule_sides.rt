@@ -8,9 +8,9 @@ use std::alloc::Global;
 use std::process::Abort;
 use std::test::Fail;
 use vc_plan::{Atom, Plan, Relation, Term, Var, View};
+use vc_plan_values::TermValue;
 use vc_rule_sides::comparing::MayRelate;
 use vc_rule_sides::sides::confine_by;
-use vc_rule_terms::TermValue;
 use vc_rule_yield::Yield;
 use vc_value::{Domain, Listed, Value, Word};
 

@@ -1,15 +1,13 @@
 //! Terms and conditions at a view that says one value. Counts are millionths.
 
 ghost use Rattle.std.specs.Prelude.{◌≡◌, IfOk};
-ghost use Rattle.vc_rule_terms.specs.Computing.{TermsFit};
+ghost use Rattle.vc_plan_values.specs.Computing.{TermsFit};
 
 use std::alloc::{AllocError, Global};
 use std::test::Fail;
 use vc_plan::{Condition, Kleene, Piece, Plan, Relation, Term, View};
-use vc_rule_terms::{
-    TermValue, conditions, is_inside, lies_in_some, number, numbers, opposite, relates, term_value,
-    truth, turned,
-};
+use vc_plan_values::{TermValue, is_inside, lies_in_some, opposite, relates, turned};
+use vc_rule_terms::{conditions, number, numbers, term_value, truth};
 use vc_value::{Dec, Grain, Listed, Value, Word};
 use vc_value_wide::Wide;
 

@@ -1,16 +1,14 @@
 //! Which values a user may give.
 
-ghost use Rattle.std.specs.Prelude.{◌≡◌, ◌==◌, map, option_copied, slice_get, Some};
+ghost use Rattle.std.specs.Prelude.{◌≡◌, ◌==◌, option_copied, slice_get};
 ghost use Rattle.std.specs.List.{list_any};
-ghost use Rattle.vc_plan.specs.Domains.{decimals_of, domain_of, grains_in, grains_of, texts_of};
+ghost use Rattle.vc_plan.specs.Domains.{decimals_of, domain_of, texts_of};
 ghost use Rattle.vc_plan.specs.Fitting.{has_at_most, may_have};
-ghost use Rattle.vc_plan.specs.Pieces.{lies_in_some};
-ghost use Rattle.vc_value.specs.declared.value.Value.TheVariants.{Num};
-ghost use Rattle.vc_plan.specs.declared.conditions.Piece.TheVariants.{Stretch};
 ghost use Rattle.vc_session.specs.Edits.{may_be_given};
 
 use vc_plan::{Named, Plan};
-use vc_value::{Dec, Domain, GrainList, Value};
+use vc_plan_values::some_holds;
+use vc_value::{Domain, Value};
 
 /// Whether the user may give it the value: a variable one that a grain holds, with no more decimals than its numbers;
 /// a set a text of its list.
@@ -29,7 +27,7 @@ pub fn may_be_given(plan: &Plan, named: Named, value: Value) -> bool
 fn may_have(plan: &Plan, var: u32, value: Value) -> bool
     ensures { result ≡ may_have plan.now var value }
 {
-    holds(plan, var, value) && has_at_most(decimals_of(plan, var), value)
+    some_holds(plan, var, value) && has_at_most(decimals_of(plan, var), value)
 }
 
 fn has_at_most(decimals: u8, value: Value) -> bool
@@ -66,41 +64,6 @@ fn has_text(texts: &[u32], text: u32) -> bool
     ensures { result ≡ list_any (λ listed. listed == text) texts.now }
 {
     texts.iter().any(|listed| *listed == text)
-}
-
-#[tactic(auto, using(vc_rule_sides::proofs::AssignLemmas::number_held))]
-fn has_number(grains: &GrainList, number: Dec) -> bool
-    ensures { result ≡ lies_in_some (map Stretch grains.now) (Num number) }
-{
-    grains.find(number).is_some()
-}
-
-#[tactic(auto, using(vc_rule_sides::proofs::AssignLemmas::no_text, vc_rule_sides::proofs::AssignLemmas::no_number))]
-fn domain_holds(domain: &Domain, value: Value) -> bool
-    ensures { result ≡ lies_in_some (grains_in (Some domain.now)) value }
-{
-    match domain {
-        Domain::Texts(texts) => match value {
-            Value::Text(text) => has_text(texts.as_slice(), text),
-            Value::Num(_) => false,
-        },
-        Domain::Nums {
-            decimals: _,
-            grains,
-        } => match value {
-            Value::Text(_) => false,
-            Value::Num(number) => has_number(grains, number),
-        },
-    }
-}
-
-fn holds(plan: &Plan, var: u32, value: Value) -> bool
-    ensures { result ≡ lies_in_some (grains_of plan.now var) value }
-{
-    match domain_of(plan, var) {
-        Some(domain) => domain_holds(domain, value),
-        None => false,
-    }
 }
 
 fn is_listed(plan: &Plan, set: u32, text: u32) -> bool

@@ -31,7 +31,7 @@ use Rattle.vc_plan_reasons.specs.Fitting.{sources_fit}
 use Rattle.vc_plan_reasons.proofs.ReasonLaws.Fitting.{stages_fit}
 use Rattle.vc_rule.proofs.BoundLaws.{clear_lies_in_grains}
 use Rattle.vc_proc_look_ups.specs.LookUps.{AreLookUpsOf}
-use Rattle.vc_rule_terms.specs.Computing.{LiesInGrains}
+use Rattle.vc_plan_values.specs.Computing.{LiesInGrains}
 use Rattle.vc_net_log.specs.Logs.{set_of}
 use Rattle.vc_net_going.specs.Breaking.{clash_from, steps_with}
 use Rattle.vc_net.specs.Differing.{AreAllWritten, SameBeside}

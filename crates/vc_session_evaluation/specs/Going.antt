@@ -10,7 +10,7 @@ use Rattle.vc_plan_users.specs.Choosing.{Chosen, users_of}
 use Rattle.vc_net.specs.Nets.{Netted}
 use Rattle.vc_proc.specs.Overlays.{EntriesLie}
 use Rattle.vc_proc.specs.Stages.{stage_written}
-use Rattle.vc_rule_terms.specs.Computing.{LiesInGrains}
+use Rattle.vc_plan_values.specs.Computing.{LiesInGrains}
 use Rattle.vc_session_stages.specs.Stages.{is_late_seen, was_seen}
 use Rattle.vc_session_evaluation.specs.Costing.{EvaluationCosts}
 use Rattle.vc_session_evaluation.specs.Evaluating.{AreStagesOf, HasSettled, IsEvaluated, said_by}

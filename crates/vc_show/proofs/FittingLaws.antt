@@ -20,7 +20,7 @@ use Rattle.vc_plan.specs.Orders.{are_in_order, same_numbers}
 use Rattle.vc_plan.specs.Ranges.{is_of, set_there}
 use Rattle.vc_plan.specs.Valid.{IsValid}
 use Rattle.vc_plan.proofs.PlanLaws.Counts.{sum_next}
-use Rattle.vc_rule_terms.proofs.TermLemmas.{PassesIf, all_get}
+use Rattle.vc_plan_values.proofs.TermLemmas.{PassesIf, all_get}
 use Rattle.vc_show.specs.Fitting.{ValidPlansShow}
 use Rattle.vc_show.specs.Places.{are_by_slot, slot_of_guard}
 

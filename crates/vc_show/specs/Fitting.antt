@@ -2,7 +2,7 @@
 use Rattle.std.specs.Prelude.{◌≡◌, ◌<◌, ◌^◌, true, length}
 use Rattle.vc_plan.specs.declared.plans.Plan.{Plan}
 use Rattle.vc_plan.specs.Valid.{IsValid}
-use Rattle.vc_rule_terms.specs.Computing.{TermsFit}
+use Rattle.vc_plan_values.specs.Computing.{TermsFit}
 use Rattle.vc_rule_readings.specs.Finding.{stands_by}
 use Rattle.vc_show.specs.Places.{are_by_slot}
 

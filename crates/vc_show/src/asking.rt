@@ -1,6 +1,6 @@
 //! What must have a value, and whether something that must has none.
 
-ghost use Rattle.std.specs.Prelude.{◌≡◌, ◌<◌, ◌^◌, ◌||◌, ◌&&◌, ◌++◌, ◌∷◌, [], not, length, slice_get};
+ghost use Rattle.std.specs.Prelude.{◌≡◌, ◌<◌, ◌||◌, ◌&&◌, ◌++◌, ◌∷◌, [], not, length, slice_get};
 ghost use Rattle.std.specs.Prelude.{if◌then◌else◌, IfOk, OnOk};
 ghost use Rattle.std.specs.List.{list_any};
 ghost use Rattle.vc_plan.specs.Domains.{numbers_below};
@@ -9,17 +9,16 @@ ghost use Rattle.vc_plan.specs.Readings.{full_reading};
 ghost use Rattle.vc_plan.specs.Showing.{characteristic_of, has_open, is_hidden, is_marked, is_required, same_named};
 ghost use Rattle.vc_plan.specs.Truth.{truth_at};
 ghost use Rattle.vc_plan.specs.declared.plans.Named.TheVariants.{Set, Var};
-ghost use Rattle.vc_rule_terms.specs.Computing.{LiesInGrains, TermsFit};
+ghost use Rattle.vc_plan_values.specs.Computing.{LiesInGrains, TermsFit};
 ghost use Rattle.vc_show.specs.Asking.{is_bare, is_demanding, lacks_demanded, lacks_marked, lacks_some, marked_of};
 ghost use Rattle.vc_show.specs.Fitting.{ShownFits};
 
 use crate::hiding::hidden;
 use crate::naming::{is_bare, same_named};
-use crate::sets::is_true;
 use std::alloc::{AllocError, Global};
-use vc_plan::{Named, Plan, Reading, Requirement};
+use vc_plan::{Named, Plan, Reading, Requirement, element};
+use vc_plan_values::is_true;
 use vc_rule_readings::full_truth;
-use vc_rule_terms::elements::element;
 use vc_value::Listed;
 
 fn is_marked_at(plan: &Plan, characteristic: u32) -> bool

@@ -5,12 +5,12 @@ ghost use Rattle.std.specs.List.{filter};
 ghost use Rattle.vc_plan.specs.Readings.{full_reading};
 ghost use Rattle.vc_plan.specs.Showing.{is_forbidden};
 ghost use Rattle.vc_plan.specs.declared.plans.Guard.{Guard as PlanGuard};
-ghost use Rattle.vc_rule_terms.specs.Computing.{LiesInGrains, TermsFit};
+ghost use Rattle.vc_plan_values.specs.Computing.{LiesInGrains, TermsFit};
 ghost use Rattle.vc_show.specs.Places.{are_by_slot, slot_of_guard};
 
 use crate::naming::slot_of;
-use crate::sets::is_false;
 use vc_plan::{Guard, Plan, Reading};
+use vc_plan_values::is_false;
 use vc_rule_readings::full_truth;
 
 fn slot_of_guard(plan: &Plan, guard: &Guard) -> u32

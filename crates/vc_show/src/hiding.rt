@@ -1,22 +1,19 @@
 //! What preconditions hide, and what they forbid. Preconditions come by their slots, so a name asks those of its slot.
 
-ghost use Rattle.std.specs.Prelude.{◌≡◌, ◌&&◌, is_none, map, slice_get};
+ghost use Rattle.std.specs.Prelude.{◌≡◌, ◌&&◌, is_none};
 ghost use Rattle.std.specs.List.{find, list_any};
 ghost use Rattle.vc_plan.specs.Readings.{full_reading};
 ghost use Rattle.vc_plan.specs.Showing.{covers, has_guarded, is_forbidden, is_hidden, is_named_here, is_value_hidden};
 ghost use Rattle.vc_plan.specs.Showing.{is_violated, same_named};
-ghost use Rattle.vc_plan.specs.declared.conditions.Piece.TheVariants.{OneText};
-ghost use Rattle.vc_rule_terms.specs.Computing.{LiesInGrains, TermsFit};
+ghost use Rattle.vc_plan_values.specs.Computing.{LiesInGrains, TermsFit};
 ghost use Rattle.vc_show.specs.Fitting.{ShownFits};
 ghost use Rattle.vc_show.specs.Places.{is_place_hidden, piece_of};
 
 use crate::guarding::{guards_of, is_forbidden};
 use crate::naming::{has_guarded, is_here, same_named, slot_of};
-use crate::sets::texts_of;
 use vc_plan::{Guard, Named, Piece, Plan, Reading};
-use vc_rule_grains::allowing::is_part;
-use vc_rule_grains::grains::piece;
-use vc_rule_terms::elements::element;
+use vc_plan_values::grains::text_at;
+use vc_plan_values::{is_part, piece, texts_of};
 
 // Whether the precondition stands at the name itself.
 fn is_own(named: Named, guard: Guard) -> bool
@@ -125,22 +122,12 @@ pub fn is_value_hidden<R: Reading>(plan: &Plan, reading: &R, named: Named, grain
     )
 }
 
-#[tactic(auto, using(vc_rule_grains::proofs::GrainLemmas::text_at))]
-fn text_of(texts: &[u32], number: u32) -> Option<Piece>
-    ensures { result ≡ slice_get (map OneText texts.now) number }
-{
-    match element(texts, number) {
-        Some(text) => Some(Piece::OneText(*text)),
-        None => None,
-    }
-}
-
 fn piece_of(plan: &Plan, named: Named, number: u32) -> Option<Piece>
     ensures { result ≡ piece_of plan.now named number }
 {
     match named {
         Named::Var(var) => piece(plan, var, number),
-        Named::Set(set) => text_of(texts_of(plan, set), number),
+        Named::Set(set) => text_at(texts_of(plan, set), number),
     }
 }
 

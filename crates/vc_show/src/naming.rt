@@ -11,9 +11,8 @@ ghost use Rattle.vc_show.specs.Asking.{is_bare};
 ghost use Rattle.vc_show.specs.Places.{slot_of};
 
 use crate::sets;
-use vc_plan::{Named, Piece, Plan, Reading, View};
-use vc_rule_terms::elements::element;
-use vc_rule_terms::lies_in;
+use vc_plan::{Named, Piece, Plan, Reading, View, element};
+use vc_plan_values::lies_in;
 use vc_value::Value;
 
 /// Whether two names mean the same.

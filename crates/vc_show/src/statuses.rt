@@ -3,7 +3,7 @@
 ghost use Rattle.std.specs.Prelude.{◌≡◌, None};
 ghost use Rattle.vc_plan.specs.Readings.{full_reading};
 ghost use Rattle.vc_plan.specs.Showing.{culprit_at, settled_status, status_by};
-ghost use Rattle.vc_rule_terms.specs.Computing.{LiesInGrains};
+ghost use Rattle.vc_plan_values.specs.Computing.{LiesInGrains};
 ghost use Rattle.vc_show.specs.Asking.{marked_of};
 ghost use Rattle.vc_show.specs.Fitting.{ShownFits};
 

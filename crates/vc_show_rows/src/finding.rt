@@ -6,9 +6,8 @@ ghost use Rattle.vc_rule_readings.specs.Finding.{stands_by};
 ghost use Rattle.vc_show.specs.Fitting.{ShownFits};
 ghost use Rattle.vc_show_rows.specs.Rows.{class_of, named_by, named_of, set_named, set_of};
 
-use vc_plan::{Named, Plan};
+use vc_plan::{Named, Plan, element};
 use vc_rule_readings::finding::{number_at, var_of};
-use vc_rule_terms::elements::element;
 
 // The slot's set of the characteristic, if its class has that.
 #[tactic(auto, using(crate::proofs::FindingLemmas::first_set))]

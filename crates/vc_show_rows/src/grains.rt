@@ -10,18 +10,16 @@ ghost use Rattle.vc_plan.specs.Readings.{full_reading};
 ghost use Rattle.vc_plan.specs.Seen.{is_left};
 ghost use Rattle.vc_plan.specs.declared.conditions.Piece.TheVariants.{OneText, Stretch};
 ghost use Rattle.vc_plan.specs.declared.plans.Named.TheVariants.{Var};
-ghost use Rattle.vc_rule_terms.specs.Computing.{LiesInGrains};
+ghost use Rattle.vc_plan_values.specs.Computing.{LiesInGrains};
 ghost use Rattle.vc_show.specs.Places.{is_place_hidden};
 ghost use Rattle.vc_show_rows.specs.Fitting.{RowsFit};
 ghost use Rattle.vc_show_rows.specs.Rows.{entries_of, is_shown, shown_grain, shown_grains, shown_pieces};
 
 use crate::joining::joined;
 use std::alloc::{AllocError, Global};
-use vc_plan::{Named, Piece, Plan, Reading};
-use vc_rule_grains::allowing::decimals_of;
-use vc_rule_grains::grains::{is_left_by, piece};
-use vc_rule_grains::remaining::grain_count;
-use vc_rule_terms::elements::element;
+use vc_plan::{Named, Piece, Plan, Reading, element};
+use vc_plan_values::{decimals_of, grain_count, piece};
+use vc_rule_grains::grains::is_left_by;
 use vc_show::hidden_value;
 use vc_value::{Domain, GrainList, Listed};
 

@@ -8,7 +8,7 @@ ghost use Rattle.vc_show_rows.specs.Joining as joining;
 
 use std::alloc::{AllocError, Global};
 use vc_plan::Piece;
-use vc_rule_grains::allowing::is_part;
+use vc_plan_values::is_part;
 use vc_value::{Grain, Listed};
 
 // Whether the second piece begins with the number after the last of the first.

@@ -4,7 +4,7 @@ ghost use Rattle.std.specs.Prelude.{◌≡◌, ◌++◌, [], ◌∷◌, IfOk, On
 ghost use Rattle.std.specs.List.{filter};
 ghost use Rattle.vc_plan.specs.Readings.{full_reading};
 ghost use Rattle.vc_plan.specs.declared.plans.Named.TheVariants.{Set, Var};
-ghost use Rattle.vc_rule_terms.specs.Computing.{LiesInGrains};
+ghost use Rattle.vc_plan_values.specs.Computing.{LiesInGrains};
 ghost use Rattle.vc_show_rows.specs.Fitting.{RowsFit};
 ghost use Rattle.vc_show_rows.specs.Rows.{row_if, row_of, rows_of, set_row, var_row};
 
@@ -12,7 +12,7 @@ use crate::finding::{class_of, named_of};
 use crate::grains::shown_pieces;
 use std::alloc::{AllocError, Global};
 use vc_plan::{Named, Piece, Plan, Reading};
-use vc_show::sets::texts_of;
+use vc_plan_values::texts_of;
 use vc_show::{hidden, required};
 use vc_value::{Listed, Value};
 

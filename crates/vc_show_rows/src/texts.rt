@@ -10,8 +10,7 @@ ghost use Rattle.vc_show_rows.specs.Texts as told;
 
 use crate::rows::Row;
 use std::alloc::{AllocError, Global};
-use vc_plan::{Named, Piece, Plan};
-use vc_rule_terms::elements::element;
+use vc_plan::{Named, Piece, Plan, element};
 use vc_value::{Dec, Grain, Value, Word};
 
 fn put_doubled(out: &mut Word, text: &[u8]) -> Result<(), AllocError>

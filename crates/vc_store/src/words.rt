@@ -8,8 +8,7 @@ ghost use Rattle.vc_show_rows.specs.Texts as told;
 ghost use Rattle.vc_store.specs.Saving.{text_in};
 
 use std::str;
-use vc_plan::{Named, Plan};
-use vc_rule_terms::elements::element;
+use vc_plan::{Named, Plan, element};
 use vc_value::{Dec, Word};
 
 // The bytes as text, which they are.

@@ -13,9 +13,8 @@ ghost use Rattle.vc_wire_chains_lines.specs.Values as told;
 use crate::cutting::{after, behind_quoted, is_quoted, quoted_text};
 use crate::spelling::Spelling;
 use std::alloc::{AllocError, Global};
-use vc_check_board::grains::{grain_count, piece, some_holds};
-use vc_check_board::values::element;
-use vc_plan::{Piece, Plan};
+use vc_plan::{Piece, Plan, element};
+use vc_plan_values::{grain_count, piece, some_holds};
 use vc_value::{Dec, Domain, Grain, Value};
 use vc_wire_requests::cutting::cut_at_space;
 

@@ -11,8 +11,7 @@ ghost use Rattle.std.specs.List.{list_any};
 ghost use Rattle.vc_wire_chains_meanings.specs.Meant as meant;
 ghost use Rattle.vc_wire_chains_meanings.specs.Meant.{HasNumbers};
 
-use vc_check_board::values::element;
-use vc_plan::{Action, Characteristic, FilledColumn, Kind, Plan, Procedure, Rule, Var};
+use vc_plan::{Action, Characteristic, FilledColumn, Kind, Plan, Procedure, Rule, Var, element};
 use vc_value::{Word, equals_ignoring_case};
 
 fn characteristic_place(list: &[Characteristic], name: &[u8]) -> Option<usize>

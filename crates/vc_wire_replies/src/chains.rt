@@ -8,9 +8,8 @@ ghost use Rattle.vc_wire_replies.specs.Chains as told;
 
 use crate::culprits::{put_culprit, put_decimal, put_named, put_rule, put_statement};
 use std::alloc::{AllocError, Global};
-use vc_plan::{Atom, Clash, Culprit, Kind, Named, Origin, Plan, Rule, Step};
-use vc_rule_grains::grains::piece;
-use vc_rule_terms::elements::element;
+use vc_plan::{Atom, Clash, Culprit, Kind, Named, Origin, Plan, Rule, Step, element};
+use vc_plan_values::piece;
 use vc_show_rows::put_value;
 use vc_show_rows::texts::put_piece;
 use vc_value::{Value, Word};

@@ -6,8 +6,7 @@ ghost use Rattle.std.specs.Fmt.{decimal};
 ghost use Rattle.vc_wire_replies.specs.Culprits as told;
 
 use std::alloc::{AllocError, Global};
-use vc_plan::{Culprit, Named, Plan, Rule, Status};
-use vc_rule_terms::elements::element;
+use vc_plan::{Culprit, Named, Plan, Rule, Status, element};
 use vc_show::naming::slot_of_named;
 use vc_show_rows::put_name;
 use vc_value::Word;

@@ -3,8 +3,8 @@ use Rattle.std.proofs.Common.{cond, ap, sym, ◌∙◌}
 use Rattle.std.specs.Prelude.{[], ◌∷◌}
 use Rattle.vc_base.specs.Rounds.{clash, atoms}
 use Rattle.vc_plan.specs.declared.atoms.Atom.TheVariants.{Is}
-use Rattle.vc_check_truth.specs.Values.{meant}
-use Rattle.vc_check_gives.proofs.AssignLemmas.{not_stored}
+use Rattle.vc_plan_values.specs.Values.{meant}
+use Rattle.vc_plan_values.proofs.StoredLemmas.{not_stored}
 use Rattle.vc_check_gives.proofs.equating.assigned.Goals as goal
 
 pub returns-in-None : goal.returns-in-None

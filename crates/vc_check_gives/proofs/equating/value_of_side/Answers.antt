@@ -1,8 +1,8 @@
 -- The number of a term of a plan can be rounded.
 use Rattle.std.proofs.Common.{subst, sym}
 use Rattle.vc_plan.specs.Truth.{number_of_value}
-use Rattle.vc_check_truth.specs.Computing.{ArgumentFits}
-use Rattle.vc_check_gives.proofs.AssignLemmas.{side_fits}
+use Rattle.vc_plan_values.specs.Computing.{ArgumentFits}
+use Rattle.vc_plan_values.proofs.StoredLemmas.{side_fits}
 use Rattle.vc_check_gives.proofs.equating.value_of_side.Goals as goal
 
 pub returns-clause-small : goal.returns-clause-small

@@ -1,6 +1,6 @@
 use Rattle.std.proofs.Common.{ap, sym, ◌∙◌}
 use Rattle.std.specs.Prelude.{slice_get}
-use Rattle.vc_check_truth.proofs.TermLemmas.{term_at_computes}
+use Rattle.vc_plan_values.proofs.TermLemmas.{term_at_computes}
 use Rattle.vc_check_truth.proofs.plan_terms.term_value.Goals as goal
 
 pub term_value-requires : goal.term_value-requires

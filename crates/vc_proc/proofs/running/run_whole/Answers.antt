@@ -3,7 +3,7 @@ use Rattle.std.proofs.Common.{◌^◌, Bool, length, ap, subst, arith}
 use Rattle.std.specs.Prelude.{nat_lt}
 use Rattle.std.proofs.lemmas.Bool.{ltb-true}
 use Rattle.vc_plan.specs.declared.procedures.Procedure.{Procedure}
-use Rattle.vc_rule_terms.proofs.TermLemmas.{PassesIf, all_get}
+use Rattle.vc_plan_values.proofs.TermLemmas.{PassesIf, all_get}
 use Rattle.vc_proc.proofs.running.run_whole.Goals as goal
 
 abbrev few : Procedure → Bool

@@ -1,5 +1,5 @@
 use Rattle.std.proofs.Common.{sym, ◌∙◌}
-use Rattle.vc_rule_terms.specs.Values.{meant}
+use Rattle.vc_plan_values.specs.Values.{meant}
 use Rattle.vc_proc.specs.Writing.{place_from}
 use Rattle.vc_proc.proofs.WritingLemmas.{default_outside}
 use Rattle.vc_proc.proofs.writing.enter_default.Goals as goal

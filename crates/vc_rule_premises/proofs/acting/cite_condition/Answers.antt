@@ -1,6 +1,6 @@
 use Rattle.std.proofs.Common.{ap, sym, ◌∙◌}
 use Rattle.std.specs.Prelude.{slice_get}
-use Rattle.vc_rule_terms.proofs.TermLemmas.{condition_at_computes}
+use Rattle.vc_plan_values.proofs.TermLemmas.{condition_at_computes}
 use Rattle.vc_rule_premises.proofs.acting.cite_condition.Goals as goal
 
 pub cite_deciding-requires : goal.cite_deciding-requires

@@ -3,7 +3,7 @@ use Rattle.std.proofs.Common.{◌≡◌, ◌-◌, ◌≤◌, length, map}
 use Rattle.std.specs.List.{filter, range_with_len}
 use Rattle.vc_plan.specs.Parts.{total}
 use Rattle.vc_plan.specs.Readings.{full_reading}
-use Rattle.vc_rule_terms.specs.Values.{count_if}
+use Rattle.vc_plan_values.specs.Values.{count_if}
 use Rattle.vc_rule_readings.specs.Summing.{addend, adds}
 use Rattle.vc_rule_readings.proofs.parts.part_total.Given as goal
 

@@ -1,7 +1,7 @@
 -- The number of a term can be rounded.
 use Rattle.std.proofs.Common.{sym, subst}
 use Rattle.vc_plan.specs.Truth.{number_of_value}
-use Rattle.vc_rule_terms.specs.Computing.{ArgumentFits}
+use Rattle.vc_plan_values.specs.Computing.{ArgumentFits}
 use Rattle.vc_rule_readings.specs.Beside.{seen_beside}
 use Rattle.vc_rule_readings.specs.Parted.{parted_reading}
 use Rattle.vc_rule_readings.proofs.PartLemmas.{parted_bounded}

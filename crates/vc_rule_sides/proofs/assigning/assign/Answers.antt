@@ -3,8 +3,8 @@ use Rattle.std.proofs.Common.{cond, ap, sym, ◌∙◌}
 use Rattle.std.specs.Prelude.{[], ◌∷◌}
 use Rattle.vc_base.specs.Rounds.{clash, atoms}
 use Rattle.vc_plan.specs.declared.atoms.Atom.TheVariants.{Is}
-use Rattle.vc_rule_terms.specs.Values.{meant}
-use Rattle.vc_rule_sides.proofs.AssignLemmas.{not_stored}
+use Rattle.vc_plan_values.specs.Values.{meant}
+use Rattle.vc_plan_values.proofs.StoredLemmas.{not_stored}
 use Rattle.vc_rule_sides.proofs.assigning.assign.Goals as goal
 
 pub returns-in-None : goal.returns-in-None

@@ -1,5 +1,5 @@
 use Rattle.std.proofs.Common.{ap, sym, ◌∙◌}
-use Rattle.vc_rule_terms.specs.Values.{meant_if}
+use Rattle.vc_plan_values.specs.Values.{meant_if}
 use Rattle.vc_rule_premises.specs.Saying.{taken}
 use Rattle.vc_rule_sides.specs.Comparing.{values_in}
 use Rattle.vc_rule_sides.specs.Sides.{side_given, side_said}

@@ -1,7 +1,7 @@
 use Rattle.std.proofs.Common.{subst, sym}
 use Rattle.vc_plan.specs.Truth.{number_of_value}
-use Rattle.vc_rule_terms.specs.Computing.{ArgumentFits}
-use Rattle.vc_rule_sides.proofs.AssignLemmas.{side_fits}
+use Rattle.vc_plan_values.specs.Computing.{ArgumentFits}
+use Rattle.vc_plan_values.proofs.StoredLemmas.{side_fits}
 use Rattle.vc_rule_sides.proofs.equating.value_of_side.Goals as goal
 
 pub returns-clause-small : goal.returns-clause-small

@@ -1,6 +1,6 @@
 use Rattle.std.proofs.Common.{ap, sym, ◌∙◌}
 use Rattle.std.specs.Prelude.{slice_get}
-use Rattle.vc_rule_terms.proofs.TermLemmas.{term_at_computes}
+use Rattle.vc_plan_values.proofs.TermLemmas.{term_at_computes}
 use Rattle.vc_rule_terms.proofs.plan_terms.number.Goals as goal
 
 pub number-requires : goal.number-requires

@@ -1,6 +1,6 @@
 use Rattle.std.proofs.Common.{ap, sym, ◌∙◌}
 use Rattle.std.specs.Prelude.{slice_get}
-use Rattle.vc_rule_terms.proofs.TermLemmas.{condition_at_computes}
+use Rattle.vc_plan_values.proofs.TermLemmas.{condition_at_computes}
 use Rattle.vc_rule_terms.proofs.plan_terms.truth.Goals as goal
 
 pub truth-requires : goal.truth-requires

@@ -1,0 +1,4 @@
+pub mod GrainLemmas
+pub mod SizeLemmas
+pub mod StoredLemmas
+pub mod TermLemmas
