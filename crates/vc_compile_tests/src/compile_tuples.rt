@@ -3,7 +3,7 @@
 use std::alloc::Global;
 use std::process::Abort;
 use std::test::Fail;
-use vc_compile_tuples::{Asked, asked_of, tuples_of};
+use vc_compile_tuples::tuples_of;
 use vc_model_parts::parts::{
     BillItem, Characteristic, Class, Model, NamedDependency, Net, Object, Operation, Table,
 };
@@ -140,14 +140,5 @@ fn parts_stand_below_their_wholes(rt: HostRuntime) -> Result<(), Fail> {
 #[test]
 fn more_than_so_many_are_none(rt: HostRuntime) -> Result<(), Fail> {
     assert!(rt; tuples(&rt, rt.alloc(), 1).is_none());
-    Ok(())
-}
-
-#[test]
-fn parts_are_not_asked_of_values(rt: HostRuntime) -> Result<(), Fail> {
-    let condition = Some(condition(&rt, rt.alloc()));
-    let asked = asked_of(rt.alloc(), &condition)?;
-    let specified = matches!(asked, Some(Asked::Whole(Condition::Specified(_))));
-    assert!(rt; specified);
     Ok(())
 }

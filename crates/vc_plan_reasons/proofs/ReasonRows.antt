@@ -3,8 +3,8 @@ pub mod Below
 pub mod Chains
 pub mod Clashes
 pub mod Keepings
-pub mod Records
 pub mod Restrictions
+pub mod Sources
 pub mod Statuses
 pub mod Steps
 pub mod Touched

@@ -3,7 +3,6 @@ pub mod Checking
 pub mod Fitting
 pub mod Keeping
 pub mod Laws
-pub mod Records
 pub mod Refuting
 pub mod Things
 pub mod Trimming

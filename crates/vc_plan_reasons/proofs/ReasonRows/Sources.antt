@@ -1,23 +1,17 @@
--- Which sources fit a plan with a slot below the root, and which records of a net are sound.
-use Rattle.std.proofs.Common.{◌≡◌, ℕ, Bool, true, false, List, [], ◌∷◌, ◌++◌, map, refl}
+-- Which sources fit a plan with a slot below the root.
+use Rattle.std.proofs.Common.{◌≡◌, ℕ, Bool, true, false, List, [], ◌∷◌, map, refl}
 use Rattle.std.specs.Prelude.{Option, None, Some, ◌≢◌}
 use Rattle.vc_value.specs.declared.value.Value.{Value}
 use Rattle.vc_value.specs.declared.value.Value.TheVariants.{Text}
-use Rattle.vc_plan.specs.declared.atoms.Atom.TheVariants.{Out}
 use Rattle.vc_plan.specs.declared.atoms.Mark.{Mark}
 use Rattle.vc_plan.specs.declared.atoms.Mark.TheVariants.{Held, Outside}
-use Rattle.vc_plan.specs.declared.atoms.Origin.TheVariants.{Rule}
-use Rattle.vc_plan.specs.declared.atoms.Step.{Step}
-use Rattle.vc_plan.proofs.PlanRows.Models.{pump, users}
+use Rattle.vc_plan.proofs.PlanRows.Models.{users}
 use Rattle.vc_plan.proofs.StageRows.Paints.{paint}
 use Rattle.vc_plan.proofs.StageRows.StageModels.{chosen}
 use Rattle.vc_plan.specs.Evaluate.{Users, evaluation_of}
 use Rattle.vc_plan.specs.Sources.{Sources}
 use Rattle.vc_plan_reasons.specs.Fitting.{sources_at_end, sources_fit}
-use Rattle.vc_plan_reasons.specs.Records.{Breaker, NetRecord, by_step, is_sound, unbroken}
-use Rattle.vc_plan_reasons.specs.Things.{var_at}
 use Rattle.vc_plan_reasons.proofs.ReasonRows.Below.{drive}
-use Rattle.vc_plan_reasons.proofs.ReasonRows.Steps.{by_user, large_size, step, why_motor}
 
 -- values of the user: each in a grain, one of another variable, and one of a variable that isn't there
 abbrev by_users : List (Option Value) → Bool
@@ -32,8 +26,7 @@ in_no_grain : by_users (Some (Text 2) ∷ []) ≢ true
 in_no_grain e = cc
 
 -- an entry of POWER, by each of the drive's statements, of which the third writes nothing; by one that isn't there, and
--- by
--- another procedure
+-- by another procedure
 abbrev written : Mark → ℕ → ℕ → Bool
 written mark procedure statement =
     sources_fit drive (record {
@@ -67,30 +60,3 @@ blue_h = chosen (Some (Text 1) ∷ Some (Text 3) ∷ [])
 
 broken_fits : sources_fit paint (sources_at_end blue_h (evaluation_of paint blue_h)) ≡ true
 broken_fits = refl
-
--- records of PUMP's net with the size L: why the motor is E3, broken by the user's E1
-abbrev with_log : List Step → Breaker → NetRecord
-with_log log breaker = record {
-  sources = users (Some (Text 2) ∷ Some (Text 3) ∷ []);
-  behind = var_at 1 ∷ [];
-  log = log;
-  breaker = breaker;
-}
-
-sound : is_sound pump (with_log why_motor (by_step (by_user 1 (Text 3)))) ≡ true
-sound = refl
-
-sound_at_first : is_sound pump (with_log [] unbroken) ≡ true
-sound_at_first = refl
-
--- a step that doesn't follow, one conclusion twice, and a set that isn't clear
-unsound : map (λ log. is_sound pump (with_log log unbroken))
-    ((step (Out 1 0) (Rule 0) [] ∷ []) ∷ (large_size ∷ large_size ∷ []) ∷ (why_motor ++ by_user 1 (Text 3) ∷ []) ∷ [])
-    ≡ false ∷ false ∷ false ∷ []
-unsound = refl
-
-twice : is_sound pump (with_log (large_size ∷ large_size ∷ []) unbroken) ≢ true
-twice e = cc
-
-unclear : is_sound pump (with_log (why_motor ++ by_user 1 (Text 3) ∷ []) unbroken) ≢ true
-unclear e = cc
