@@ -62,6 +62,25 @@ abbrev pub TellsSession : Plan → (Status → List ℕ → Reply) → (Plan →
 TellsSession plan tell text None reply = reply ≡ Refused NoSession
 TellsSession plan tell text (Some chosen) reply = Tells plan (users_of chosen) tell (text plan (users_of chosen)) reply
 
+-- the keeper isn't asked: the request is none of the three about what is saved
+abbrev pub LeavesKeeper : Request → Type 0
+LeavesKeeper (requests.Start name) = Unit {0}
+LeavesKeeper (requests.Close name) = Unit {0}
+LeavesKeeper (requests.Set name i characteristic word) = Unit {0}
+LeavesKeeper (requests.Add name i characteristic word) = Unit {0}
+LeavesKeeper (requests.Retract name i characteristic) = Unit {0}
+LeavesKeeper (requests.Drop name i characteristic word) = Unit {0}
+LeavesKeeper (requests.Show name) = Unit {0}
+LeavesKeeper (requests.Bill name) = Unit {0}
+LeavesKeeper (requests.Routing name) = Unit {0}
+LeavesKeeper (requests.Why name i characteristic) = Unit {0}
+LeavesKeeper (requests.WhyNot name i characteristic word) = Unit {0}
+LeavesKeeper (requests.Conflict name) = Unit {0}
+LeavesKeeper (requests.Log name) = Unit {0}
+LeavesKeeper (requests.Save name saved_name) = ⊥
+LeavesKeeper (requests.Load name saved_name) = ⊥
+LeavesKeeper (requests.Forget saved_name) = ⊥
+
 -- the step
 abbrev pub Apply : Plan → State → Request → Reply → State → Type 0
 Apply plan state (requests.Start name) reply next = Starts plan state.sessions name reply next.sessions

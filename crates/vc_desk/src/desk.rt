@@ -3,7 +3,7 @@
 ghost use Rattle.std.specs.Prelude.{◌≡◌, IfSome, IsSome};
 ghost use Rattle.vc_plan.specs.Valid.{IsValid};
 ghost use Rattle.vc_session_evaluation.specs.Sharing.{AreAllLookUpsOf};
-ghost use Rattle.vc_desk.specs.Answers.{Apply};
+ghost use Rattle.vc_desk.specs.Answers.{Apply, LeavesKeeper};
 ghost use Rattle.vc_desk.specs.Costing.{AnswerSpends};
 ghost use Rattle.vc_desk.specs.Desks.{AreSessionsOf, KeepsLookUps, state_of};
 
@@ -65,6 +65,7 @@ fn answer_with<K: Keeper, L: Ledger>(
     ensures keeps { KeepsLookUps look_ups.old look_ups.new }
     ensures spends { AnswerSpends plan.now sessions.old request.now result sessions.new steps.old steps.new }
     ensures begun { K.begun keeper.new ≡ K.begun keeper.old }
+    ensures keeper { LeavesKeeper request.now → keeper.new ≡ keeper.old }
 {
     match task_of(request) {
         Task::Start(session) => sessions.open(alloc, plan, look_ups, session),
@@ -82,7 +83,7 @@ impl Desk {
     ghost use Rattle.std.specs.Prelude.{◌≡◌, IsSome};
     ghost use Rattle.std.specs.FinMap.{empty};
     ghost use Rattle.vc_plan.specs.Valid.{IsValid};
-    ghost use Rattle.vc_desk.specs.Answers.{Apply};
+    ghost use Rattle.vc_desk.specs.Answers.{Apply, LeavesKeeper};
     ghost use Rattle.vc_desk.specs.Costing.{AnswerSpends};
     ghost use Rattle.vc_desk.specs.Desks.{IsDesk, KeepsLookUps, open_of, state_of};
 
@@ -107,8 +108,8 @@ impl Desk {
         &self.plan
     }
 
-    /// Answers a request. Close, Set, Add, Retract and Drop take no memory, and Save, Load and Forget alone call the
-    /// keeper, once. Orders of the plan's tables are made once, when a session is opened. Rules are evaluated by an
+    /// Answers a request. Close, Set, Add, Retract and Drop take no memory, and all but Save, Load and Forget leave the
+    /// keeper as it is. Orders of the plan's tables are made once, when a session is opened. Rules are evaluated by an
     /// edit or a Load that is done alone, within the works of its session's nets, and all other sessions stay as they
     /// are.
     pub fn answer<K: Keeper, L: Ledger>(
@@ -129,6 +130,7 @@ impl Desk {
         ensures spends { AnswerSpends self.old.plan self.old.sessions request.now result self.new.sessions
             steps.old steps.new }
         ensures begun { K.begun keeper.new ≡ K.begun keeper.old }
+        ensures keeper { LeavesKeeper request.now → keeper.new ≡ keeper.old }
     {
         answer_with(
             alloc,

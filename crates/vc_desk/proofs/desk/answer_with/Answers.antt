@@ -1,6 +1,6 @@
 -- Each request is the one that asks for the task that is served.
 use Rattle.std.proofs.Common.{◌∙◌, ap, refl, subst, sym}
-use Rattle.vc_desk.specs.Answers.{Apply}
+use Rattle.vc_desk.specs.Answers.{Apply, LeavesKeeper}
 use Rattle.vc_desk.specs.Costing.{AnswerSpends}
 use Rattle.vc_desk.specs.Desks.{open_of, state_of}
 use Rattle.vc_desk.specs.Tasks.{request_of}
@@ -144,3 +144,15 @@ returns-in-Forget-clause-spends g c =
     subst (λ request. AnswerSpends c.args.plan.now c.args.sessions.now request c.forget.result c.args.sessions.now
     c.args.steps.now c.args.steps.now)
     (same_request (ap request_of (sym c.in-Forget.is) ∙ c.task_of.ensures)) (refl, refl)
+
+pub returns-in-Save-clause-keeper : goal.returns-in-Save-clause-keeper
+returns-in-Save-clause-keeper g c = λ leaves.
+    absurd (subst LeavesKeeper (sym (same_request (ap request_of (sym c.in-Save.is) ∙ c.task_of.ensures))) leaves)
+
+pub returns-in-Load-clause-keeper : goal.returns-in-Load-clause-keeper
+returns-in-Load-clause-keeper g c = λ leaves.
+    absurd (subst LeavesKeeper (sym (same_request (ap request_of (sym c.in-Load.is) ∙ c.task_of.ensures))) leaves)
+
+pub returns-in-Forget-clause-keeper : goal.returns-in-Forget-clause-keeper
+returns-in-Forget-clause-keeper g c = λ leaves.
+    absurd (subst LeavesKeeper (sym (same_request (ap request_of (sym c.in-Forget.is) ∙ c.task_of.ensures))) leaves)
