@@ -42,15 +42,15 @@ run_loads (Ok job) words files model script command h = (model, script, command,
 run_loads (Err e) words files model script command h = tt
 
 -- a job that the words ask for ends so
-pub job_ends : (words : Words) (o : Outside) (k : Keeping) (job : Job) (ending : Ending)
+pub job_ends : (words : Words) (o : Outside) (k : Keeping) (Stays : Type 0) (job : Job) (ending : Ending)
     → LoadsRun words o.files job → k.begun ≡ Some (keep_file words)
-    → EndsJob job k o.written_before o.written_after ending → Ends words o k ending
-job_ends words o k job endings.Answered loads begun ends = (job, loads, begun, ends)
-job_ends words o k job endings.Exhausted loads begun ends = (job, loads, begun, ends)
-job_ends words o k job endings.AnswerCut loads begun ends = (job, loads, begun, ends)
-job_ends words o k job endings.ExhaustedCut loads begun ends = (job, loads, begun, ends)
-job_ends words o k job (endings.Stopped stop) loads begun ends = absurd ends
-job_ends words o k job (endings.MessageCut stop) loads begun ends = absurd ends
+    → EndsJob job k o.written_before o.written_after ending → Ends words o k Stays ending
+job_ends words o k Stays job endings.Answered loads begun ends = (job, loads, begun, ends)
+job_ends words o k Stays job endings.Exhausted loads begun ends = (job, loads, begun, ends)
+job_ends words o k Stays job endings.AnswerCut loads begun ends = (job, loads, begun, ends)
+job_ends words o k Stays job endings.ExhaustedCut loads begun ends = (job, loads, begun, ends)
+job_ends words o k Stays job (endings.Stopped stop) loads begun ends = absurd ends
+job_ends words o k Stays job (endings.MessageCut stop) loads begun ends = absurd ends
 
 -- three words or four, of which the first is `run`
 pub run_words : (words : Words) (a b d : String Global) (command model script : List ℕ) (is_run : Bool)
@@ -87,27 +87,28 @@ one_name words a b p q =
     let e : codes "check" ∷ (a ∷ []) ≡ codes "check" ∷ (b ∷ []) = sym p ∙ q in ap (λ xs. get_or xs 1 a) e
 
 -- what is told of a stop has its cause
-told_causes : (words : Words) (o : Outside) (k : Keeping) (stop told : Stop) → IsToldAs stop told
-    → StopCauses words o k stop → StopCauses words o k told
-told_causes words o k stop told (itself same) c = subst (StopCauses words o k) (sym same) c
-told_causes words o k stop told (exhausted of is same) (without_job c) =
+told_causes : (words : Words) (o : Outside) (k : Keeping) (Stays : Type 0) (stop told : Stop) → IsToldAs stop told
+    → StopCauses words o k Stays stop → StopCauses words o k Stays told
+told_causes words o k Stays stop told (itself same) c = subst (StopCauses words o k Stays) (sym same) c
+told_causes words o k Stays stop told (exhausted of is same) (without_job c stays) =
     let run : Causes words o.files o.shelf_before o.shelf_after (stops.Model of) =
     subst (Causes words o.files o.shelf_before o.shelf_after) is c in
     without_job (subst (Causes words o.files o.shelf_before o.shelf_after) (sym same) (run.0, run.1, run.2, tt))
-told_causes words o k stop told (exhausted of is same) (without_keeper job fault loads raises keeper) =
+    stays
+told_causes words o k Stays stop told (exhausted of is same) (without_keeper job fault loads raises keeper) =
     absurd (let no : stops.Model of ≡ stops.Keeper fault = sym is ∙ keeper in cc)
 
-pub stop_ends : (words : Words) (o : Outside) (k : Keeping) (stop : Stop) (ending : Ending)
-    → StopCauses words o k stop → k.saved_after ≡ k.saved_before
-    → EndsStop words stop o.written_before o.written_after ending → Ends words o k ending
-stop_ends words o k stop (endings.Stopped told) c saved ends =
-    (record { cause = told_causes words o k stop told ends.0 c; saved = saved }, ends.1)
-stop_ends words o k stop (endings.MessageCut told) c saved ends =
-    (record { cause = told_causes words o k stop told ends.0 c; saved = saved }, ends.1)
-stop_ends words o k stop endings.Answered c saved ends = absurd ends
-stop_ends words o k stop endings.Exhausted c saved ends = absurd ends
-stop_ends words o k stop endings.AnswerCut c saved ends = absurd ends
-stop_ends words o k stop endings.ExhaustedCut c saved ends = absurd ends
+pub stop_ends : (words : Words) (o : Outside) (k : Keeping) (Stays : Type 0) (stop : Stop) (ending : Ending)
+    → StopCauses words o k Stays stop → k.saved_after ≡ k.saved_before
+    → EndsStop words stop o.written_before o.written_after ending → Ends words o k Stays ending
+stop_ends words o k Stays stop (endings.Stopped told) c saved ends =
+    (record { cause = told_causes words o k Stays stop told ends.0 c; saved = saved }, ends.1)
+stop_ends words o k Stays stop (endings.MessageCut told) c saved ends =
+    (record { cause = told_causes words o k Stays stop told ends.0 c; saved = saved }, ends.1)
+stop_ends words o k Stays stop endings.Answered c saved ends = absurd ends
+stop_ends words o k Stays stop endings.Exhausted c saved ends = absurd ends
+stop_ends words o k Stays stop endings.AnswerCut c saved ends = absurd ends
+stop_ends words o k Stays stop endings.ExhaustedCut c saved ends = absurd ends
 
 -- how saying it ends, by whether its line was written
 pub said_ends : (words : Words) (stop told : Stop) (old new : Option (List ℕ)) (written : Result Unit Failed)

@@ -84,8 +84,8 @@ module _ (p : Spot) (words : Words) (files : Files) (before after : ℕ) (quiet 
       (fault_is (x.0, x.1, x.2) (y.0, y.1, y.2) fault memory y.3.2)
 
 -- so an ending is that of the cause, or of the job
-module _ (p : Spot) (words : Words) (files : Files) (o : Outside) (k : Keeping) (status : ℕ)
-    (q : IsQuiet o files status) where
+module _ (p : Spot) (words : Words) (files : Files) (o : Outside) (k : Keeping) (Stays : Type 0)
+    (status : ℕ) (q : IsQuiet o files status) where
   caused : (stop : Stop) → Causes words o.files o.shelf_before o.shelf_after stop
       → Causes words (Some files) o.shelf_before o.shelf_after stop
   caused stop cause = subst (λ fs. Causes words fs o.shelf_before o.shelf_after stop) q.told cause
@@ -94,15 +94,15 @@ module _ (p : Spot) (words : Words) (files : Files) (o : Outside) (k : Keeping) 
   loaded job loads = subst (λ fs. LoadsRun words fs job) q.told loads
 
   stopped_by : (stop : Stop) → stop_status stop ≢ 8 → Causes words o.files o.shelf_before o.shelf_after stop
-      → (ending : Ending) → status ≡ status_of ending → Ends words o k ending
+      → (ending : Ending) → status ≡ status_of ending → Ends words o k Stays ending
       → HasSinkCause o.sink_before o.sink_after ending → IsStopped words o status stop
   stopped_by stop memory cause endings.Answered number ends sink =
       absurd (no_cause p words files o.shelf_before o.shelf_after q.shelf ends.0 stop memory (loaded ends.0 ends.1)
       (caused stop cause))
   stopped_by stop memory cause (endings.Stopped other) number ends sink = by ends.0.cause
     where
-      by : StopCauses words o k other → IsStopped words o status stop
-      by (without_job c) =
+      by : StopCauses words o k Stays other → IsStopped words o status stop
+      by (without_job c stays) =
           let same : other ≡ stop
           = one_cause p words files o.shelf_before o.shelf_after q.shelf other stop
           (λ eight. q.memory (number ∙ eight)) memory (caused other c) (caused stop cause) in
@@ -121,13 +121,13 @@ module _ (p : Spot) (words : Words) (files : Files) (o : Outside) (k : Keeping) 
   no_keeper_fault keep_faults.OutOfMemory calm raises number = q.memory number
 
   done_by : ¬ Raised k.faults_before k.faults_after → (job : Job) → LoadsRun words o.files job → (ending : Ending)
-      → status ≡ status_of ending → Ends words o k ending → HasSinkCause o.sink_before o.sink_after ending
+      → status ≡ status_of ending → Ends words o k Stays ending → HasSinkCause o.sink_before o.sink_after ending
       → status ≡ 0
   done_by calm job loads endings.Answered number ends sink = number
   done_by calm job loads (endings.Stopped other) number ends sink = absurd (by ends.0.cause)
     where
-      by : StopCauses words o k other → ⊥
-      by (without_job c) =
+      by : StopCauses words o k Stays other → ⊥
+      by (without_job c stays) =
           no_cause p words files o.shelf_before o.shelf_after q.shelf job other (λ eight. q.memory (number ∙ eight))
           (loaded job loads) (caused other c)
       by (without_keeper done fault ready raises same) =
@@ -137,11 +137,11 @@ module _ (p : Spot) (words : Words) (files : Files) (o : Outside) (k : Keeping) 
   done_by calm job loads endings.AnswerCut number ends sink = absurd (q.sink sink)
   done_by calm job loads endings.ExhaustedCut number ends sink = absurd (q.sink sink)
 
-pub exactly : Spot → (words : Words) (o : Outside) (k : Keeping) (status : ℕ) → EndsWith words o k status
-    → IsExact words o k status
-exactly p words o k status e = record {
+pub exactly : Spot → (words : Words) (o : Outside) (k : Keeping) (Stays : Type 0) (status : ℕ)
+    → EndsWith words o k Stays status → IsExact words o k status
+exactly p words o k Stays status e = record {
   stopped = λ files stop q memory cause.
-      stopped_by p words files o k status q stop memory cause e.ending e.number e.ends e.cause;
+      stopped_by p words files o k Stays status q stop memory cause e.ending e.number e.ends e.cause;
   complete = λ files job q calm loads.
-      done_by p words files o k status q calm job loads e.ending e.number e.ends e.cause;
+      done_by p words files o k Stays status q calm job loads e.ending e.number e.ends e.cause;
 }

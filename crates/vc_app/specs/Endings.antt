@@ -86,15 +86,16 @@ Causes words files before after (stops.ScriptUnread fault) =
     StopsRun words files before after (stops.ScriptUnread fault)
 Causes words files before after (stops.Keeper fault) = ⊥
 
--- why nothing was answered: there is no job; or there is one, and the keeper couldn't be begun
-pub data StopCauses (words : Words) (o : Outside) (k : Keeping) (stop : Stop) : Type 0 where
-  without_job : Causes words o.files o.shelf_before o.shelf_after stop → StopCauses words o k stop
+-- why nothing was answered: there is no job, and the keeper wasn't asked, so that what `Stays` says of it holds; or
+-- there is one, and the keeper couldn't be begun
+pub data StopCauses (words : Words) (o : Outside) (k : Keeping) (Stays : Type 0) (stop : Stop) : Type 0 where
+  without_job : Causes words o.files o.shelf_before o.shelf_after stop → Stays → StopCauses words o k Stays stop
   without_keeper : (job : Job) (fault : KeepFault) → LoadsRun words o.files job
-      → RaisesFor k.faults_before k.faults_after fault → stop ≡ stops.Keeper fault → StopCauses words o k stop
+      → RaisesFor k.faults_before k.faults_after fault → stop ≡ stops.Keeper fault → StopCauses words o k Stays stop
 
 -- nothing was answered for this reason, and what is saved is as before
-pub record IsUnanswered (words : Words) (o : Outside) (k : Keeping) (stop : Stop) : Type 0 where
-  pub cause : StopCauses words o k stop
+pub record IsUnanswered (words : Words) (o : Outside) (k : Keeping) (Stays : Type 0) (stop : Stop) : Type 0 where
+  pub cause : StopCauses words o k Stays stop
   pub saved : k.saved_after ≡ k.saved_before
 
 -- a word by its place
@@ -195,20 +196,20 @@ abbrev pub EndsRun : Words → Outside → Keeping → Ending → Type 0
 EndsRun words o k ending = (job : Job) × LoadsRun words o.files job × (k.begun ≡ Some (keep_file words))
     × EndsJob job k o.written_before o.written_after ending
 
--- how the program ends, why, and what it has written then
-abbrev pub Ends : Words → Outside → Keeping → Ending → Type 0
-Ends words o k (endings.Stopped stop) = IsUnanswered words o k stop
+-- how the program ends, why, and what it has written then; where there is no job the keeper stays
+abbrev pub Ends : Words → Outside → Keeping → Type 0 → Ending → Type 0
+Ends words o k Stays (endings.Stopped stop) = IsUnanswered words o k Stays stop
     × Appends o.written_before o.written_after (stop_line words stop)
-Ends words o k (endings.MessageCut stop) = IsUnanswered words o k stop
+Ends words o k Stays (endings.MessageCut stop) = IsUnanswered words o k Stays stop
     × AppendsFront o.written_before o.written_after (stop_line words stop)
-Ends words o k endings.Answered = EndsRun words o k endings.Answered
-Ends words o k endings.Exhausted = EndsRun words o k endings.Exhausted
-Ends words o k endings.AnswerCut = EndsRun words o k endings.AnswerCut
-Ends words o k endings.ExhaustedCut = EndsRun words o k endings.ExhaustedCut
+Ends words o k Stays endings.Answered = EndsRun words o k endings.Answered
+Ends words o k Stays endings.Exhausted = EndsRun words o k endings.Exhausted
+Ends words o k Stays endings.AnswerCut = EndsRun words o k endings.AnswerCut
+Ends words o k Stays endings.ExhaustedCut = EndsRun words o k endings.ExhaustedCut
 
 -- the exit status is that of an ending of the program, in which the sink failed only where its count of faults rose
-pub record EndsWith (words : Words) (o : Outside) (k : Keeping) (status : ℕ) : Type 0 where
+pub record EndsWith (words : Words) (o : Outside) (k : Keeping) (Stays : Type 0) (status : ℕ) : Type 0 where
   pub ending : Ending
   pub number : status ≡ status_of ending
-  pub ends : Ends words o k ending
+  pub ends : Ends words o k Stays ending
   pub cause : HasSinkCause o.sink_before o.sink_after ending

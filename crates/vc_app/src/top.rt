@@ -118,7 +118,7 @@ fn end<F: Shelf, K: Keeper, S: Sink>(
         (outside (F.files shelf.old) (F.faults shelf.old) (F.faults shelf.new) (S.written out.old)
         (S.written out.new) (S.faults out.old) (S.faults out.new))
         (keeping (K.texts keeper.old) (K.texts keeper.new) (K.faults keeper.old) (K.faults keeper.new)
-        (K.begun keeper.new)) result }
+        (K.begun keeper.new)) (keeper.new ≡ keeper.old) result }
     ensures cause { endings.HasSinkCause (S.faults out.old) (S.faults out.new) result }
 {
     match load_job(alloc, shelf, words) {
@@ -154,7 +154,7 @@ fn serve_or_run<F: Shelf, K: Keeper, D: Door, S: Sink>(
         (outside (F.files shelf.old) (F.faults shelf.old) (F.faults shelf.new) (S.written out.old)
         (S.written out.new) (S.faults out.old) (S.faults out.new))
         (keeping (K.texts keeper.old) (K.texts keeper.new) (K.faults keeper.old) (K.faults keeper.new)
-        (K.begun keeper.new)) result }
+        (K.begun keeper.new)) (keeper.new ≡ keeper.old) result }
     ensures exact { asked.IsNoServe words.now → IsExact words.now
         (outside (F.files shelf.old) (F.faults shelf.old) (F.faults shelf.new) (S.written out.old)
         (S.written out.new) (S.faults out.old) (S.faults out.new))
@@ -192,15 +192,15 @@ pub fn desk<F: Shelf, K: Keeper, D: Door, S: Sink>(
     ensures check { (name : List ℕ) → endings.IsCheck words.now name → EndsCheck name
         (outside (F.files shelf.old) (F.faults shelf.old) (F.faults shelf.new) (S.written out.old)
         (S.written out.new) (S.faults out.old) (S.faults out.new))
-        result × (K.texts keeper.new ≡ K.texts keeper.old) }
+        result × (keeper.new ≡ keeper.old) }
     // `verify`: what the separate checker says of the chain file is said, and nothing else.
     ensures verify { (model chain : List ℕ) → asked.IsVerify words.now model chain → EndsVerify model chain
         (outside (F.files shelf.old) (F.faults shelf.old) (F.faults shelf.new) (S.written out.old)
         (S.written out.new) (S.faults out.old) (S.faults out.new))
-        result × (K.texts keeper.new ≡ K.texts keeper.old) }
+        result × (keeper.new ≡ keeper.old) }
     // `gen`: the lines of the first families are written, and nothing else.
     ensures families { (count : ℕ) → asked.IsGen words.now count → EndsGen count (S.written out.old)
-        (S.written out.new) (S.faults out.old) (S.faults out.new) result × (K.texts keeper.new ≡ K.texts keeper.old) }
+        (S.written out.new) (S.faults out.old) (S.faults out.new) result × (keeper.new ≡ keeper.old) }
     // `serve`: links are served in turn, each from the state that the one before it left; if not all were, why is said.
     ensures serve { (s : Service) → asked.IsServe words.now s → EndsServe
         (telling D.Conn.left D.Conn.written D.Conn.faults) s
@@ -213,11 +213,12 @@ pub fn desk<F: Shelf, K: Keeper, D: Door, S: Sink>(
     // Any other leaves the door as it was.
     ensures door { asked.IsNoServe words.now → door.new ≡ door.old }
     // Of any other words, what each status promises, one field a status: its cause, and what was written and saved.
+    // Where there is nothing to run the keeper is as it was.
     ensures status { asked.IsOther words.now → IsStatus words.now
         (outside (F.files shelf.old) (F.faults shelf.old) (F.faults shelf.new) (S.written out.old)
         (S.written out.new) (S.faults out.old) (S.faults out.new))
         (keeping (K.texts keeper.old) (K.texts keeper.new) (K.faults keeper.old) (K.faults keeper.new)
-        (K.begun keeper.new)) result }
+        (K.begun keeper.new)) (keeper.new ≡ keeper.old) result }
     // Each cause that words and files decide has its own status, unless a count of faults rose or memory was wanting.
     ensures exact { asked.IsOther words.now → IsExact words.now
         (outside (F.files shelf.old) (F.faults shelf.old) (F.faults shelf.new) (S.written out.old)

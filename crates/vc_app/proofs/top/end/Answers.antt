@@ -1,5 +1,5 @@
 -- The job that was loaded ends as it ended, once the keeper has begun; or it is said that it couldn't be begun.
-use Rattle.std.proofs.Common.{◌∙◌, Some, ap, refl, subst}
+use Rattle.std.proofs.Common.{◌≡◌, ◌∙◌, Some, ap, refl, subst}
 use Rattle.vc_app.specs.Endings.{EndsJob, keeping, outside, without_keeper}
 use Rattle.vc_app.specs.declared.ending.Stop.TheVariants as stops
 use Rattle.vc_app.proofs.EndingLaws.{job_ends, stop_ends}
@@ -18,7 +18,7 @@ returns-in-Err-begin-clause-ends g c =
     (written c.args.out.now) (written c.say_stop.new.out) (sink_faults c.args.out.now) (sink_faults c.say_stop.new.out))
     (keeping (g.K.Keeper.texts before) (g.K.Keeper.texts after) (g.K.Keeper.faults before) (g.K.Keeper.faults after)
     (g.K.Keeper.begun after))
-    (stops.Keeper c.in-Err-begin.fault) c.say_stop.result
+    (after ≡ before) (stops.Keeper c.in-Err-begin.fault) c.say_stop.result
     (without_keeper c.in-Ok.job c.in-Err-begin.fault c.in-Ok.ensures.job c.in-Err-begin.ensures.cause.raises refl)
     c.in-Err-begin.ensures.texts c.say_stop.ensures.ends
 
@@ -39,7 +39,7 @@ returns-in-Ok-begin-clause-ends g c =
     (outside (files c.args.shelf.now) (shelf_faults c.args.shelf.now) (shelf_faults c.load_job.new.shelf) old new
     (sink_faults c.args.out.now) (sink_faults c.run_job.new.out))
     (keeping (texts before) (texts after) (faults before) (faults after) begun)
-    c.in-Ok.job c.run_job.result c.in-Ok.ensures.job
+    (after ≡ before) c.in-Ok.job c.run_job.result c.in-Ok.ensures.job
     (c.run_job.ensures.begun ∙ c.in-Ok-begin.ensures.begun ∙ ap Some c.keep_file.ensures)
     (subst (λ saved. EndsJob c.in-Ok.job (keeping saved (texts after) (faults before) (faults after) begun) old new
     c.run_job.result) c.in-Ok-begin.ensures.texts

@@ -1,5 +1,6 @@
 -- Links are served only where the words ask for that; of other words, what the ending's status promises, and that words
 -- and files decide it.
+use Rattle.std.specs.Prelude.{◌≡◌}
 use Rattle.std.specs.Option.{option_map}
 use Rattle.vc_app_check.proofs.CheckLaws.{some_spot}
 use Rattle.vc_app_serve.specs.Serving.{service}
@@ -47,7 +48,7 @@ returns-in-None-clause-status g c =
     (g.K.Keeper.faults c.args.keeper.now) (g.K.Keeper.faults c.end.new.keeper)
     (g.K.Keeper.begun c.end.new.keeper) in
     λ other.
-    promised c.args.words.now o k c.status.result
+    promised c.args.words.now o k (c.end.new.keeper ≡ c.args.keeper.now) c.status.result
     (record {
       ending = c.end.result;
       number = c.status.ensures;
@@ -65,7 +66,7 @@ returns-in-None-clause-exact g c =
     (g.K.Keeper.faults c.args.keeper.now) (g.K.Keeper.faults c.end.new.keeper)
     (g.K.Keeper.begun c.end.new.keeper) in
     λ other.
-    exactly (some_spot c.args.alloc) c.args.words.now o k c.status.result
+    exactly (some_spot c.args.alloc) c.args.words.now o k (c.end.new.keeper ≡ c.args.keeper.now) c.status.result
     (record {
       ending = c.end.result;
       number = c.status.ensures;
