@@ -9,8 +9,9 @@ use vc_syntax_tree::{
     Condition, Dependency, NameLeaf, NumberLeaf, Operand, Relation, Relator, ShortWord, Term,
     TextLeaf,
 };
-use vc_types::{At, Place, TypeFaultKind};
+use vc_types::{At, Meaning, Place, Sort, TypeFaultKind};
 use vc_types_dependency::{Instance, TypeFault, type_dependency, type_term};
+use vc_types_meanings::Tree;
 use vc_types_names::Names;
 use vc_value::{Dec, Listed, Word};
 
@@ -175,6 +176,29 @@ fn is_typed(alloc: Global, names: &Names) -> Result<bool, AllocError> {
 fn is_own(alloc: Global, names: &Names) -> Result<bool, AllocError> {
     let operand = operand(alloc)?;
     Ok(instance(alloc, names, &number(2_000_000), &operand) == Some(Instance::Own))
+}
+
+// Whether the quantity 2 of a line, typed, is that tree, a number, and knows what `A` means there: no set.
+fn tells_its_parts(alloc: Global, names: &Names) -> Result<bool, AllocError> {
+    let operand = operand(alloc)?;
+    let quantity = number(2_000_000);
+    match type_term(alloc, names, &quantity, &AT_LINE) {
+        Ok(typed) => Ok(
+            matches!(typed.tree(), Tree::Term(_))
+                && typed.sort_of(&quantity) == Some(Sort::Numbers)
+                && typed.meaning(&operand) == Meaning::Characteristic(0)
+                && !typed.is_set(&operand),
+        ),
+        Err(_) => Ok(false),
+    }
+}
+
+#[test]
+fn what_is_typed_tells_its_parts(rt: HostRuntime) -> Result<(), Fail> {
+    let model = model(rt.alloc())?;
+    let names = Names::new(rt.alloc(), &model)?;
+    assert!(rt; tells_its_parts(rt.alloc(), &names)?);
+    Ok(())
 }
 
 #[test]
