@@ -1,10 +1,10 @@
 //! The numbers at which relations cut characteristics.
 
 ghost use Rattle.std.specs.Prelude.{◌≡◌, ◌++◌, map, flat_map, option_to_list, slice_get, IfOk, OnOk};
+ghost use Rattle.vc_value.specs.Millionths.{rounded};
 ghost use Rattle.vc_syntax_tree.specs.Trees.{relation_of, term_of};
 ghost use Rattle.vc_types_meanings.specs.Seen.{seen};
 ghost use Rattle.vc_types_occurrences.specs.Seen.{relations_seen};
-ghost use Rattle.vc_plan.specs.Numbers.{rounded};
 ghost use Rattle.vc_compile_plan.specs.Conditions.{number_of};
 ghost use Rattle.vc_compile_plan.specs.Cuts as cuts;
 ghost use Rattle.vc_compile_plan.specs.Terms.{lone_of, minus_literal, opposite};

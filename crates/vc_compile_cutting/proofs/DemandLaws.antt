@@ -8,12 +8,12 @@ use Rattle.vc_value.specs.declared.table_header.Domain.{Domain}
 use Rattle.vc_value.specs.declared.table_header.Domain.TheVariants as domains
 use Rattle.vc_value.specs.declared.value.Value.{Value}
 use Rattle.vc_value.specs.declared.value.Value.TheVariants as values
+use Rattle.vc_value.specs.Millionths.{rounded}
 use Rattle.vc_model_parts.specs.Headers as headers
 use Rattle.vc_model_parts.specs.declared.parts.Model.{Model}
 use Rattle.vc_model_parts.specs.declared.parts.Table as declared
 use Rattle.vc_plan.specs.Cuts.{cell_number, is_cut_at, number_at, restriction_cuts}
 use Rattle.vc_plan.specs.Domains.{decimals_in, decimals_of, domain_of, grains_in}
-use Rattle.vc_plan.specs.Numbers.{rounded}
 use Rattle.vc_plan.specs.Pieces.{turned}
 use Rattle.vc_plan.specs.Restrictions.{rounded_value}
 use Rattle.vc_plan.specs.TableRows.{rows_of}

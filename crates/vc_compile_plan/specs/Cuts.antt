@@ -9,6 +9,7 @@ use Rattle.vc_value.specs.declared.table_header.Domain.{Domain}
 use Rattle.vc_value.specs.declared.table_header.Domain.TheVariants as domains
 use Rattle.vc_value.specs.declared.value.Value.{Value}
 use Rattle.vc_value.specs.declared.value.Value.TheVariants as values
+use Rattle.vc_value.specs.Millionths.{rounded}
 use Rattle.vc_model_parts.specs.declared.parts.Characteristic.{Characteristic}
 use Rattle.vc_model_parts.specs.declared.parts.Model.{Model}
 use Rattle.vc_model_parts.specs.Headers.{domain_of}
@@ -26,7 +27,6 @@ use Rattle.vc_types.specs.declared.meaning.Referent.TheVariants as referents
 use Rattle.vc_types.specs.Occurrences.{conditions_in, relations_of, demanded_relations, calls_in}
 use Rattle.vc_types.specs.Settings.{variables_in}
 use Rattle.vc_plan.specs.Domains.{decimals_in}
-use Rattle.vc_plan.specs.Numbers.{rounded}
 use Rattle.vc_compile_plan.specs.Conditions.{number_of}
 use Rattle.vc_compile_plan.specs.Layouts.{Layout, tree_of}
 use Rattle.vc_compile_plan.specs.Tables.{column_cells, column_number, table_number}

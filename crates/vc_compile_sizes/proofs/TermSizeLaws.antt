@@ -9,7 +9,7 @@ use Rattle.std.proofs.lemmas.Nat.{le-div}
 use Rattle.vc_value.specs.declared.value.Value.TheVariants as values
 use Rattle.vc_model_parts.specs.declared.parts.Model.{Model}
 use Rattle.vc_plan.specs.Domains as plans
-use Rattle.vc_plan.specs.Numbers as plan_numbers
+use Rattle.vc_value.specs.Millionths as millionths
 use Rattle.vc_plan.specs.Ranges.{term_there}
 use Rattle.vc_plan.specs.Sizes.{applied_size, domain_size, is_small, joined_load, joined_size, size_limit, term_size}
 use Rattle.vc_plan.specs.Sizes.{value_size}
@@ -182,7 +182,7 @@ joined_grows : (o : NamedOperator) (a b m n : ℕ) → a ≤ m → b ≤ n
 joined_grows named_operators.Plus a b m n h k = omega (arith, h, k)
 joined_grows named_operators.Minus a b m n h k = omega (arith, h, k)
 joined_grows named_operators.Times a b m n h k =
-    let less = divided_grows (a * b) (m * n) ranges.one (omega arith) (mul-le-mul h k) in omega (arith, less)
+    let less = divided_grows (a * b) (m * n) millionths.one (omega arith) (mul-le-mul h k) in omega (arith, less)
 joined_grows named_operators.Over a b m n h k = omega (arith, h)
 
 -- what is no fault is within
@@ -199,9 +199,9 @@ function_fits named_functions.Abs m n h k = fits m n h k
 function_fits named_functions.Sign m n h k = refl
 function_fits named_functions.Trunc m n h k = fits m n h k
 function_fits named_functions.Floor m n h k =
-    fits (m + plan_numbers.one) (n + ranges.one) (applied_grows named_functions.Floor m n h) k
+    fits (m + millionths.one) (n + millionths.one) (applied_grows named_functions.Floor m n h) k
 function_fits named_functions.Ceil m n h k =
-    fits (m + plan_numbers.one) (n + ranges.one) (applied_grows named_functions.Ceil m n h) k
+    fits (m + millionths.one) (n + millionths.one) (applied_grows named_functions.Ceil m n h) k
 function_fits named_functions.Frac m n h k = refl
 
 -- an operand that means a characteristic

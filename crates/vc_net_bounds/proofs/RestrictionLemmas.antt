@@ -3,9 +3,9 @@ use Rattle.std.proofs.Common.{◌≡◌, ℕ, ◌*◌, ◌^◌, ◌≤◌, min, 
 use Rattle.vc_value.specs.Grains.{unit_of}
 use Rattle.vc_value.specs.declared.value.Value.{Value}
 use Rattle.vc_value.specs.declared.value.Value.TheVariants.{Text, Num}
+use Rattle.vc_value.specs.Millionths.{nearest, with_sign}
 use Rattle.vc_plan.specs.declared.conditions.Relation.{Relation}
 use Rattle.vc_plan.specs.declared.conditions.Relation.TheVariants.{Equal, Unequal, Less, AtMost, Greater, AtLeast}
-use Rattle.vc_plan.specs.Numbers.{nearest, with_sign}
 use Rattle.vc_plan.specs.Restrictions.{literal_for}
 
 unit_capped : (n : ℕ) → unit_of (min n 6) ≡ unit_of n

@@ -5,6 +5,7 @@ use Rattle.std.specs.List.{filter, list_any}
 use Rattle.vc_base.specs.Rounds.{Given, clash, atoms}
 use Rattle.vc_value.specs.declared.value.Value.{Value}
 use Rattle.vc_value.specs.declared.value.Value.TheVariants.{Text, Num}
+use Rattle.vc_value.specs.Millionths.{rounded}
 use Rattle.vc_plan.specs.declared.atoms.Atom.{Atom}
 use Rattle.vc_plan.specs.declared.atoms.Atom.TheVariants.{Out, Is}
 use Rattle.vc_plan.specs.declared.conditions.Piece.{Piece}
@@ -18,7 +19,6 @@ use Rattle.vc_plan.specs.declared.terms.Term.{Term}
 use Rattle.vc_plan.specs.declared.terms.Term.TheVariants.{Literal, Read, PartSum, PartCount, Applied', Joined'}
 use Rattle.vc_plan.specs.Answers.{nothing, clash_if, clash_if_false, beside, last_atoms, is_nothing}
 use Rattle.vc_plan.specs.Domains.{numbers_below, grains_of, count_of, decimals_of, is_restrictable, is_grain_with}
-use Rattle.vc_plan.specs.Numbers.{rounded}
 use Rattle.vc_plan.specs.Pieces.{same_value, lies_in_some, is_part, is_inside, is_outside, turned}
 use Rattle.vc_plan.specs.Readings.{net_reading}
 use Rattle.vc_plan.specs.Seen.{Seen, is_left}

@@ -6,6 +6,7 @@ use Rattle.vc_value.specs.declared.table_header.Domain.{Domain}
 use Rattle.vc_value.specs.declared.table_header.Domain.TheVariants.{Texts, Nums}
 use Rattle.vc_value.specs.declared.value.Value.{Value}
 use Rattle.vc_value.specs.declared.value.Value.TheVariants.{Text, Num}
+use Rattle.vc_value.specs.Millionths.{one}
 use Rattle.vc_plan.specs.declared.conditions.Condition.{Condition}
 use Rattle.vc_plan.specs.declared.conditions.Condition.TheVariants.{Always, Compared, IsIn, Specified, Holds, Filled}
 use Rattle.vc_plan.specs.declared.conditions.Condition.TheVariants.{Not', And', Or'}
@@ -18,7 +19,6 @@ use Rattle.vc_plan.specs.declared.terms.Term.{Term}
 use Rattle.vc_plan.specs.declared.terms.Term.TheVariants.{Literal, Read, PartSum, PartCount, Applied', Joined'}
 use Rattle.vc_plan.specs.Bounds.{greatest}
 use Rattle.vc_plan.specs.Domains.{domain_of}
-use Rattle.vc_plan.specs.Numbers.{one}
 
 -- the largest size of a number that a domain has
 abbrev pub grain_size : Grain → ℕ

@@ -7,11 +7,12 @@ use Rattle.std.proofs.Math.Nat.{mul-le-mul_left}
 use Rattle.std.proofs.lemmas.Int.{ints, unsigned_abs-mul}
 use Rattle.std.proofs.lemmas.Nat.{div_below, mul-le}
 use Rattle.std.proofs.lemmas.Bool.Decides.{nat_tests}
+use Rattle.vc_value.specs.Millionths.{one, nearest, divided, whole_below, whole_above, product, quotient}
 use Rattle.vc_plan.specs.declared.terms.Function.{Function}
 use Rattle.vc_plan.specs.declared.terms.Function.TheVariants.{Negative, Abs, Sign, Trunc, Floor, Ceil, Frac}
 use Rattle.vc_plan.specs.declared.terms.Operator.{Operator}
 use Rattle.vc_plan.specs.declared.terms.Operator.TheVariants.{Plus, Minus, Times, Over}
-use Rattle.vc_plan.specs.Numbers.{one, nearest, divided, whole_below, whole_above, applied, operated, product, quotient}
+use Rattle.vc_plan.specs.Numbers.{applied, operated}
 use Rattle.vc_plan.specs.Sizes.{applied_size, joined_load, joined_size}
 use Rattle.vc_plan_values.specs.Computing.{load}
 

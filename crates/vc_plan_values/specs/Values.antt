@@ -2,7 +2,7 @@
 use Rattle.std.specs.Prelude.{ℤ, Option, Some, option_map}
 use Rattle.vc_value.specs.declared.value.Value.{Value}
 use Rattle.vc_value.specs.declared.value.Value.TheVariants.{Text, Num}
-use Rattle.vc_value_wide.specs.Millionths.{stored}
+use Rattle.vc_value.specs.Millionths.{stored}
 use Rattle.vc_value_wide.specs.declared.numbers.Wide.{Wide}
 use Rattle.vc_plan_values.specs.declared.values.TermValue.{TermValue}
 use Rattle.vc_plan_values.specs.declared.values.TermValue.TheVariants as of_term

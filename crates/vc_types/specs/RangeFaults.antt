@@ -2,6 +2,7 @@
 use Rattle.std.specs.Prelude.{ℕ, ◌+◌, ◌-◌, ◌*◌, ◌/◌, ◌^◌, max, Bool, false, not, ◌||◌, List, [], ◌∷◌, nat_le}
 use Rattle.std.specs.Prelude.{unsigned_abs, slice_get, Option, Some, None}
 use Rattle.std.specs.List.{list_any}
+use Rattle.vc_value.specs.Millionths.{one}
 use Rattle.vc_model_parts.specs.declared.parts.Characteristic.{Characteristic}
 use Rattle.vc_model_parts.specs.declared.parts.Model.{Model}
 use Rattle.vc_model_parts.specs.declared.parts.NumberValue.{NumberValue}
@@ -37,10 +38,6 @@ size_in (Some c) = size_of_values c.values
 abbrev pub size_meant : Model → Meaning → ℕ
 size_meant model (meanings.Characteristic c) = size_in (slice_get model.characteristics c)
 size_meant model meaning = 0
-
--- one, in millionths
-abbrev pub one : ℕ
-one = 1_000_000
 
 -- the size that a function's number has at most, and that of a join
 abbrev pub applied_size : Function → ℕ → ℕ

@@ -2,6 +2,7 @@
 
 ghost use Rattle.std.specs.Prelude.{◌≡◌, ◌+◌, ◌*◌, ◌/◌, ◌≤◌, ◌||◌, IfSome, unsigned_abs};
 ghost use Rattle.std.specs.List.{list_any};
+ghost use Rattle.vc_value.specs.Millionths as millionths;
 ghost use Rattle.vc_syntax_tree.specs.Trees.{term_of};
 ghost use Rattle.vc_types.specs.RangeFaults as faults;
 ghost use Rattle.vc_types.specs.Settings.{meaning};
@@ -32,8 +33,8 @@ fn product(first: u128, second: u128) -> Option<u128>
     requires first { first ≤ faults.size_limit }
     requires second { second ≤ faults.size_limit }
     ensures bounded { result ≡ bounded (faults.is_too_large (first * second) || faults.is_too_large
-        (first * second / faults.one + 1))
-        (first * second / faults.one + 1) }
+        (first * second / millionths.one + 1))
+        (first * second / millionths.one + 1) }
     ensures within { IfSome result (λ n. n ≤ faults.size_limit) }
 {
     match first.checked_mul(second) {
@@ -43,8 +44,8 @@ fn product(first: u128, second: u128) -> Option<u128>
 }
 
 fn quotient(size: u128) -> Option<u128>
-    ensures bounded { result ≡ bounded (faults.is_too_large (faults.one * size) || faults.is_too_large
-        (faults.one * size)) (faults.one * size) }
+    ensures bounded { result ≡ bounded (faults.is_too_large (millionths.one * size) || faults.is_too_large
+        (millionths.one * size)) (millionths.one * size) }
     ensures within { IfSome result (λ n. n ≤ faults.size_limit) }
 {
     match ONE.checked_mul(size) {

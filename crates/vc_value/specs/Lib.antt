@@ -3,3 +3,4 @@ pub mod Grains
 pub mod Words
 pub mod Names
 pub mod Numerals
+pub mod Millionths

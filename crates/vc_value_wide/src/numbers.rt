@@ -2,8 +2,8 @@
 
 ghost use Rattle.std.specs.Prelude.{◌≡◌, pos, ◌+◌, ◌-◌, ◌*◌, ◌^◌, ◌<◌, ◌≤◌, ◌+ℤ◌, ◌-ℤ◌, ◌*ℤ◌, unsigned_abs};
 ghost use Rattle.std.specs.Prelude.{option_map, IfSome};
-ghost use Rattle.vc_value_wide.specs.Millionths.{one, product, quotient, rounded, sign_of, trunc_of, floor_of};
-ghost use Rattle.vc_value_wide.specs.Millionths.{ceil_of, frac_of, stored};
+ghost use Rattle.vc_value.specs.Millionths.{one, product, quotient, rounded, sign_of, trunc_of, floor_of};
+ghost use Rattle.vc_value.specs.Millionths.{ceil_of, frac_of, stored};
 
 use crate::rounding;
 use vc_value::Dec;

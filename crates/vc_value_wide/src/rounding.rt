@@ -2,7 +2,7 @@
 
 ghost use Rattle.std.specs.Prelude.{◌≡◌, ◌+◌, ◌-◌, ◌*◌, ◌^◌, ◌<◌, ◌≤◌, unsigned_abs};
 ghost use Rattle.vc_value.specs.Grains.{unit_of};
-ghost use Rattle.vc_value_wide.specs.Millionths.{nearest, with_sign, divided, one, turned_by, whole_below, whole_above};
+ghost use Rattle.vc_value.specs.Millionths.{nearest, with_sign, divided, one, turned_by, whole_below, whole_above};
 
 /// One, in millionths.
 pub const ONE: u128 = 1_000_000;

@@ -2,7 +2,7 @@
 use Rattle.std.proofs.Common.{pow-add, ℕ, ◌*◌, ◌+◌, ◌-◌, ◌^◌, ◌≤◌, ◌≡◌, arith}
 use Rattle.std.proofs.Math.Nat.{mul-le-mul_left}
 use Rattle.vc_value.proofs.PowerLemmas.{ten_pow_pos}
-use Rattle.vc_value_wide.specs.Millionths.{one}
+use Rattle.vc_value.specs.Millionths.{one}
 use Rattle.vc_value_wide.proofs.rounding.unit_of.Goals as goal
 
 power_within : (n : ℕ) → n ≤ 6 → 10 ^ (6 - n) ≤ one

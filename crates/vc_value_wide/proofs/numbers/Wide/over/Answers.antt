@@ -3,7 +3,7 @@ use Rattle.std.proofs.Common.{◌≡◌, ◌≢◌, ap, pos, suc, zero, ◌*ℤ�
 use Rattle.std.proofs.Common.{rules, of_z, arith, FitsSigned}
 use mir.Syntax.{w128}
 use Rattle.std.proofs.lemmas.Int.{to_z-of_z, unsigned_abs-mul, fits_signed_from_abs}
-use Rattle.vc_value_wide.specs.Millionths.{one, quotient, divided, turned_by}
+use Rattle.vc_value.specs.Millionths.{one, quotient, divided, turned_by}
 use Rattle.vc_value_wide.proofs.numbers.Wide.over.Goals as goal
 
 quotient_is : (a b r : ℤ) → b ≢ pos 0 → r ≡ divided (turned_by b (a *ℤ pos one)) (unsigned_abs b)
