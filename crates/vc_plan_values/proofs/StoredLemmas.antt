@@ -21,14 +21,12 @@ use Rattle.vc_plan.specs.declared.terms.Term.TheVariants.{Literal, Read, PartSum
 use Rattle.vc_plan.specs.Domains.{grains_in, decimals_in, domain_of, grains_of}
 use Rattle.vc_plan.specs.Pieces.{lies_in_some}
 use Rattle.vc_plan.specs.Ranges.{is_stored, grain_there, domain_there, term_there}
-use Rattle.vc_plan.specs.Readings.{net_reading}
-use Rattle.vc_plan.specs.Seen.{Seen}
-use Rattle.vc_plan.specs.Sizes.{term_size, size_limit, is_small}
+use Rattle.vc_plan.specs.Readings.{Reading}
+use Rattle.vc_plan.specs.Sizes.{term_size, is_small}
 use Rattle.vc_plan.specs.Truth.{number_of_value, value_of_number, number, term_value, value_in_term, value_at}
 use Rattle.vc_plan_values.proofs.GrainLemmas.{no_number}
-use Rattle.vc_plan_values.specs.Computing.{TermsFit, LiesInGrains, ArgumentFits}
-use Rattle.vc_plan_values.proofs.SizeLemmas.{AtMost}
-use Rattle.vc_plan_values.proofs.TermLemmas.{PassesIf, all_get, size_small, term_computes}
+use Rattle.vc_plan_values.specs.Computing.{TermsFit, ArgumentFits}
+use Rattle.vc_plan_values.proofs.TermLemmas.{IsBounded, PassesIf, all_get, argument_fits, size_small, term_computes}
 use Rattle.vc_plan_values.specs.Values.{stored_value}
 
 -- a domain's numbers have at most six decimals
@@ -116,31 +114,26 @@ value_has : (o : Option ℤ) → number_of_value (value_of_number o) ≡ o
 value_has None = refl
 value_has (Some z) = refl
 
-number_is : (seen : Seen) (term : Term)
-    → number_of_value (term_value (net_reading seen) term) ≡ number (net_reading seen) term
-number_is seen (Literal a) = refl
-number_is seen (Read v) = refl
-number_is seen (PartSum slot characteristic) = refl
-number_is seen (PartCount slot) = refl
-number_is seen (Applied' function p a) = value_has (number (net_reading seen) (Applied' function p a))
-number_is seen (Joined' operator p a q b) = value_has (number (net_reading seen) (Joined' operator p a q b))
-
-fits : (o : Option ℤ) (n : ℕ) → AtMost o n → n ≤ size_limit → ArgumentFits o
-fits None n s small = tt
-fits (Some z) n s small = omega arith
+number_told : (reading : Reading) (term : Term) → number_of_value (term_value reading term) ≡ number reading term
+number_told reading (Literal a) = refl
+number_told reading (Read v) = refl
+number_told reading (PartSum slot characteristic) = value_has (reading.part_sum slot characteristic)
+number_told reading (PartCount slot) = value_has (reading.part_count slot)
+number_told reading (Applied' function p a) = value_has (number reading (Applied' function p a))
+number_told reading (Joined' operator p a q b) = value_has (number reading (Joined' operator p a q b))
 
 -- the number of a term of a plan can be rounded
-pub side_fits : (plan : Plan) → TermsFit plan → (seen : Seen) → LiesInGrains plan seen → (n : ℕ)
-    → ArgumentFits (number_of_value (value_at plan (net_reading seen) n))
-side_fits plan fit seen lies n =
+pub value_fits : (plan : Plan) → TermsFit plan → (reading : Reading) → IsBounded plan reading → (n : ℕ)
+    → ArgumentFits (number_of_value (value_at plan reading n))
+value_fits plan fit reading bounded n =
     by (slice_get plan.terms n) (all_get (term_there plan) plan.terms n fit.terms_there)
     (all_get (is_small plan) plan.terms n fit.terms_small)
   where
     by : (o : Option Term) → PassesIf (term_there plan) o → PassesIf (is_small plan) o
-        → ArgumentFits (number_of_value (value_in_term (net_reading seen) o))
+        → ArgumentFits (number_of_value (value_in_term reading o))
     by None there small = tt
     by (Some term) there small =
-        let both = term_computes plan fit.domains_there seen lies term there small in
-        subst ArgumentFits (sym (number_is seen term))
-        (fits (number (net_reading seen) term) (term_size plan term) both.1
+        let both = term_computes plan fit reading bounded term there small in
+        subst ArgumentFits (sym (number_told reading term))
+        (argument_fits (number reading term) (term_size plan term) both.1
         (size_small plan fit.domains_there term there small))

@@ -1,4 +1,4 @@
--- In a valid plan no step of a term is too wide.
+-- In a valid plan no step of a term is too wide, whatever reads it, where values and sums are bounded.
 use Rattle.std.proofs.Common.{◌≡◌, ℕ, zero, suc, ◌^◌, ◌<◌, ◌≤◌, max, ℤ, unsigned_abs, leb, Bool, true, false, ◌&&◌}
 use Rattle.std.proofs.Common.{List, [], ◌∷◌, map, refl, subst, inl, inr, arith}
 use Rattle.std.specs.Prelude.{Option, None, Some, option_map, slice_get}
@@ -28,7 +28,7 @@ use Rattle.vc_plan.specs.Domains.{grains_in, domain_of}
 use Rattle.vc_plan.specs.Numbers.{applied, joined}
 use Rattle.vc_plan.specs.Pieces.{lies_in_some}
 use Rattle.vc_plan.specs.Ranges.{is_stored, grain_there, domain_there, value_there, term_there, condition_there}
-use Rattle.vc_plan.specs.Readings.{net_reading}
+use Rattle.vc_plan.specs.Readings.{Reading, full_reading, net_reading}
 use Rattle.vc_plan.specs.Seen.{Seen}
 use Rattle.vc_plan.specs.Sizes.{grain_size, domain_size, value_size, applied_size, joined_load, joined_size, term_size}
 use Rattle.vc_plan.specs.Sizes.{size_limit, is_small, condition_small}
@@ -79,7 +79,7 @@ domain_holds (Num n) None e = absurd (cc)
 domain_holds (Num n) (Some (Texts texts)) e = absurd (let none = no_number n texts in cc)
 domain_holds (Num n) (Some (Nums decimals list)) e = grains_hold n list e
 
-read_within : (plan : Plan) (seen : Seen) → LiesInGrains plan seen → (v : ℕ)
+pub read_within : (plan : Plan) (seen : Seen) → LiesInGrains plan seen → (v : ℕ)
     → AtMost (number_of_value (seen.value v)) (domain_size (domain_of plan (slice_get plan.vars v)))
 read_within plan seen lies v = by_value (seen.value v) (λ a e. lies v a e)
   where
@@ -106,19 +106,18 @@ grains_small (grain ∷ list) e =
     omega arith
 
 domain_small : (plan : Plan) (domain : Option Domain) → PassesIf (domain_there plan) domain
-    → domain_size domain ≤ size_limit
+    → domain_size domain ≤ 10 ^ 15
 domain_small plan None e = omega arith
 domain_small plan (Some (Texts texts)) e = omega arith
 domain_small plan (Some (Nums decimals list)) e =
     let h : (leb decimals 6 ≡ true) × (list_all grain_there list ≡ true)
     = and_parts (leb decimals 6) (list_all grain_there list) e in
-    let small = grains_small list h.1 in
-    omega arith
+    grains_small list h.1
 
-read_small : (plan : Plan) → list_all (domain_there plan) plan.domains ≡ true → (x : Option Var)
-    → domain_size (domain_of plan x) ≤ size_limit
-read_small plan all None = omega arith
-read_small plan all (Some x) =
+pub var_small : (plan : Plan) → list_all (domain_there plan) plan.domains ≡ true → (x : Option Var)
+    → domain_size (domain_of plan x) ≤ 10 ^ 15
+var_small plan all None = omega arith
+var_small plan all (Some x) =
     domain_small plan (slice_get plan.domains x.domain) (all_get (domain_there plan) plan.domains x.domain all)
 
 value_small : (plan : Plan) (a : Value) → value_there plan a ≡ true → value_size a ≤ size_limit
@@ -130,7 +129,8 @@ module _ (plan : Plan) (domains : list_all (domain_there plan) plan.domains ≡ 
   pub size_small : (term : Term) → term_there plan term ≡ true → is_small plan term ≡ true
       → term_size plan term ≤ size_limit
   size_small (Literal a) there small = value_small plan a there
-  size_small (Read v) there small = read_small plan domains (slice_get plan.vars v)
+  size_small (Read v) there small =
+      let few = var_small plan domains (slice_get plan.vars v) in omega (arith, few)
   size_small (PartSum slot characteristic) there small = omega arith
   size_small (PartCount slot) there small = omega arith
   size_small (Applied' function p a) there small =
@@ -148,7 +148,7 @@ module _ (plan : Plan) (domains : list_all (domain_there plan) plan.domains ≡ 
       leb-true n size_limit k.1
 
 -- what a number of at most this size fits
-argument_fits : (o : Option ℤ) (n : ℕ) → AtMost o n → n ≤ size_limit → ArgumentFits o
+pub argument_fits : (o : Option ℤ) (n : ℕ) → AtMost o n → n ≤ size_limit → ArgumentFits o
 argument_fits None n s small = tt
 argument_fits (Some z) n s small = omega arith
 
@@ -157,14 +157,14 @@ applied_if : (function : Function) (o : Option ℤ) (n : ℕ) → AtMost o n
 applied_if function None n s = tt
 applied_if function (Some z) n s = applied_within function z n s
 
-operands_fit : (operator : Operator) (o p : Option ℤ) (m n : ℕ) → AtMost o m → AtMost p n
+pub operands_fit : (operator : Operator) (o p : Option ℤ) (m n : ℕ) → AtMost o m → AtMost p n
     → joined_load operator m n ≤ size_limit
     → OperandsFit operator o p
 operands_fit operator None p m n s t small = tt
 operands_fit operator (Some a) None m n s t small = tt
 operands_fit operator (Some a) (Some b) m n s t small = let h = load_within operator a b m n s t in omega arith
 
-joined_if : (operator : Operator) (o p : Option ℤ) (m n : ℕ) → AtMost o m → AtMost p n
+pub joined_if : (operator : Operator) (o p : Option ℤ) (m n : ℕ) → AtMost o m → AtMost p n
     → AtMost (joined operator o p) (joined_size operator m n)
 joined_if operator None p m n s t = tt
 joined_if operator (Some a) None m n s t = tt
@@ -174,25 +174,44 @@ value_within : (a : Value) → AtMost (number_in a) (value_size a)
 value_within (Text t) = tt
 value_within (Num n) = omega arith
 
+-- values are of their variables' domains, and sums no larger than sums over parts may get
+pub record IsBounded (plan : Plan) (reading : Reading) : Type 0 where
+  pub values : (v : ℕ)
+      → AtMost (number_of_value (reading.value v)) (domain_size (domain_of plan (slice_get plan.vars v)))
+  pub sums : (slot characteristic : ℕ) → AtMost (reading.part_sum slot characteristic) (10 ^ 27)
+  pub counts : (slot : ℕ) → AtMost (reading.part_count slot) (10 ^ 27)
+
+-- as where no sums are read
+pub net_bounded : (plan : Plan) (seen : Seen) → LiesInGrains plan seen → IsBounded plan (net_reading seen)
+net_bounded plan seen lies = record {
+  values = read_within plan seen lies;
+  sums = λ slot characteristic. tt;
+  counts = λ slot. tt;
+}
+
+pub full_bounded : (plan : Plan) (seen : Seen) → LiesInGrains plan seen → (holds : ℕ → ℕ → Bool)
+    → IsBounded plan (full_reading plan seen holds)
+full_bounded plan seen lies holds = record {
+  values = read_within plan seen lies;
+  sums = λ slot characteristic. tt;
+  counts = λ slot. tt;
+}
+
 -- a term computes, and its number is at most as large as its size
-module _ (plan : Plan) (domains : list_all (domain_there plan) plan.domains ≡ true) (seen : Seen)
-    (lies : LiesInGrains plan seen) where
+module _ (plan : Plan) (fit : TermsFit plan) (reading : Reading) (bounded : IsBounded plan reading) where
   pub term_computes : (term : Term) → term_there plan term ≡ true → is_small plan term ≡ true
-      → Computes (net_reading seen) term × AtMost (number (net_reading seen) term) (term_size plan term)
+      → Computes reading term × AtMost (number reading term) (term_size plan term)
   term_computes (Literal a) there small = (tt, value_within a)
-  term_computes (Read v) there small = (tt, read_within plan seen lies v)
-  term_computes (PartSum slot characteristic) there small = (tt, tt)
-  term_computes (PartCount slot) there small = (tt, tt)
+  term_computes (Read v) there small = (tt, bounded.values v)
+  term_computes (PartSum slot characteristic) there small = (tt, bounded.sums slot characteristic)
+  term_computes (PartCount slot) there small = (tt, bounded.counts slot)
   term_computes (Applied' function p a) there small =
       let n = term_size plan a in
       let h : (leb (applied_size function n) size_limit ≡ true) × (is_small plan a ≡ true) =
       and_parts (leb (applied_size function n) size_limit) (is_small plan a) small in
       let inner = term_computes a there h.1 in
-      let fits = size_small plan domains a there h.1 in (
-        (inner.0, argument_fits (number (net_reading seen) a) n inner.1 fits),
-        applied_if function
-            (number (net_reading seen) a) n inner.1,
-      )
+      let fits = size_small plan fit.domains_there a there h.1 in
+      ((inner.0, argument_fits (number reading a) n inner.1 fits), applied_if function (number reading a) n inner.1)
   term_computes (Joined' operator p a q b) there small =
       let m = term_size plan a in
       let n = term_size plan b in
@@ -208,14 +227,14 @@ module _ (plan : Plan) (domains : list_all (domain_there plan) plan.domains ≡ 
       = and_parts (is_small plan a) (is_small plan b) h.1 in
       let left = term_computes a both.0 parts.0 in
       let right = term_computes b both.1 parts.1 in
-      let x = number (net_reading seen) a in
-      let y = number (net_reading seen) b in (
+      let x = number reading a in
+      let y = number reading b in (
         (left.0, right.0, operands_fit operator x y m n left.1 right.1 (leb-true load size_limit k.0)),
         joined_if operator x y m n left.1 right.1,
       )
 
   pub condition_computes : (c : Condition) → condition_there plan c ≡ true → condition_small plan c ≡ true
-      → ConditionComputes (net_reading seen) c
+      → ConditionComputes reading c
   condition_computes Always there small = tt
   condition_computes (Compared r a b) there small =
       let both : (term_there plan a ≡ true) × (term_there plan b ≡ true)
@@ -243,23 +262,23 @@ module _ (plan : Plan) (domains : list_all (domain_there plan) plan.domains ≡ 
       = and_parts (condition_small plan c) (condition_small plan d) small in
       (condition_computes c both.0 parts.0, condition_computes d both.1 parts.1)
 
--- the same of what a plan has by its number
-pub condition_at_computes : (plan : Plan) → TermsFit plan → (seen : Seen) → LiesInGrains plan seen
-    → (n : ℕ) (c : Condition)
-    → slice_get plan.conditions n ≡ Some c → ConditionComputes (net_reading seen) c
-condition_at_computes plan fit seen lies n c e =
-    let there : PassesIf (condition_there plan) (Some c) =
-    subst (PassesIf (condition_there plan)) e (all_get (condition_there plan) plan.conditions n fit.conditions_there) in
-    let small : PassesIf (condition_small plan) (Some c) =
-    subst (PassesIf (condition_small plan)) e (all_get (condition_small plan) plan.conditions n fit.conditions_small) in
-    condition_computes plan fit.domains_there seen lies c there small
+  -- the same of what the plan has by its number
+  pub condition_at_computes : (n : ℕ) (c : Condition) → slice_get plan.conditions n ≡ Some c
+      → ConditionComputes reading c
+  condition_at_computes n c e =
+      let there : PassesIf (condition_there plan) (Some c) =
+      subst (PassesIf (condition_there plan)) e
+      (all_get (condition_there plan) plan.conditions n fit.conditions_there) in
+      let small : PassesIf (condition_small plan) (Some c) =
+      subst (PassesIf (condition_small plan)) e
+      (all_get (condition_small plan) plan.conditions n fit.conditions_small) in
+      condition_computes c there small
 
-pub term_at_computes : (plan : Plan) → TermsFit plan → (seen : Seen) → LiesInGrains plan seen → (n : ℕ) (term : Term)
-    → slice_get plan.terms n ≡ Some term → Computes (net_reading seen) term
-term_at_computes plan fit seen lies n term e =
-    let there : PassesIf (term_there plan) (Some term)
-    = subst (PassesIf (term_there plan)) e (all_get (term_there plan) plan.terms n fit.terms_there) in
-    let small : PassesIf (is_small plan) (Some term)
-    = subst (PassesIf (is_small plan)) e (all_get (is_small plan) plan.terms n fit.terms_small) in
-    let both = term_computes plan fit.domains_there seen lies term there small in
-    both.0
+  pub term_at_computes : (n : ℕ) (term : Term) → slice_get plan.terms n ≡ Some term → Computes reading term
+  term_at_computes n term e =
+      let there : PassesIf (term_there plan) (Some term)
+      = subst (PassesIf (term_there plan)) e (all_get (term_there plan) plan.terms n fit.terms_there) in
+      let small : PassesIf (is_small plan) (Some term)
+      = subst (PassesIf (is_small plan)) e (all_get (is_small plan) plan.terms n fit.terms_small) in
+      let both = term_computes term there small in
+      both.0

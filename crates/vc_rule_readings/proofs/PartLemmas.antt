@@ -1,39 +1,30 @@
 -- Sums over parts are no larger than they may get, and their addends fit.
-use Rattle.std.proofs.Common.{◌≡◌, ℕ, zero, suc, ◌+◌, ◌*◌, ◌/◌, ◌^◌, ◌≤◌, ℤ, unsigned_abs, leb, Bool, true, false, ◌&&◌}
-use Rattle.std.proofs.Common.{List, [], ◌∷◌, length, map, refl, sym, subst, ap, inl, inr, arith}
+use Rattle.std.proofs.Common.{◌≡◌, ℕ, zero, suc, ◌+◌, ◌*◌, ◌/◌, ◌^◌, ◌≤◌, ℤ, unsigned_abs, Bool, true, false, ◌&&◌}
+use Rattle.std.proofs.Common.{◌∷◌, length, map, refl, sym, subst, ap, arith}
 use Rattle.std.specs.Prelude.{if◌then◌else◌, nat_lt, Option, None, Some, is_some, slice_get}
-use Rattle.std.specs.List.{filter, list_all, range_with_len, sum_by}
-use Rattle.std.proofs.lemmas.Bool.{and_parts, cases_lt, leb-true, lt-ltb, ltb-true}
+use Rattle.std.specs.List.{filter, range_with_len, sum_by}
+use Rattle.std.proofs.lemmas.Bool.{leb-true, ltb-true}
 use Rattle.std.proofs.lemmas.List.Sums.{sum_by-cons}
-use Rattle.vc_value.specs.declared.grains.Grain.{Grain}
-use Rattle.vc_value.specs.declared.table_header.Domain.{Domain}
-use Rattle.vc_value.specs.declared.table_header.Domain.TheVariants.{Texts, Nums}
-use Rattle.vc_value.specs.declared.value.Value.{Value}
-use Rattle.vc_value_wide.specs.Millionths.{stored}
+use Rattle.vc_value.specs.Millionths.{stored, one}
 use Rattle.vc_plan.specs.declared.plans.Plan.{Plan}
 use Rattle.vc_plan.specs.declared.plans.Line as bill
-use Rattle.vc_plan.specs.declared.plans.Var.{Var}
+use Rattle.vc_plan.specs.declared.terms.Operator.{Operator}
 use Rattle.vc_plan.specs.declared.terms.Operator.TheVariants.{Plus, Times}
-use Rattle.vc_plan.specs.Bounds.{greatest}
-use Rattle.vc_plan.specs.Domains.{atom_count, count_of, domain_of, grains_in, grains_of, numbers_below}
-use Rattle.vc_plan.specs.Numbers.{joined, one}
+use Rattle.vc_plan.specs.Domains.{atom_count, count_of, domain_of, numbers_below}
+use Rattle.vc_plan.specs.Numbers.{joined}
 use Rattle.vc_plan.specs.Parts.{amount_of, count_of_parts, is_part, line_in, part_quantity, part_weight, quantity_in}
 use Rattle.vc_plan.specs.Parts.{sum_of_parts, total, var_of, weighed}
-use Rattle.vc_plan.specs.Pieces.{lies_in_some}
-use Rattle.vc_plan.specs.Ranges.{domain_there, grain_there, is_stored}
 use Rattle.vc_plan.specs.Readings.{Reading, full_reading}
 use Rattle.vc_plan.specs.Seen.{Seen}
-use Rattle.vc_plan.specs.Sizes.{domain_size, grain_size}
+use Rattle.vc_plan.specs.Sizes.{domain_size}
 use Rattle.vc_plan.specs.Truth.{number_of_value, value_at}
-use Rattle.vc_plan.proofs.PlanLaws.Lists.{get_past}
 use Rattle.vc_plan_values.specs.Computing.{LiesInGrains, OperandsFit, TermsFit}
 use Rattle.vc_plan_values.proofs.SizeLemmas.{AtMost}
-use Rattle.vc_plan_values.proofs.TermLemmas.{PassesIf, all_get}
+use Rattle.vc_plan_values.proofs.TermLemmas.{IsBounded, joined_if, operands_fit, read_within, var_small}
 use Rattle.vc_rule_readings.specs.Laws.{ValidSumsFit}
 use Rattle.vc_rule_readings.specs.Parted.{parted_reading}
 use Rattle.vc_rule_readings.specs.Summing.{SumsFit, addend, adds, part_total, stored_count}
 use Rattle.vc_rule_readings.proofs.RangeLemmas.{filter_all, filter_both}
-use Rattle.vc_rule_readings.proofs.ReadingLemmas.{IsBounded, joined_if, operands_fit, value_bounded}
 
 -- the stored number of an amount
 pub amount_is : (z : ℤ) → stored_count (stored z) ≡ amount_of (Some z)
@@ -47,6 +38,11 @@ at_most_more : (o : Option ℤ) (m n : ℕ) → AtMost o m → m ≤ n → AtMos
 at_most_more None m n s more = tt
 at_most_more (Some z) m n s more = omega arith
 
+pub operands_as : (operator : Operator) (o p x y : Option ℤ) → OperandsFit operator x y → o ≡ x → p ≡ y
+    → OperandsFit operator o p
+operands_as operator o p x y fit e f =
+    subst (λ k. OperandsFit operator k p) (sym e) (subst (OperandsFit operator x) (sym f) fit)
+
 -- amounts, and values of variables, are stored numbers
 amount_small : (o : Option ℤ) → AtMost (amount_of o) (10 ^ 15)
 amount_small None = tt
@@ -56,54 +52,11 @@ amount_small (Some z) = by (nat_lt (unsigned_abs z) (10 ^ 15)) refl
     by true e = let small = ltb-true (unsigned_abs z) (10 ^ 15) e in omega arith
     by false e = tt
 
-grains_small : (list : List Grain) → list_all grain_there list ≡ true → greatest grain_size list ≤ 10 ^ 15
-grains_small [] e = omega arith
-grains_small (grain ∷ list) e =
-    let h : (grain_there grain ≡ true) × (list_all grain_there list ≡ true)
-    = and_parts (grain_there grain) (list_all grain_there list) e in
-    let ends : (is_stored grain.low ≡ true) × (is_stored grain.high ≡ true)
-    = and_parts (is_stored grain.low) (is_stored grain.high) h.0 in
-    let low = ltb-true (unsigned_abs grain.low.millionths) (10 ^ 15) ends.0 in
-    let high = ltb-true (unsigned_abs grain.high.millionths) (10 ^ 15) ends.1 in
-    let later = grains_small list h.1 in
-    omega arith
-
-domain_small : (plan : Plan) (domain : Option Domain) → PassesIf (domain_there plan) domain
-    → domain_size domain ≤ 10 ^ 15
-domain_small plan None e = omega arith
-domain_small plan (Some (Texts texts)) e = omega arith
-domain_small plan (Some (Nums decimals list)) e =
-    let h : (leb decimals 6 ≡ true) × (list_all grain_there list ≡ true)
-    = and_parts (leb decimals 6) (list_all grain_there list) e in
-    grains_small list h.1
-
-var_small : (plan : Plan) → list_all (domain_there plan) plan.domains ≡ true → (x : Option Var)
-    → domain_size (domain_of plan x) ≤ 10 ^ 15
-var_small plan all None = omega arith
-var_small plan all (Some x) =
-    domain_small plan (slice_get plan.domains x.domain) (all_get (domain_there plan) plan.domains x.domain all)
-
 module _ (plan : Plan) (fit : TermsFit plan) (seen : Seen) (lies : LiesInGrains plan seen) where
   value_small : (v : ℕ) → AtMost (number_of_value (seen.value v)) (10 ^ 15)
   value_small v =
-      elim (cases_lt v (length plan.vars)) [
-        | inl below ↦
-            at_most_more (number_of_value (seen.value v)) (domain_size (domain_of plan (slice_get plan.vars v)))
-            (10 ^ 15)
-            (value_bounded plan fit seen lies v (lt-ltb v (length plan.vars) below))
-            (var_small plan fit.domains_there (slice_get plan.vars v))
-        | inr past ↦ by (seen.value v)
-            (λ a e. no_grain a (lies v a e) (ap (domain_of plan) (get_past plan.vars v past)))
-      ]
-    where
-      no_grain : (a : Value) → lies_in_some (grains_of plan v) a ≡ true → domain_of plan (slice_get plan.vars v) ≡ None
-          → ⊥
-      no_grain a held none = let empty : lies_in_some (grains_of plan v) a
-          ≡ false = ap (λ domain. lies_in_some (grains_in domain) a) none in absurd (cc)
-
-      by : (o : Option Value) → ((a : Value) → o ≡ Some a → ⊥) → AtMost (number_of_value o) (10 ^ 15)
-      by None f = tt
-      by (Some a) f = absurd (f a refl)
+      at_most_more (number_of_value (seen.value v)) (domain_size (domain_of plan (slice_get plan.vars v))) (10 ^ 15)
+      (read_within plan seen lies v) (var_small plan fit.domains_there (slice_get plan.vars v))
 
   -- so what a part adds is small, and so is a total of what some of forty add
   module _ (holds : ℕ → ℕ → Bool) where
@@ -193,7 +146,7 @@ count_is plan seen reading i =
 pub parted_bounded : (plan : Plan) → SumsFit plan → (seen : Seen) → LiesInGrains plan seen → (holds : ℕ → ℕ → Bool)
     → IsBounded plan (parted_reading plan seen holds)
 parted_bounded plan fit seen lies holds = record {
-  values = value_bounded plan fit.terms seen lies;
+  values = read_within plan seen lies;
   sums = λ slot characteristic.
       subst (λ o. AtMost o (10 ^ 27)) (sum_is plan seen (full_reading plan seen holds) slot characteristic)
       (total_small plan fit.terms seen lies holds slot (Some characteristic) fit.few_slots);

@@ -6,9 +6,8 @@ use Rattle.vc_plan.specs.Parts.{total}
 use Rattle.vc_plan.specs.Readings.{full_reading}
 use Rattle.vc_plan_values.specs.Values.{count_if}
 use Rattle.vc_rule_readings.specs.Summing.{addend, adds}
-use Rattle.vc_rule_readings.proofs.PartLemmas.{addition_fits}
+use Rattle.vc_rule_readings.proofs.PartLemmas.{addition_fits, operands_as}
 use Rattle.vc_rule_readings.proofs.RangeLemmas.{total_down}
-use Rattle.vc_rule_readings.proofs.ReadingLemmas.{operands_as}
 use Rattle.vc_rule_readings.proofs.parts.part_total.Goals as goal
 
 pub with_part-sum-requires-clause-sum : goal.with_part-sum-requires-clause-sum

@@ -5,8 +5,7 @@ use Rattle.vc_plan.specs.Parts.{part_quantity}
 use Rattle.vc_plan.specs.Readings.{full_reading}
 use Rattle.vc_plan.specs.Truth.{number_of_value}
 use Rattle.vc_plan_values.specs.Values.{count_if}
-use Rattle.vc_rule_readings.proofs.PartLemmas.{weight_fits}
-use Rattle.vc_rule_readings.proofs.ReadingLemmas.{operands_as}
+use Rattle.vc_rule_readings.proofs.PartLemmas.{weight_fits, operands_as}
 use Rattle.vc_rule_readings.proofs.parts.weighed.Goals as goal
 
 pub joined-requires : goal.joined-requires

@@ -1,9 +1,9 @@
 -- No step of the condition is too wide.
 use Rattle.std.proofs.Common.{ap, sym, ◌∙◌}
 use Rattle.std.specs.Prelude.{slice_get}
+use Rattle.vc_plan_values.proofs.TermLemmas.{condition_at_computes}
 use Rattle.vc_rule_readings.specs.Parted.{parted_reading}
 use Rattle.vc_rule_readings.proofs.PartLemmas.{parted_bounded}
-use Rattle.vc_rule_readings.proofs.ReadingLemmas.{condition_at_computes}
 use Rattle.vc_rule_readings.proofs.procedures.parted_truth.Goals as goal
 
 pub truth-requires-clause-computes : goal.truth-requires-clause-computes

@@ -1,9 +1,9 @@
 -- No step of the term is too wide.
 use Rattle.std.proofs.Common.{ap, sym, ◌∙◌}
 use Rattle.std.specs.Prelude.{slice_get}
+use Rattle.vc_plan_values.proofs.TermLemmas.{term_at_computes}
 use Rattle.vc_rule_readings.specs.Parted.{parted_reading}
 use Rattle.vc_rule_readings.proofs.PartLemmas.{parted_bounded}
-use Rattle.vc_rule_readings.proofs.ReadingLemmas.{term_at_computes}
 use Rattle.vc_rule_readings.proofs.procedures.parted_value.Goals as goal
 
 pub term_value-requires-clause-computes : goal.term_value-requires-clause-computes

@@ -2,10 +2,10 @@
 use Rattle.std.proofs.Common.{sym, subst}
 use Rattle.vc_plan.specs.Truth.{number_of_value}
 use Rattle.vc_plan_values.specs.Computing.{ArgumentFits}
+use Rattle.vc_plan_values.proofs.StoredLemmas.{value_fits}
 use Rattle.vc_rule_readings.specs.Beside.{seen_beside}
 use Rattle.vc_rule_readings.specs.Parted.{parted_reading}
 use Rattle.vc_rule_readings.proofs.PartLemmas.{parted_bounded}
-use Rattle.vc_rule_readings.proofs.ReadingLemmas.{value_fits}
 use Rattle.vc_rule_readings.proofs.procedures.procedure_value.Goals as goal
 
 pub returns-clause-fits : goal.returns-clause-fits

@@ -2,7 +2,7 @@
 use Rattle.std.proofs.Common.{ap, sym, ◌∙◌}
 use Rattle.std.specs.Prelude.{slice_get}
 use Rattle.vc_plan.specs.Readings.{full_reading}
-use Rattle.vc_rule_readings.proofs.ReadingLemmas.{condition_at_computes, full_bounded}
+use Rattle.vc_plan_values.proofs.TermLemmas.{condition_at_computes, full_bounded}
 use Rattle.vc_rule_readings.proofs.whole.full_truth.Goals as goal
 
 pub truth-requires-clause-computes : goal.truth-requires-clause-computes
@@ -11,6 +11,6 @@ truth-requires-clause-computes g c =
     let seen = g.R.View.seen c.args.reading.now in
     let holds = g.R.Reading.holdings c.args.reading.now in
     condition_at_computes plan c.requires.fit (full_reading plan seen holds)
-    (full_bounded plan c.requires.fit seen c.requires.values holds)
+    (full_bounded plan seen c.requires.values holds)
     c.args.condition c.in-Some.condition.now
     (ap (λ list. slice_get list c.args.condition) (sym c.as_slice.ensures) ∙ c.in-Some.ensures.some)
