@@ -7,8 +7,8 @@ ghost use Rattle.vc_plan.specs.declared.plans.Named.TheVariants.{Var};
 ghost use Rattle.vc_desk_names.specs.Meant as meant;
 
 use vc_plan::{Named, Plan, element};
+use vc_plan_values::grains::domain_of;
 use vc_plan_values::texts_of;
-use vc_rule_table::cells::domain_of;
 use vc_session::listing::may_be_given;
 use vc_value::{Dec, Domain, Value};
 

@@ -8,9 +8,9 @@ ghost use Rattle.vc_rule_grains.specs.Tests.{allowed_by};
 
 use vc_plan::{Plan, Relation, Restriction};
 use vc_plan_values::TermValue;
+use vc_plan_values::grains::domain_of;
 use vc_plan_values::rounding::literal_for;
 use vc_rule_grains::allowing::Allowed;
-use vc_rule_table::cells::domain_of;
 use vc_value::{Domain, Value};
 
 fn decimals_in(domain: &Domain) -> u8

@@ -1,8 +1,9 @@
 -- That a term is computed without a number too wide.
-use Rattle.std.specs.Prelude.{◌≡◌, slice_get, ℕ, ℤ, ◌-◌, ◌*◌, ◌^◌, ◌≤◌, ◌+ℤ◌, ◌-ℤ◌, ◌*ℤ◌, unsigned_abs, true, Option}
-use Rattle.std.specs.Prelude.{None, Some}
+use Rattle.std.specs.Prelude.{◌≡◌, slice_get, ℕ, ℤ, ◌-◌, ◌*◌, ◌^◌, ◌≤◌, ◌+ℤ◌, ◌-ℤ◌, ◌*ℤ◌, unsigned_abs, true, false}
+use Rattle.std.specs.Prelude.{Option, None, Some}
 use Rattle.std.specs.List.{list_all}
 use Rattle.vc_value.specs.declared.value.Value.{Value}
+use Rattle.vc_value.specs.Millionths.{one}
 use Rattle.vc_plan.specs.declared.conditions.Condition.{Condition}
 use Rattle.vc_plan.specs.declared.conditions.Condition.TheVariants.{Always, Compared, IsIn, Specified, Holds, Filled}
 use Rattle.vc_plan.specs.declared.conditions.Condition.TheVariants.{Not', And', Or'}
@@ -11,9 +12,8 @@ use Rattle.vc_plan.specs.declared.terms.Operator.{Operator}
 use Rattle.vc_plan.specs.declared.terms.Operator.TheVariants.{Plus, Minus, Times, Over}
 use Rattle.vc_plan.specs.declared.terms.Term.{Term}
 use Rattle.vc_plan.specs.declared.terms.Term.TheVariants.{Literal, Read, PartSum, PartCount, Applied', Joined'}
-use Rattle.vc_plan.specs.Domains.{grains_of}
-use Rattle.vc_plan.specs.Numbers.{one}
-use Rattle.vc_plan.specs.Pieces.{lies_in_some}
+use Rattle.vc_plan.specs.Domains.{grains_of, is_grain_with}
+use Rattle.vc_plan.specs.Pieces.{lies_in, lies_in_some}
 use Rattle.vc_plan.specs.Ranges.{domain_there, condition_there, term_there}
 use Rattle.vc_plan.specs.Readings.{Reading}
 use Rattle.vc_plan.specs.Seen.{Seen}
@@ -36,6 +36,11 @@ ValidTermsFit = (plan : Plan) → IsValid plan → TermsFit plan
 -- each value lies in a grain of its variable
 abbrev pub LiesInGrains : Plan → Seen → Type 0
 LiesInGrains plan seen = (v : ℕ) (a : Value) → seen.value v ≡ Some a → lies_in_some (grains_of plan v) a ≡ true
+
+-- no grain that holds its variable's value is out, as in every clear set
+abbrev pub ValuesAreLeft : Plan → Seen → Type 0
+ValuesAreLeft plan seen = (v g : ℕ) (a : Value) → seen.value v ≡ Some a → is_grain_with plan v (lies_in a) g ≡ true
+    → seen.out v g ≡ false
 
 -- the argument of a function, where there is one, leaves room to round it
 abbrev pub ArgumentFits : Option ℤ → Type 0

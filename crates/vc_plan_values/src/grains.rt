@@ -1,8 +1,8 @@
 //! The grains of a plan's variables and the texts of its sets: which there are, and which values they hold.
 
-ghost use Rattle.std.specs.Prelude.{◌≡◌, ◌^◌, ◌<◌, map, slice_get, Some};
-ghost use Rattle.vc_plan.specs.Domains.{atom_count, count_of, grains_in, grains_of, is_grain_with, is_restrictable};
-ghost use Rattle.vc_plan.specs.Domains.{texts_in, texts_of};
+ghost use Rattle.std.specs.Prelude.{◌≡◌, ◌^◌, ◌<◌, map, slice_get, IfNone, IfSome, Some, None};
+ghost use Rattle.vc_plan.specs.Domains.{atom_count, count_of, domain_of, grains_in, grains_of, is_grain_with};
+ghost use Rattle.vc_plan.specs.Domains.{is_restrictable, texts_in, texts_of};
 ghost use Rattle.vc_plan.specs.Pieces.{lies_in, lies_in_some};
 ghost use Rattle.vc_plan.specs.declared.conditions.Piece.TheVariants.{OneText, Stretch};
 
@@ -10,29 +10,41 @@ use crate::pieces::lies_in;
 use vc_plan::{Piece, Plan, count_of, element};
 use vc_value::{Domain, GrainList, Value};
 
+/// The values that the variable may have.
+pub fn domain_of(plan: &Plan, var: u32) -> Option<&Domain>
+    ensures some { IfSome result (λ domain. domain_of plan.now (slice_get plan.now.vars var) ≡ Some domain.now) }
+    ensures none { IfNone result (domain_of plan.now (slice_get plan.now.vars var) ≡ None) }
+{
+    match element(plan.vars.as_slice(), var) {
+        Some(var) => element(plan.domains.as_slice(), var.domain),
+        None => None,
+    }
+}
+
 /// The text of this number among these, as a piece.
 #[tactic(auto, using(crate::proofs::GrainLemmas::text_at))]
-pub fn text_at(texts: &[u32], grain: u32) -> Option<Piece>
+pub fn text_at(texts: &[u32], grain: usize) -> Option<Piece>
     ensures { result ≡ slice_get (map OneText texts.now) grain }
 {
-    match element(texts, grain) {
+    match texts.get(grain) {
         Some(text) => Some(Piece::OneText(*text)),
         None => None,
     }
 }
 
 #[tactic(auto, using(crate::proofs::GrainLemmas::stretch_at, crate::proofs::GrainLemmas::no_stretch_at))]
-fn stretch_at(grains: &GrainList, grain: u32) -> Option<Piece>
+fn stretch_at(grains: &GrainList, grain: usize) -> Option<Piece>
     ensures { result ≡ slice_get (map Stretch grains.now) grain }
 {
-    if grain < grains.count() {
-        Some(Piece::Stretch(grains.grain(grain)))
+    if grain < grains.count() as usize {
+        Some(Piece::Stretch(grains.grain(grain as u32)))
     } else {
         None
     }
 }
 
-fn piece_in(domain: &Domain, grain: u32) -> Option<Piece>
+/// The grain of this number of the domain, if it has it.
+pub fn piece_in(domain: &Domain, grain: usize) -> Option<Piece>
     ensures { result ≡ slice_get (grains_in (Some domain.now)) grain }
 {
     match domain {
@@ -48,11 +60,8 @@ fn piece_in(domain: &Domain, grain: u32) -> Option<Piece>
 pub fn piece(plan: &Plan, var: u32, grain: u32) -> Option<Piece>
     ensures { result ≡ slice_get (grains_of plan.now var) grain }
 {
-    match element(plan.vars.as_slice(), var) {
-        Some(x) => match element(plan.domains.as_slice(), x.domain) {
-            Some(domain) => piece_in(domain, grain),
-            None => None,
-        },
+    match domain_of(plan, var) {
+        Some(domain) => piece_in(domain, grain as usize),
         None => None,
     }
 }
@@ -103,11 +112,8 @@ fn domain_holds(domain: &Domain, value: Value) -> bool
 pub fn some_holds(plan: &Plan, var: u32, value: Value) -> bool
     ensures { result ≡ lies_in_some (grains_of plan.now var) value }
 {
-    match element(plan.vars.as_slice(), var) {
-        Some(x) => match element(plan.domains.as_slice(), x.domain) {
-            Some(domain) => domain_holds(domain, value),
-            None => false,
-        },
+    match domain_of(plan, var) {
+        Some(domain) => domain_holds(domain, value),
         None => false,
     }
 }

@@ -1,5 +1,5 @@
-//! Values of plans, for all who compute them: the numbers of terms, relations, truth values, the grains of variables and
-//! which values they hold; and that in a valid plan no number on the way is too wide.
+//! Values of plans, for all who compute them: the numbers of terms, relations, truth values, the grains of variables
+//! and which values they hold; and that in a valid plan no number on the way is too wide.
 #![tactic(auto)]
 
 pub mod grains;

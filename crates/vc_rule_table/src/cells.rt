@@ -1,31 +1,20 @@
 //! Cells of tables, against the grains of variables.
 
-ghost use Rattle.std.specs.Prelude.{◌≡◌, ◌^◌, ◌<◌, [], ◌∷◌, length, map, slice_get, IfNone, IfSome, Some, None};
+ghost use Rattle.std.specs.Prelude.{◌≡◌, ◌^◌, ◌<◌, [], ◌∷◌, length, map, Some, None};
 ghost use Rattle.std.specs.List.{filter};
 ghost use Rattle.vc_plan.specs.declared.atoms.Atom.TheVariants.{Out};
-ghost use Rattle.vc_plan.specs.declared.conditions.Piece.TheVariants.{OneText};
 ghost use Rattle.vc_plan.specs.Domains.{domain_of, grains_in};
 ghost use Rattle.vc_plan.specs.TableRows.{has_left, fits};
 ghost use Rattle.vc_rule_premises.specs.Citing.{cited_all};
 ghost use Rattle.vc_rule_table.specs.Cells.{FewGrains, grain_holds, left_among, holds_left, has_left_among, out_among};
 ghost use Rattle.vc_rule_table.specs.Reasons.{grains_out, cell_reasons, operand_reasons};
 
-use vc_plan::{Atom, Operand, Piece, Plan, View, element};
+use vc_plan::{Atom, Operand, Plan, View};
+use vc_plan_values::grains::{domain_of, piece_in};
 use vc_plan_values::lies_in;
 use vc_rule_yield::Yield;
 use vc_rule_yield::atoms::same_value;
 use vc_value::{Domain, Value};
-
-/// The values that the variable may have.
-pub fn domain_of(plan: &Plan, var: u32) -> Option<&Domain>
-    ensures some { IfSome result (λ domain. domain_of plan.now (slice_get plan.now.vars var) ≡ Some domain.now) }
-    ensures none { IfNone result (domain_of plan.now (slice_get plan.now.vars var) ≡ None) }
-{
-    match element(plan.vars.as_slice(), var) {
-        Some(var) => element(plan.domains.as_slice(), var.domain),
-        None => None,
-    }
-}
 
 /// How many grains there are.
 #[tactic(auto, using(crate::proofs::CellLemmas::texts_counted, crate::proofs::CellLemmas::stretches_counted))]
@@ -45,36 +34,9 @@ pub fn grain_count(domain: &Domain) -> usize
 pub fn grain_holds(domain: &Domain, grain: usize, value: Value) -> bool
     ensures { result ≡ grain_holds (grains_in (Some domain.now)) value grain }
 {
-    match piece_of(domain, grain) {
+    match piece_in(domain, grain) {
         Some(piece) => lies_in(value, piece),
         None => false,
-    }
-}
-
-fn piece_of(domain: &Domain, grain: usize) -> Option<Piece>
-    ensures { result ≡ slice_get (grains_in (Some domain.now)) grain }
-{
-    match domain {
-        Domain::Texts(texts) => text_at(texts.as_slice(), grain),
-        Domain::Nums {
-            decimals: _,
-            grains,
-        } => {
-            if grain < grains.count() as usize {
-                Some(Piece::Stretch(grains.grain(grain as u32)))
-            } else {
-                None
-            }
-        }
-    }
-}
-
-fn text_at(texts: &[u32], place: usize) -> Option<Piece>
-    ensures { result ≡ slice_get (map OneText texts.now) place }
-{
-    match texts.get(place) {
-        Some(text) => Some(Piece::OneText(*text)),
-        None => None,
     }
 }
 

@@ -11,8 +11,9 @@ ghost use Rattle.vc_rule_table.specs.Cells.{FewGrains, has_left_among};
 ghost use Rattle.vc_rule_table.specs.Fitting.{IsTest, LeftOf, TellsLeft, holds_both, is_left_at, is_text, piece_has};
 ghost use Rattle.vc_rule_table.specs.Fitting.{test_passes, with_left};
 
-use crate::cells::{domain_of, has_left_among};
+use crate::cells::has_left_among;
 use vc_plan::{Operand, Piece, Plan, View, element};
+use vc_plan_values::grains::domain_of;
 use vc_plan_values::lies_in;
 use vc_rule_yield::atoms::same_value;
 use vc_value::{Dec, Domain, GrainList, Listed, Value};

@@ -5,9 +5,10 @@ ghost use Rattle.vc_plan.specs.Domains.{is_grain_with};
 ghost use Rattle.vc_plan.specs.Pieces.{lies_in};
 ghost use Rattle.vc_plan.specs.TableRows.{cell_passes, columns_of, has_grain};
 
-use crate::cells::{domain_of, grain_holds};
+use crate::cells::grain_holds;
 use crate::rows::{cell, is_column_of};
 use vc_plan::{Binding, Plan};
+use vc_plan_values::grains::domain_of;
 use vc_value::Value;
 
 fn is_grain_with(plan: &Plan, var: u32, value: Value, grain: usize) -> bool

@@ -20,7 +20,7 @@ use crate::keys::{are_apart, grain_key};
 use crate::marks::{had_in, mark};
 use crate::misfits::{cite_row, is_possible_in};
 use vc_plan::{Atom, Binding, Plan, View, count_of};
-use vc_rule_table::cells::domain_of;
+use vc_plan_values::grains::domain_of;
 use vc_rule_table::grains::has_grain;
 use vc_rule_table::notes::{behind, first_note, note_at};
 use vc_rule_yield::Yield;

@@ -127,7 +127,7 @@ fn piece_of(plan: &Plan, named: Named, number: u32) -> Option<Piece>
 {
     match named {
         Named::Var(var) => piece(plan, var, number),
-        Named::Set(set) => text_at(texts_of(plan, set), number),
+        Named::Set(set) => text_at(texts_of(plan, set), number as usize),
     }
 }
 
