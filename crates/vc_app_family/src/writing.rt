@@ -33,7 +33,7 @@ fn put_parting(out: &mut Word, text: &str, first: bool) -> Result<(), AllocError
     out.append_text(text)
 }
 
-#[tactic(auto, using(vc_show::proofs::RangeLemmas::walking))]
+#[tactic(auto, using(vc_base::proofs::RangeLaws::walking))]
 fn put_values(alloc: Global, out: &mut Word, count: u32) -> Result<(), AllocError>
     ensures { OnOk result (out.new ≡ out.old ++ families.value_lines count) }
 {
@@ -55,7 +55,7 @@ fn put_characteristic(
     put_values(alloc, out, values)
 }
 
-#[tactic(auto, using(vc_show::proofs::RangeLemmas::walking))]
+#[tactic(auto, using(vc_base::proofs::RangeLaws::walking))]
 fn put_characteristics(
     alloc: Global,
     out: &mut Word,
@@ -70,7 +70,7 @@ fn put_characteristics(
     Ok(())
 }
 
-#[tactic(auto, using(vc_show::proofs::RangeLemmas::walking))]
+#[tactic(auto, using(vc_base::proofs::RangeLaws::walking))]
 fn put_members(alloc: Global, out: &mut Word, count: u32) -> Result<(), AllocError>
     ensures { OnOk result (out.new ≡ out.old ++ families.members count) }
 {
@@ -119,7 +119,7 @@ fn put_restriction(
     put_relation(alloc, out, characteristic, u64::from(value))
 }
 
-#[tactic(auto, using(vc_show::proofs::RangeLemmas::walking))]
+#[tactic(auto, using(vc_base::proofs::RangeLaws::walking))]
 fn put_restrictions_by(
     alloc: Global,
     out: &mut Word,
@@ -136,7 +136,7 @@ fn put_restrictions_by(
     Ok(())
 }
 
-#[tactic(auto, using(vc_show::proofs::RangeLemmas::walking))]
+#[tactic(auto, using(vc_base::proofs::RangeLaws::walking))]
 fn put_restrictions(alloc: Global, out: &mut Word, family: u32) -> Result<(), AllocError>
     ensures { OnOk result (out.new ≡ out.old ++ families.restrictions family) }
 {
@@ -155,7 +155,7 @@ fn put_inference(alloc: Global, out: &mut Word, characteristic: u32) -> Result<(
     out.append_text(text.as_str())
 }
 
-#[tactic(auto, using(vc_show::proofs::RangeLemmas::walking))]
+#[tactic(auto, using(vc_base::proofs::RangeLaws::walking))]
 fn put_inferences(alloc: Global, out: &mut Word, count: u32) -> Result<(), AllocError>
     ensures { OnOk result (out.new ≡ out.old ++ families.inferences count) }
 {

@@ -3,6 +3,7 @@ pub mod Counting
 pub mod KeptLaws
 pub mod LeastLaws
 pub mod ListLaws
+pub mod RangeLaws
 pub mod RunLaws
 pub mod SetLaws
 pub mod Settling

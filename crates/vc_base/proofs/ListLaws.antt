@@ -1,9 +1,9 @@
 -- Laws of numbers in a range, and of what is left of a list by a test.
 use Rattle.std.proofs.Common.{◌≡◌, ℕ, zero, suc, ◌+◌, ◌-◌, ◌<◌, ◌≤◌, Bool, true, false, cond, not, ◌&&◌, ◌⊎◌, List, []}
 use Rattle.std.proofs.Common.{◌∷◌, ◌++◌, length, map, get_or, refl, sym, ◌∙◌, ap, subst, inl, inr, arith, add-zero}
-use Rattle.std.specs.Prelude.{None, Some, nat_eq, ◌==◌}
-use Rattle.std.specs.List.{filter, find, list_all, range_with_len}
-use Rattle.std.proofs.lemmas.Bool.{eqb-true, eqb-false, eq-eqb}
+use Rattle.std.specs.Prelude.{None, Some, nat_eq, ◌==◌, position, nat_lt}
+use Rattle.std.specs.List.{filter, find, list_all, range_with_len, position_or_len}
+use Rattle.std.proofs.lemmas.Bool.{eqb-true, eqb-false, eq-eqb, ltb-true, ltb-false}
 use Rattle.std.proofs.lemmas.List.Elements.{filter-append}
 use Rattle.vc_base.specs.Numbers.{numbers_below}
 use Rattle.vc_base.specs.Sets.{has}
@@ -146,3 +146,26 @@ find_number a (suc n) h low high =
 pub find_none : (a n : ℕ) → find (λ g. false) (range_with_len a n) ≡ None
 find_none a zero = refl
 find_none a (suc n) = find_none (a + 1) n
+
+-- what a position says
+pub position_found : {A : Type 0} (p : A → Bool) (xs : List A) (at : ℕ) → position p xs ≡ Some at
+    → (position_or_len p xs ≡ at) × (at < length xs)
+position_found p xs at h =
+    elim (nat_lt (position_or_len p xs) (length xs)) as
+    (λ b. nat_lt (position_or_len p xs) (length xs) ≡ b → cond b (Some (position_or_len p xs)) None ≡ Some at
+    → (position_or_len p xs ≡ at) × (at < length xs)) [
+      | true ↦ λ test e. let same : position_or_len p xs
+          ≡ at = cc in (same, let below : position_or_len p xs < length xs = ltb-true _ _ test in omega arith)
+      | false ↦ λ test e. cc
+    ] refl h
+
+-- what no position says
+pub position_missing : {A : Type 0} (p : A → Bool) (xs : List A) → position p xs ≡ None
+    → length xs ≤ position_or_len p xs
+position_missing p xs h =
+    elim (nat_lt (position_or_len p xs) (length xs)) as
+    (λ b. nat_lt (position_or_len p xs) (length xs) ≡ b → cond b (Some (position_or_len p xs)) None ≡ None
+    → length xs ≤ position_or_len p xs) [
+      | true ↦ λ test e. cc
+      | false ↦ λ test e. ltb-false _ _ test
+    ] refl h

@@ -191,3 +191,24 @@ module _ {A : Type 0} (same : A → A → Bool) (exact : (a b : A) → same a b 
           | inr q ↦ filter_has p xs a q e
         ]
       ] refl
+
+-- one element more that wasn't there
+module _ {A : Type 0} (same : A → A → Bool) (exact : (a b : A) → same a b ≡ true → a ≡ b)
+    (itself : (a : A) → same a a ≡ true) where
+  more_apart : (a : A) (xs : List A) (b : A) → AllByRecursion (λ x. same a x ≡ false) xs → same a b ≡ false
+      → AllByRecursion (λ x. same a x ≡ false) (xs ++ b ∷ [])
+  more_apart a [] b h e = (e, tt)
+  more_apart a (x ∷ xs) b h e = (h.0, more_apart a xs b h.1 e)
+
+  pub distinct_more : (xs : List A) (b : A) → IsDistinct same xs → has same xs b ≡ false
+      → IsDistinct same (xs ++ b ∷ [])
+  unfolding IsDistinct
+  distinct_more [] b d e = (tt, tt)
+  distinct_more (x ∷ xs) b d e =
+      let p = or_parts (same b x) (has same xs b) e in
+      let apart : same x b ≡ false
+      = elim (told (same x b)) [
+        | inl q ↦ absurd (both (subst (λ z. same z x ≡ true) (exact x b q) (itself x)) p.0)
+        | inr q ↦ q
+      ] in
+      (more_apart x xs b d.0 apart, distinct_more xs b d.1 p.1)

@@ -7,6 +7,7 @@ use Rattle.std.proofs.lemmas.Bool.{cases_lt, ne_eqb}
 use Rattle.std.proofs.lemmas.List.Concat.{flat_map-append}
 use Rattle.std.proofs.lemmas.Option.{slice_get_read}
 use Rattle.vc_base.proofs.ListLaws.{range_split}
+use Rattle.vc_base.proofs.RangeLaws.{walk_next}
 use Rattle.vc_plan.specs.declared.plans.Line.{Line}
 use Rattle.vc_plan.specs.declared.plans.Operation.{Operation}
 use Rattle.vc_plan.specs.declared.plans.Plan.{Plan}
@@ -17,7 +18,6 @@ use Rattle.vc_plan.specs.Bills.{takes_operation}
 use Rattle.vc_plan.specs.Domains.{numbers_below}
 use Rattle.vc_plan.specs.Readings.{Reading}
 use Rattle.vc_plan.specs.Seen.{Seen}
-use Rattle.vc_show.proofs.RangeLemmas.{walk_next}
 use Rattle.vc_bill.specs.Walking.{line_bill, taken_operation, with_component_bill}
 
 -- what those that pass give is what each gives, or nothing

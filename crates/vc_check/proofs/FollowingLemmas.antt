@@ -1,8 +1,7 @@
 -- What a valid plan lets the checker do, and which steps follow.
-use Rattle.std.proofs.Common.{◌≡◌, ℕ, zero, suc, ◌+◌, ◌≤◌, Bool, true, false, ◌&&◌, List, [], length, refl, sym}
+use Rattle.std.proofs.Common.{◌≡◌, ◌≤◌, Bool, true, false, ◌&&◌, List, [], length, refl, sym}
 use Rattle.std.proofs.Common.{◌∙◌, ap, subst, arith}
 use Rattle.std.specs.Prelude.{nat_eq, nat_lt, Option, None, is_none}
-use Rattle.std.specs.List.{sum_by}
 use Rattle.std.proofs.lemmas.Bool.{leb-true, ltb-true}
 use Rattle.vc_base.specs.Rounds.{atoms_of}
 use Rattle.vc_base.specs.Sets.{has}
@@ -18,7 +17,7 @@ use Rattle.vc_plan.specs.Gives.{Giver}
 use Rattle.vc_plan.specs.Seen.{Seen, same_atom, seen_of}
 use Rattle.vc_plan.specs.Sources.{Sources}
 use Rattle.vc_plan.specs.Valid.{IsValid}
-use Rattle.vc_plan.proofs.PlanLaws.Counts.{sum_next}
+use Rattle.vc_plan.proofs.PlanLaws.Counts.{vars_within}
 use Rattle.vc_plan.proofs.PlanLaws.Extending.{value_has}
 use Rattle.vc_plan.proofs.PlanLaws.Facts.{Facts, facts}
 use Rattle.vc_plan_reasons.specs.Checking.{are_of, first_refused_step, follows, given_by, is_accepted, set_with}
@@ -26,20 +25,6 @@ use Rattle.vc_plan_reasons.specs.Checking.{giver_of, things_read}
 use Rattle.vc_plan_reasons.proofs.ReasonLaws.Closed.{accepted_unrefused}
 use Rattle.vc_plan_values.specs.Computing.{LiesInGrains}
 use Rattle.vc_check.specs.Citing.{CanCheck}
-
--- a variable counts for more than one atom
-vars_within : (plan : Plan) (n : ℕ) → n ≤ sum_by (λ w. count_of plan w + 1) (numbers_below n)
-vars_within plan zero = omega arith
-vars_within plan (suc n) =
-    let more : sum_by (λ w. count_of plan w + 1) (numbers_below (n + 1))
-    ≡ sum_by (λ w. count_of plan w + 1) (numbers_below n) + (count_of plan n + 1)
-    = sum_next (λ w. count_of plan w + 1) n in
-    let next : n + 1 ≡ suc n = omega arith in
-    let same : sum_by (λ w. count_of plan w + 1) (numbers_below (n + 1))
-    ≡ sum_by (λ w. count_of plan w + 1) (numbers_below (suc n))
-    = ap (λ k. sum_by (λ w. count_of plan w + 1) (numbers_below k)) next in
-    let before : n ≤ sum_by (λ w. count_of plan w + 1) (numbers_below n) = vars_within plan n in
-    omega (arith, more, same, before)
 
 pub can_check : (plan : Plan) → IsValid plan → CanCheck plan
 can_check plan valid = record {

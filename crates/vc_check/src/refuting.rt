@@ -128,7 +128,7 @@ fn entry_clashes(
         && clashes_at(plan, sources, board, Giver::Entry(var), set)
 }
 
-#[tactic(auto, using(vc_check_board::proofs::RangeLemmas::seeking))]
+#[tactic(auto, using(vc_base::proofs::RangeLaws::seeking))]
 fn some_entry_clashes(
     plan: &Plan,
     sources: &Sources,

@@ -66,7 +66,7 @@ fn is_silent_in(
     is_silent_at(plan, sources, board, member_of(family, number), set)
 }
 
-#[tactic(auto, using(vc_check_board::proofs::RangeLemmas::testing))]
+#[tactic(auto, using(vc_base::proofs::RangeLaws::testing))]
 fn are_silent(
     plan: &Plan,
     sources: &Sources,

@@ -64,7 +64,7 @@ pub fn is_parent_here<V: View>(plan: &Plan, view: &V, slot: u32) -> bool
     }
 }
 
-#[tactic(auto, using(crate::proofs::RangeLemmas::testing))]
+#[tactic(auto, using(vc_base::proofs::RangeLaws::testing))]
 fn are_all_out<V: View>(plan: &Plan, view: &V, var: u32) -> bool
     requires { atom_count plan.now < 2 ^ 32 }
     ensures { result ≡ are_all_out plan.now (V.seen view.now) var }

@@ -2,10 +2,10 @@
 use Rattle.std.proofs.Common.{◌≡◌, ℕ, ◌+◌, ◌-◌, ◌<◌, ◌≤◌, Bool, true, false, cond, List, [], ◌∷◌, refl, sym, ◌∙◌, ap}
 use Rattle.std.specs.List.{filter, range_with_len}
 use Rattle.vc_base.specs.Rounds.{clash, atoms}
+use Rattle.vc_base.proofs.RangeLaws.{range_next, range_done}
 use Rattle.vc_plan.specs.declared.plans.Plan.{Plan}
 use Rattle.vc_plan.specs.Answers.{clash_if, is_nothing, last_atoms, nothing}
 use Rattle.vc_plan.specs.Restrictions.{of_remaining}
-use Rattle.vc_check_board.proofs.RangeLemmas.{range_next, range_done}
 use Rattle.vc_check_gives.specs.Counting.{counted, last_given, left_given, remaining_of, with_one}
 use Rattle.vc_check_gives.specs.declared.grains_left.Remaining.{Remaining}
 use Rattle.vc_check_gives.specs.declared.grains_left.Remaining.TheVariants.{Nothing, One, Several}

@@ -10,6 +10,7 @@ use Rattle.vc_base.specs.Rounds.{Given, clash, atoms, atoms_of, is_clash}
 use Rattle.vc_base.specs.Sets.{has}
 use Rattle.vc_base.proofs.ListLaws.{number_exact, number_itself, range_has, has_range}
 use Rattle.vc_base.proofs.SetLaws.{same_test, has_filter, filter_has}
+use Rattle.vc_base.proofs.RangeLaws.{all_next, all_here, all_done}
 use Rattle.vc_value.specs.declared.value.Value.{Value}
 use Rattle.vc_plan.specs.declared.atoms.Atom.{Atom}
 use Rattle.vc_plan.specs.declared.atoms.Atom.TheVariants.{Here, Out, Is}
@@ -19,7 +20,6 @@ use Rattle.vc_plan.specs.Answers.{beside}
 use Rattle.vc_plan.specs.Domains.{numbers_below, grains_of, count_of, is_grain_with, passes}
 use Rattle.vc_plan.specs.Restrictions.{failing}
 use Rattle.vc_plan.specs.Seen.{Seen, same_atom, says}
-use Rattle.vc_check_board.proofs.RangeLemmas.{all_next, all_here, all_done}
 use Rattle.vc_check_gives.specs.Parts.{all_said, fails, fails_in, part_given, passes_by, passes_or_out, puts_out}
 use Rattle.vc_check_gives.specs.declared.parts.Part.TheVariants.{Others}
 use Rattle.vc_check_gives.specs.declared.tests.Test.{Test}

@@ -56,7 +56,7 @@ fn left_holds<V: View>(plan: &Plan, view: &V, var: u32, value: Value, grain: u32
     is_left(plan, view, var, grain) && holds(plan, var, value, grain)
 }
 
-#[tactic(auto, using(vc_check_board::proofs::RangeLemmas::seeking))]
+#[tactic(auto, using(vc_base::proofs::RangeLaws::seeking))]
 fn has_left<V: View>(plan: &Plan, view: &V, var: u32, value: Value) -> bool
     requires { atom_count plan.now < 2 ^ 32 }
     ensures { result ≡ has_left plan.now (V.seen view.now) var value }

@@ -88,7 +88,7 @@ fn kept_or_out<V: View>(
     view.out(var, grain) || keeps(plan, view, var, columns, rows, grain)
 }
 
-#[tactic(auto, using(vc_check_board::proofs::RangeLemmas::testing))]
+#[tactic(auto, using(vc_base::proofs::RangeLaws::testing))]
 fn dropped_are_out<V: View>(
     plan: &Plan,
     view: &V,

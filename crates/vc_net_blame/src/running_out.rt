@@ -15,7 +15,7 @@ use vc_plan_values::grain_count;
 use vc_rule_yield::same_atom;
 
 /// The first variable that has no grain left where the last atom comes beside what stands.
-#[tactic(auto, using(crate::proofs::RangeLemmas::finding))]
+#[tactic(auto, using(vc_base::proofs::RangeLaws::finding))]
 pub fn exhausted(plan: &Plan, standing: &Standing, last: Atom) -> Option<u32>
     requires atoms { atom_count plan.now < 2 ^ 32 }
     requires vars { length plan.now.vars < 2 ^ 32 }
@@ -55,7 +55,7 @@ fn is_here(plan: &Plan, standing: &Standing, last: Atom, var: u32) -> bool
     }
 }
 
-#[tactic(auto, using(crate::proofs::RangeLemmas::testing))]
+#[tactic(auto, using(vc_base::proofs::RangeLaws::testing))]
 fn are_all_out(plan: &Plan, standing: &Standing, last: Atom, var: u32) -> bool
     requires { atom_count plan.now < 2 ^ 32 }
     ensures { result ≡ are_all_out plan.now (seen_of (set_with (atoms_of standing.now.facts ++ last ∷ []))) var }

@@ -3,30 +3,10 @@ use Rattle.std.proofs.Common.{◌≡◌, ℕ, zero, suc, ◌+◌, ◌-◌, ◌<�
 use Rattle.std.proofs.Common.{map, refl, sym, ◌∙◌, ap, arith}
 use Rattle.std.specs.Prelude.{if◌then◌else◌, Option, None, Some}
 use Rattle.std.specs.List.{filter, find, range_with_len}
+use Rattle.vc_base.proofs.RangeLaws.{range_next, range_done, find_next}
 use Rattle.vc_plan.specs.declared.terms.Operator.TheVariants.{Plus}
 use Rattle.vc_plan.specs.Numbers.{joined}
 use Rattle.vc_plan.specs.Parts.{total}
-
-range_next : (g n : ℕ) → g < n → range_with_len g (n - g) ≡ g ∷ range_with_len (g + 1) (n - (g + 1))
-range_next g n below = let more : n - g ≡ suc (n - (g + 1)) = omega (arith, below) in ap (range_with_len g) more
-
-range_done : (g n : ℕ) → n ≤ g → range_with_len g (n - g) ≡ []
-range_done g n past = let none : n - g ≡ 0 = omega (arith, past) in ap (range_with_len g) none
-
--- the first that passes
-pub find_next : (p : ℕ → Bool) (g n : ℕ) → g < n → p g ≡ false
-    → find p (range_with_len g (n - g)) ≡ find p (range_with_len (g + 1) (n - (g + 1)))
-find_next p g n below e =
-    ap (find p) (range_next g n below) ∙ ap (λ b. cond b (Some g) (find p (range_with_len (g + 1) (n - (g + 1))))) e
-
-pub find_here : (p : ℕ → Bool) (g n : ℕ) → g < n → p g ≡ true → find p (range_with_len g (n - g)) ≡ Some g
-find_here p g n below e =
-    ap (find p) (range_next g n below) ∙ ap (λ b. cond b (Some g) (find p (range_with_len (g + 1) (n - (g + 1))))) e
-
-pub find_done : (p : ℕ → Bool) (g n : ℕ) → n ≤ g → find p (range_with_len g (n - g)) ≡ None
-find_done p g n past = ap (find p) (range_done g n past)
-
-pub ruleset finding = (find_next, find_here, find_done)
 
 -- where none before a number passes, the first from there on is the first
 pub find_from : (p : ℕ → Bool) (s n : ℕ) → s ≤ n → ((k : ℕ) → k < s → p k ≡ false)

@@ -76,7 +76,7 @@ fn is_at<T: AtSlot>(things: &[T], slot: u32, characteristic: u32, number: u32) -
 }
 
 /// The number of the thing that has the characteristic at the slot, if one has.
-#[tactic(auto, using(crate::proofs::RangeLemmas::finding))]
+#[tactic(auto, using(vc_base::proofs::RangeLaws::finding))]
 pub fn number_at<T: AtSlot>(things: &[T], slot: u32, characteristic: u32) -> Option<u32>
     requires few { length things.now < 2 ^ 32 }
     requires order { stands_by T.slot_of things.now ≡ true }

@@ -1,19 +1,17 @@
 -- Lists of grains, and what is found among numbers.
-use Rattle.std.proofs.Common.{◌≡◌, ℕ, suc, ◌+◌, ◌-◌, ◌^◌, ◌<◌, ◌≤◌, Bool, true, false, ◌||◌, List, [], ◌∷◌, ◌++◌}
-use Rattle.std.proofs.Common.{length, map, refl, sym, ◌∙◌, ap, inl, inr, arith, append_assoc, length-append}
-use Rattle.std.specs.Prelude.{if◌then◌else◌, slice_get, Some}
-use Rattle.std.specs.List.{filter, list_any, range_with_len}
-use Rattle.std.proofs.lemmas.Bool.{cases_lt}
+use Rattle.std.proofs.Common.{◌≡◌, ℕ, ◌+◌, ◌-◌, ◌^◌, ◌<◌, Bool, ◌||◌, List, [], ◌∷◌, ◌++◌}
+use Rattle.std.proofs.Common.{length, map, refl, sym, ◌∙◌, ap, append_assoc, length-append}
+use Rattle.std.specs.Prelude.{slice_get, Some}
+use Rattle.std.specs.List.{list_any, range_with_len}
 use Rattle.std.proofs.lemmas.List.{length-map}
 use Rattle.vc_value.specs.declared.grains.Grain.{Grain}
 use Rattle.vc_value.specs.declared.value.Value.{Value}
 use Rattle.vc_plan.specs.declared.conditions.Piece.{Piece}
 use Rattle.vc_plan.specs.declared.conditions.Piece.TheVariants.{OneText, Stretch}
 use Rattle.vc_plan.specs.declared.plans.Plan.{Plan}
-use Rattle.vc_plan.specs.Domains.{numbers_below, grains_in, domain_of, count_of, atom_count, passes}
-use Rattle.vc_plan.proofs.PlanLaws.Counts.{atoms_before, atoms_within}
-use Rattle.vc_plan.proofs.PlanLaws.Lists.{get_past}
+use Rattle.vc_plan.specs.Domains.{numbers_below, atom_count, passes}
 use Rattle.vc_plan.specs.Pieces.{lies_in, lies_in_some}
+use Rattle.vc_plan_values.proofs.GrainLemmas.{count_within}
 use Rattle.vc_rule_table.specs.Cells.{FewGrains, grain_holds}
 
 pub texts_counted : (texts : List ℕ) → length (map OneText texts) ≡ length texts
@@ -21,46 +19,6 @@ texts_counted texts = length-map texts OneText
 
 pub stretches_counted : (grains : List Grain) → length (map Stretch grains) ≡ length grains
 stretches_counted grains = length-map grains Stretch
-
--- the numbers from one on up to another begin with it, where it is below
-pub range_first : (g n : ℕ) → g < n → range_with_len g (n - g) ≡ g ∷ range_with_len (g + 1) (n - (g + 1))
-range_first g n below =
-    let long : n - g ≡ suc (n - (g + 1)) = omega arith in
-    ap (range_with_len g) long
-
-pub range_ends : (g n : ℕ) → n ≤ g → range_with_len g (n - g) ≡ []
-range_ends g n past = let none : n - g ≡ 0 = omega arith in ap (range_with_len g) none
-
--- whether a number from one on up to another passes: the first of them decides, or those after it
-pub any_next : (p : ℕ → Bool) (g n : ℕ) → g < n → p g ≡ false
-    → list_any p (range_with_len g (n - g)) ≡ list_any p (range_with_len (g + 1) (n - (g + 1)))
-any_next p g n below e =
-    let rest = list_any p (range_with_len (g + 1) (n - (g + 1))) in
-    ap (list_any p) (range_first g n below) ∙ ap (λ b. b || rest) e
-
-pub any_found : (p : ℕ → Bool) (g n : ℕ) → g < n → p g ≡ true → list_any p (range_with_len g (n - g)) ≡ true
-any_found p g n below e =
-    let rest = list_any p (range_with_len (g + 1) (n - (g + 1))) in
-    ap (list_any p) (range_first g n below) ∙ ap (λ b. b || rest) e
-
-pub any_ends : (p : ℕ → Bool) (g n : ℕ) → n ≤ g → list_any p (range_with_len g (n - g)) ≡ false
-any_ends p g n past = ap (list_any p) (range_ends g n past)
-
--- the numbers that pass, likewise
-pub filter_next : (p : ℕ → Bool) (g n : ℕ) → g < n → p g ≡ false
-    → filter p (range_with_len g (n - g)) ≡ filter p (range_with_len (g + 1) (n - (g + 1)))
-filter_next p g n below e =
-    let rest = filter p (range_with_len (g + 1) (n - (g + 1))) in
-    ap (filter p) (range_first g n below) ∙ ap (λ b. if b then g ∷ rest else rest) e
-
-pub filter_found : (p : ℕ → Bool) (g n : ℕ) → g < n → p g ≡ true
-    → filter p (range_with_len g (n - g)) ≡ g ∷ filter p (range_with_len (g + 1) (n - (g + 1)))
-filter_found p g n below e =
-    let rest = filter p (range_with_len (g + 1) (n - (g + 1))) in
-    ap (filter p) (range_first g n below) ∙ ap (λ b. if b then g ∷ rest else rest) e
-
-pub filter_ends : (p : ℕ → Bool) (g n : ℕ) → n ≤ g → filter p (range_with_len g (n - g)) ≡ []
-filter_ends p g n past = ap (filter p) (range_ends g n past)
 
 -- a list's elements by their numbers: the elements from one on, where others come before
 pub element_after : {A : Type 0} (before after : List A) (x : A)
@@ -94,10 +52,4 @@ some_holds grains a = any_after (lies_in a) [] grains
 
 -- where there are few atoms, each variable has few grains
 pub few_grains : (plan : Plan) → atom_count plan < 2 ^ 32 → FewGrains plan
-few_grains plan few v =
-    elim (cases_lt v (length plan.vars)) [
-      | inl below ↦ let within = atoms_within plan (atoms_before plan v) v (count_of plan v) refl refl below in
-          omega arith
-      | inr past ↦ let none : count_of plan v
-          ≡ 0 = ap (λ x. length (grains_in (domain_of plan x))) (get_past plan.vars v past) in omega arith
-    ]
+few_grains plan few v = count_within plan v few

@@ -5,11 +5,11 @@ use Rattle.std.specs.Prelude.{flat_map, is_none, is_some, Option, None, Some}
 use Rattle.std.specs.List.{filter, find, list_all, range_with_len}
 use Rattle.std.proofs.lemmas.List.{map-append, take_all}
 use Rattle.std.proofs.lemmas.List.Elements.{filter-append}
+use Rattle.vc_base.proofs.RangeLaws.{range_next}
 use Rattle.vc_plan.specs.declared.atoms.Atom.{Atom}
 use Rattle.vc_rule_yield.specs.Yielding.{Yielded}
 use Rattle.vc_rule_premises.specs.Citing.{cited_all}
 use Rattle.vc_rule_premises.proofs.CitingLemmas as citing
-use Rattle.vc_rule_table.proofs.CellLemmas.{range_first}
 
 pub cited_append : (y : Yielded) (xs ys : List Atom) → cited_all (cited_all y xs) ys ≡ cited_all y (xs ++ ys)
 cited_append y xs ys = citing.cited_append y xs ys
@@ -49,7 +49,7 @@ pub cited_number : (f : ℕ → Atom) (p : ℕ → Bool) (y m : Yielded) (g n : 
 cited_number f p y m g n below e =
     let rest = range_with_len (g + 1) (n - (g + 1)) in
     let split : filter p (range_with_len g (n - g)) ≡ filter p (g ∷ []) ++ filter p rest =
-    ap (filter p) (range_first g n below) ∙ filter-append p (g ∷ []) rest in
+    ap (filter p) (range_next g n below) ∙ filter-append p (g ∷ []) rest in
     ap (λ z. cited_all z (map f (filter p rest))) e
     ∙ (citing.cited_append y (map f (filter p (g ∷ []))) (map f (filter p rest))
     ∙ (ap (cited_all y) (sym (map-append f (filter p (g ∷ [])) (filter p rest)))

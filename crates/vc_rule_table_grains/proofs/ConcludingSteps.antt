@@ -7,6 +7,7 @@ use Rattle.std.proofs.lemmas.Bool.{or_parts}
 use Rattle.std.proofs.lemmas.Grind.{flat_map-append}
 use Rattle.std.proofs.lemmas.List.{map-append, take_all}
 use Rattle.std.proofs.lemmas.List.Elements.{filter-append}
+use Rattle.vc_base.proofs.RangeLaws.{range_next}
 use Rattle.vc_value.specs.declared.value.Value.{Value}
 use Rattle.vc_plan.specs.declared.atoms.Atom.{Atom}
 use Rattle.vc_plan.specs.declared.atoms.Atom.TheVariants.{Is}
@@ -22,7 +23,6 @@ use Rattle.vc_rule_premises.specs.Saying.{take_conclusions}
 use Rattle.vc_rule_premises.proofs.CitingLemmas.{cited_append}
 use Rattle.vc_rule_premises.proofs.SayingLaws.{conclusions_append}
 use Rattle.vc_rule_table.specs.TableSaid.{new_conclusions}
-use Rattle.vc_rule_table.proofs.CellLemmas.{range_first}
 
 -- what is cited for the first of those that pass, and then for those after it
 pub cited_those : {A : Type 0} (p : A → Bool) (f : A → List Atom) (y m : Yielded) (rest : List A) (x : A)
@@ -49,7 +49,7 @@ concluded_number seen f p y m g n below e =
     let new = new_conclusions seen in
     let rest = range_with_len (g + 1) (n - (g + 1)) in
     let numbers : filter p (range_with_len g (n - g)) ≡ filter p (g ∷ []) ++ filter p rest =
-    ap (filter p) (range_first g n below) ∙ filter-append p (g ∷ []) rest in
+    ap (filter p) (range_next g n below) ∙ filter-append p (g ∷ []) rest in
     let split : new (map f (filter p (range_with_len g (n - g))))
     ≡ new (map f (filter p (g ∷ []))) ++ new (map f (filter p rest)) =
     ap (λ gs. new (map f gs)) numbers

@@ -8,6 +8,7 @@ use Rattle.std.proofs.lemmas.Bool.{and_from, and_parts, or_cases, or_left, or_ri
 use Rattle.std.proofs.lemmas.Option.{slice_get_within}
 use Rattle.vc_base.proofs.SetLaws.{both, same_test, told}
 use Rattle.vc_base.proofs.Settling.{IsIn, any_at, at_any}
+use Rattle.vc_base.proofs.RangeLaws.{some_below}
 use Rattle.vc_plan.specs.declared.plans.Named.{Named}
 use Rattle.vc_plan.specs.declared.plans.Named.TheVariants.{Var, Set}
 use Rattle.vc_plan.specs.declared.plans.Plan.{Plan}
@@ -21,7 +22,6 @@ use Rattle.vc_plan.specs.Showing.{characteristic_of, has_open, has_value, is_hid
 use Rattle.vc_plan.specs.Showing.{same_named, slot_of_set}
 use Rattle.vc_show.specs.Asking.{is_bare, is_demanding, lacks_demanded, lacks_marked, lacks_some, marked_of}
 use Rattle.vc_show.proofs.HidingLemmas.{same_is, same_itself}
-use Rattle.vc_show.proofs.RangeLemmas.{some_below}
 
 -- two tests may be made in either order
 pub in_turn : (a b c : Bool) → (a && (b && c)) ≡ (b && (a && c))

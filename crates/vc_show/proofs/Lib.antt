@@ -2,5 +2,4 @@ pub mod AskingLaws
 pub mod FittingLaws
 pub mod GuardLemmas
 pub mod HidingLemmas
-pub mod RangeLemmas
 pub mod SetLemmas

@@ -182,7 +182,7 @@ fn some_var_lacks<R: Reading>(plan: &Plan, reading: &R, marked: &[u32]) -> bool
     one_lacks(plan, reading, marked)
 }
 
-#[tactic(auto, using(crate::proofs::RangeLemmas::some_passes))]
+#[tactic(auto, using(vc_base::proofs::RangeLaws::seeking))]
 fn some_set_lacks<R: Reading>(plan: &Plan, reading: &R) -> bool
     requires fit { ShownFits plan.now }
     requires values { LiesInGrains plan.now (R.seen reading.now) }

@@ -65,7 +65,7 @@ fn put_grain<R: Reading>(
     put_piece(out, piece(plan, var, grain))
 }
 
-#[tactic(auto, using(vc_show::proofs::RangeLemmas::walking))]
+#[tactic(auto, using(vc_base::proofs::RangeLaws::walking))]
 fn shown_grains<R: Reading>(
     alloc: Global,
     plan: &Plan,

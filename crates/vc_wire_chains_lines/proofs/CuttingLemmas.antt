@@ -1,35 +1,13 @@
 -- The parts of a text: the first of them, and those behind the first separator.
-use Rattle.std.proofs.Common.{◌≡◌, ℕ, ◌+◌, ◌<◌, ◌≤◌, true, false, List, [], ◌∷◌, length, take, drop, cond, refl, ap}
+use Rattle.std.proofs.Common.{◌≡◌, ℕ, ◌+◌, ◌<◌, ◌≤◌, List, [], ◌∷◌, length, take, drop, ap}
 use Rattle.std.proofs.Common.{◌∙◌, arith, Some, None}
-use Rattle.std.specs.Prelude.{Bool, position, ◌==◌, nat_lt}
+use Rattle.std.specs.Prelude.{Bool, position, ◌==◌}
 use Rattle.std.specs.List.{position_or_len}
-use Rattle.std.proofs.lemmas.Bool.{ltb-true, ltb-false}
 use Rattle.std.proofs.lemmas.List.Splits.{slice_split_first, slice_split_none}
 use Rattle.std.proofs.lemmas.List.Sums.{fails_before_first}
 use Rattle.std.proofs.lemmas.List.{take_all}
+use Rattle.vc_base.proofs.ListLaws.{position_found, position_missing}
 use Rattle.vc_wire_chains_lines.specs.Cutting.{part_before, parts_at}
-
--- what a position says
-position_found : {A : Type 0} (p : A → Bool) (xs : List A) (at : ℕ) → position p xs ≡ Some at
-    → (position_or_len p xs ≡ at) × (at < length xs)
-position_found p xs at h =
-    elim (nat_lt (position_or_len p xs) (length xs)) as
-    (λ b. nat_lt (position_or_len p xs) (length xs) ≡ b → cond b (Some (position_or_len p xs)) None ≡ Some at
-    → (position_or_len p xs ≡ at) × (at < length xs)) [
-      | true ↦ λ test e. let same : position_or_len p xs
-          ≡ at = cc in (same, let below : position_or_len p xs < length xs = ltb-true _ _ test in omega arith)
-      | false ↦ λ test e. cc
-    ] refl h
-
--- what no position says
-position_missing : {A : Type 0} (p : A → Bool) (xs : List A) → position p xs ≡ None → length xs ≤ position_or_len p xs
-position_missing p xs h =
-    elim (nat_lt (position_or_len p xs) (length xs)) as
-    (λ b. nat_lt (position_or_len p xs) (length xs) ≡ b → cond b (Some (position_or_len p xs)) None ≡ None
-    → length xs ≤ position_or_len p xs) [
-      | true ↦ λ test e. cc
-      | false ↦ λ test e. ltb-false _ _ test
-    ] refl h
 
 pub before_found : (separator : ℕ) (text : List ℕ) (at : ℕ) → position (λ byte. byte == separator) text ≡ Some at
     → part_before separator text ≡ take at text

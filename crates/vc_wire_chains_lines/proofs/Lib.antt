@@ -1,3 +1,2 @@
 mod CuttingLemmas
 mod NumberLemmas
-pub mod RangeLemmas

@@ -62,7 +62,7 @@ fn is_grain(plan: &Plan, var: u32, spelling: &Spelling, grain: u32) -> bool
 }
 
 /// The variable's grain that is spelled so.
-#[tactic(auto, using(crate::proofs::RangeLemmas::finding))]
+#[tactic(auto, using(vc_base::proofs::RangeLaws::finding))]
 pub fn grain_spelled(plan: &Plan, var: u32, spelling: &Spelling) -> Option<u32>
     requires { HasNumbers plan.now }
     ensures { result ≡ told.grain_spelled plan.now var spelling.now }

@@ -1,6 +1,6 @@
 -- The one at hand is put, and those after it are to come.
 use Rattle.std.proofs.Common.{◌+◌, ◌++◌, arith}
-use Rattle.vc_show.proofs.RangeLemmas.{walk_on}
+use Rattle.vc_base.proofs.RangeLaws.{walk_on}
 use Rattle.vc_app_family.specs.Families.{all_characteristics, characteristic_lines}
 use Rattle.vc_app_family.proofs.writing.put_characteristics.Goals as goal
 

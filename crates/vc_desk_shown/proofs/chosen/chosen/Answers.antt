@@ -1,7 +1,7 @@
 -- The slot at hand is put, and those after it are to come.
 use Rattle.std.proofs.Common.{arith, length, ◌<◌}
+use Rattle.vc_base.proofs.RangeLaws.{walk_on}
 use Rattle.vc_plan_users.specs.Choosing.{users_of}
-use Rattle.vc_show.proofs.RangeLemmas.{walk_on}
 use Rattle.vc_desk_shown.specs.Shown.{chosen_at, chosen_text}
 use Rattle.vc_desk_shown.proofs.chosen.chosen.Goals as goal
 

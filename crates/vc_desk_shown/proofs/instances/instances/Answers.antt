@@ -1,8 +1,8 @@
 -- The slot at hand is put, and those after it are to come.
 use Rattle.std.proofs.Common.{arith, length, ◌<◌}
+use Rattle.vc_base.proofs.RangeLaws.{walk_on}
 use Rattle.vc_plan_users.specs.Choosing.{users_of}
 use Rattle.vc_session.specs.Sessions.{last_seen}
-use Rattle.vc_show.proofs.RangeLemmas.{walk_on}
 use Rattle.vc_desk_shown.specs.Shown.{instance_if_here, instances_text}
 use Rattle.vc_desk_shown.proofs.instances.instances.Goals as goal
 

@@ -1,7 +1,7 @@
 -- The grain at hand is put, if it is shown, and those after it are to come.
 use Rattle.std.proofs.Common.{arith}
+use Rattle.vc_base.proofs.RangeLaws.{walk_on}
 use Rattle.vc_plan.specs.Readings.{full_reading}
-use Rattle.vc_show.proofs.RangeLemmas.{walk_on}
 use Rattle.vc_show_rows.specs.Rows.{shown_grain, shown_grains}
 use Rattle.vc_show_rows.proofs.grains.shown_grains.Goals as goal
 

@@ -1,8 +1,8 @@
 -- The slot at hand is put, and those after it are to come.
 use Rattle.std.proofs.Common.{◌≡◌, ◌<◌, ◌-◌, ◌++◌, arith, length, map, sym, ap, ◌∙◌, append-nil}
 use Rattle.std.specs.List.{flat_map, range_with_len}
+use Rattle.vc_base.proofs.RangeLaws.{walk_on}
 use Rattle.serde_json.specs.View.{view}
-use Rattle.vc_show.proofs.RangeLemmas.{walk_on}
 use Rattle.vc_store.specs.Saving.{all_json, json_at}
 use Rattle.vc_store.proofs.writing.put_slots.Goals as goal
 
