@@ -1,6 +1,6 @@
 //! Domains that are cut by marks, one after another.
 
-ghost use Rattle.std.specs.Prelude.{◌≡◌, ◌∷◌, [], ◌++◌, map, IfOk, OnOk};
+ghost use Rattle.std.specs.Prelude.{◌≡◌, ◌∷◌, [], map, IfOk, OnOk};
 ghost use Rattle.vc_model_parts.specs.Headers as headers;
 ghost use Rattle.vc_compile_plan.specs.Cuts as cuts;
 ghost use Rattle.vc_compile_cuts.specs.Cutting.{cut_from, domain_seen, domains_seen};
@@ -8,8 +8,9 @@ ghost use Rattle.vc_compile_cuts.specs.Marks.{mark_seen, marks_seen};
 
 use crate::marks::Mark;
 use std::alloc::{AllocError, Global};
-use vc_model_parts::parts::{Characteristic, NumberValue, TextValue, Values};
-use vc_value::{Dec, Domain, Grain, GrainList, Listed};
+use vc_model_parts::parts::{Characteristic, NumberValue, Values};
+use vc_model_parts::{grains_of, numbers_of};
+use vc_value::{Dec, Domain, Listed};
 use vc_value_cuts::CutGrains;
 
 /// A domain that is being cut.
@@ -17,43 +18,6 @@ use vc_value_cuts::CutGrains;
 pub enum Cutting {
     Texts(Listed<u32>),
     Numbers { decimals: u8, grains: CutGrains },
-}
-
-fn numbers_of(alloc: Global, values: &[TextValue]) -> Result<Listed<u32>, AllocError>
-    ensures { IfOk result (λ numbers. numbers ≡ map (λ value. value.text) values.now) }
-{
-    let mut numbers = Listed::new(alloc);
-    for value in values {
-        numbers.push(value.text)?;
-    }
-    Ok(numbers)
-}
-
-// Puts the value's interval last, where its numbers lie above all before it.
-fn add_above(grains: &mut GrainList, value: &NumberValue) -> Result<(), AllocError>
-    ensures { OnOk result (grains.new ≡ grains.old ++ headers.grain_above grains.old value.now) }
-{
-    if grains.count() > u32::MAX - 3 {
-        return Err(AllocError);
-    }
-    let grain = Grain {
-        low: value.low,
-        high: value.high,
-    };
-    if value.low.millionths <= value.high.millionths && grains.ends_below(value.low) {
-        grains.add(grain)?;
-    }
-    Ok(())
-}
-
-fn grains_of(alloc: Global, values: &[NumberValue]) -> Result<GrainList, AllocError>
-    ensures { IfOk result (λ grains. grains ≡ headers.grains_of [] values.now) }
-{
-    let mut grains = GrainList::new(alloc);
-    for value in values {
-        add_above(&mut grains, value)?;
-    }
-    Ok(grains)
 }
 
 fn uncut_grains(alloc: Global, values: &[NumberValue]) -> Result<CutGrains, AllocError>

@@ -4,7 +4,7 @@ ghost use Rattle.std.specs.Prelude.{◌≡◌, ◌++◌, List, flat_map, option_
 ghost use Rattle.vc_types.specs.Occurrences as occurrences;
 ghost use Rattle.vc_types_meanings.specs.Borrowed.{tree_of};
 ghost use Rattle.vc_types_meanings.specs.Seen.{seen};
-ghost use Rattle.vc_types_occurrences.specs.Seen.{calls_seen, conditions_seen, relations_seen};
+ghost use Rattle.vc_types_occurrences.specs.Seen.{calls_seen, conditions_seen};
 ghost use Rattle.vc_compile_plan.specs.Cuts as cuts;
 ghost use Rattle.vc_compile_plan.specs.Layouts.{layout_over};
 ghost use Rattle.vc_compile_plan.specs.Layouts as layouts;
@@ -20,43 +20,14 @@ use std::alloc::{AllocError, Global};
 use vc_compile_uses::used_dependencies;
 use vc_model_parts::{Model, NamedDependency};
 use vc_plan::Slot;
-use vc_syntax_tree::{Condition, Relation, TableCall};
+use vc_syntax_tree::{Condition, TableCall};
 use vc_table::VariantTable;
 use vc_types::{At, Place};
 use vc_types_meanings::{Setting, Tree, borrowed};
 use vc_types_names::Names;
 use vc_types_names::named::places;
-use vc_types_occurrences::conditions::put_relations as put_relations_of;
-use vc_types_occurrences::gathering::gather_parts;
-use vc_types_occurrences::statements::put_demanded_relations;
+use vc_types_occurrences::gathering::{gather_parts, put_all_relations, put_demanded};
 use vc_value::{Domain, Listed};
-
-// Puts the relations of conditions.
-fn put_condition_relations<'a>(
-    out: &mut Listed<&'a Relation>,
-    conditions: &[&'a Condition],
-) -> Result<(), AllocError>
-    ensures { OnOk result (relations_seen out.new ≡ relations_seen out.old
-        ++ flat_map occurrences.relations_of (conditions_seen conditions.now)) }
-{
-    for condition in conditions {
-        put_relations_of(out, *condition)?;
-    }
-    Ok(())
-}
-
-// Puts the relations that a constraint demands.
-fn put_demanded<'a>(out: &mut Listed<&'a Relation>, tree: Tree<'a>) -> Result<(), AllocError>
-    ensures { OnOk result (relations_seen out.new ≡ relations_seen out.old
-        ++ occurrences.demanded_relations (tree_of tree.entry)) }
-{
-    match tree {
-        Tree::Constraint(constraint) => {
-            put_demanded_relations(out, constraint.restrictions.as_slice())
-        }
-        _ => Ok(()),
-    }
-}
 
 // Puts the numbers at which conditions cut.
 fn put_conditions(
@@ -70,7 +41,7 @@ fn put_conditions(
         (flat_map occurrences.relations_of (conditions_seen conditions.now))) }
 {
     let mut relations = Listed::new(alloc);
-    put_condition_relations(&mut relations, conditions)?;
+    put_all_relations(&mut relations, conditions)?;
     put_relations(out, setting, relations.as_slice())
 }
 

@@ -1,7 +1,6 @@
 //! The numbers at which the cells of tables cut characteristics.
 
-ghost use Rattle.std.specs.Prelude.{◌≡◌, ◌++◌, ◌==◌, flat_map, map, option_copied, slice_get, OnOk};
-ghost use Rattle.std.specs.List.{position_or_len};
+ghost use Rattle.std.specs.Prelude.{◌≡◌, ◌++◌, flat_map, map, option_copied, slice_get, OnOk};
 ghost use Rattle.vc_syntax_tree.specs.Trees.{binding_of, table_call_of, term_of};
 ghost use Rattle.vc_types_meanings.specs.Seen.{seen};
 ghost use Rattle.vc_types_occurrences.specs.Seen.{calls_seen};
@@ -15,7 +14,7 @@ ghost use Rattle.vc_compile_cuts.specs.Rows.{cells_in, Numbers};
 
 use crate::marks::{Mark, characteristic_of};
 use std::alloc::AllocError;
-use vc_model_parts::{Table, TableColumn};
+use vc_model_parts::{Table, column_among};
 use vc_syntax_tree::{Binding, NameLeaf, TableCall, Term};
 use vc_table::{Row, VariantTable};
 use vc_types_meanings::Setting;
@@ -88,17 +87,6 @@ fn table_number(setting: &Setting, numbers: &FirstNamed<u32>, name: &[u8]) -> us
         Some(number) => number as usize,
         None => setting.names().model().tables.len(),
     }
-}
-
-fn column_among(columns: &[TableColumn], characteristic: u32) -> usize
-    ensures { result ≡ position_or_len (λ column. column.characteristic == characteristic) columns.now }
-{
-    for (place, column) in columns.iter().enumerate() {
-        if column.characteristic == characteristic {
-            return place;
-        }
-    }
-    columns.len()
 }
 
 fn column_place(table: Option<&Table>, characteristic: u32) -> usize

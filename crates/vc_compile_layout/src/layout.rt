@@ -2,7 +2,6 @@
 
 ghost use Rattle.std.proofs.Props.{props};
 ghost use Rattle.std.specs.Prelude.{◌≡◌, ◌==◌, ◌&&◌, ◌<◌, ◌^◌, ◌↔◌, ℕ, List, length, position, slice_get, IfOk, IsTrue};
-ghost use Rattle.std.specs.List.{position_or_len};
 ghost use Rattle.std.specs.Option.{option_copied};
 ghost use Rattle.std.specs.Str.{bytes_eq};
 ghost use Rattle.vc_types_names.specs.FirstNames.{value_of};
@@ -15,7 +14,7 @@ use std::alloc::{AllocError, Global};
 use vc_compile_plan::Standing;
 use vc_compile_uses::Texts;
 use vc_model_parts::{
-    BillItem, Characteristic, NamedDependency, Object, Operation, Table, TableColumn,
+    BillItem, Characteristic, NamedDependency, Object, Operation, Table, column_among,
 };
 use vc_plan::{Named, Slot, TextSet, Var};
 use vc_types_names::named::places;
@@ -385,18 +384,6 @@ fn tables_of(alloc: Global, names: &Names<'_>) -> Result<FirstNamed<u32>, AllocE
     }
     let places = places(alloc, tables)?;
     Ok(places)
-}
-
-// The place of the first column of the characteristic, or else their count.
-fn column_among(columns: &[TableColumn], characteristic: u32) -> usize
-    ensures { result ≡ position_or_len (λ column. column.characteristic == characteristic) columns.now }
-{
-    for (place, column) in columns.iter().enumerate() {
-        if column.characteristic == characteristic {
-            return place;
-        }
-    }
-    columns.len()
 }
 
 fn column_place(table: Option<&Table>, characteristic: u32) -> usize

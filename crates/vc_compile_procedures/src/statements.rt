@@ -1,11 +1,9 @@
 //! The statements of procedures.
 
-ghost use Rattle.std.specs.Prelude.{◌≡◌, [], map, option_map, IfOk, OnOk};
+ghost use Rattle.std.specs.Prelude.{◌≡◌, [], map, IfOk, OnOk};
 ghost use Rattle.vc_syntax_tree.specs.Trees as syntax;
-ghost use Rattle.vc_compile_plan.specs.Conditions as conditions;
 ghost use Rattle.vc_compile_plan.specs.Numbering.{statement_brings, statement_from};
 ghost use Rattle.vc_compile_plan.specs.Procedures as procedures;
-ghost use Rattle.vc_compile_plan.specs.Trees as plan;
 ghost use Rattle.vc_compile_numbering.specs.Growing.{with_draft, with_drafts};
 ghost use Rattle.vc_compile_layout.specs.Standing.{layout_seen};
 ghost use Rattle.vc_compile_sites.specs.Standing.{site_seen};
@@ -15,26 +13,10 @@ use crate::actions::action_at;
 use std::alloc::{AllocError, Global};
 use vc_compile_layout::Layout;
 use vc_compile_numbering::Trees;
-use vc_compile_sites::{Site, condition_at};
-use vc_plan::{Condition as PlanCondition, Statement};
-use vc_syntax_tree::{Condition, Statement as Stated};
+use vc_compile_sites::{Site, condition_if};
+use vc_plan::Statement;
+use vc_syntax_tree::Statement as Stated;
 use vc_value::Listed;
-
-fn condition_if(
-    alloc: Global,
-    layout: &Layout<'_, '_>,
-    site: &Site<'_, '_, '_, '_>,
-    condition: &Option<Box<Condition>>,
-) -> Result<Option<PlanCondition>, AllocError>
-    ensures { IfOk result (λ asked. option_map plan.condition_of asked ≡ option_map
-        (conditions.condition_at (layout_seen layout.now) (site_seen site.now))
-        (option_map (λ boxed. syntax.condition_of boxed.value) condition.now)) }
-{
-    match condition {
-        Some(condition) => Ok(Some(condition_at(alloc, layout, site, condition)?)),
-        None => Ok(None),
-    }
-}
 
 // Puts a statement last.
 fn push_statement(

@@ -18,7 +18,7 @@ use crate::inferred::inferred_at;
 use std::alloc::{AllocError, Global};
 use vc_compile_layout::Layout;
 use vc_compile_numbering::Numbering;
-use vc_compile_sites::{Site, condition_at};
+use vc_compile_sites::{Site, condition_at, condition_if};
 use vc_plan::{Condition as PlanCondition, Rule};
 use vc_syntax_tree::{Condition, Constraint, Restriction};
 use vc_types::{At, Place};
@@ -86,22 +86,6 @@ fn asked_if(
 {
     match condition {
         Some(condition) => asked_at(alloc, layout, site, condition),
-        None => Ok(None),
-    }
-}
-
-fn condition_if(
-    alloc: Global,
-    layout: &Layout<'_, '_>,
-    site: &Site<'_, '_, '_, '_>,
-    condition: &Option<Box<Condition>>,
-) -> Result<Option<PlanCondition>, AllocError>
-    ensures { IfOk result (λ asked. option_map plan.condition_of asked ≡ option_map
-        (condition_at (layout_seen layout.now) (site_seen site.now))
-        (option_map (λ boxed. syntax.condition_of boxed.value) condition.now)) }
-{
-    match condition {
-        Some(condition) => Ok(Some(condition_at(alloc, layout, site, condition)?)),
         None => Ok(None),
     }
 }

@@ -17,20 +17,13 @@ use crate::choices::selections_at;
 use std::alloc::{AllocError, Global};
 use vc_compile_layout::Layout;
 use vc_compile_numbering::Numbering;
-use vc_compile_sites::{Asked, Site, selections_among, setting_at, site_of, term_at};
+use vc_compile_sites::{
+    Asked, Site, is_configurable, selections_among, setting_at, site_of, term_at,
+};
 use vc_model_parts::{BillItem, Component, Operation as ListedOperation};
 use vc_plan::{Line, Operation, Slot};
 use vc_types::At;
 use vc_value::{Listed, Word};
-
-fn is_configurable(component: &Component) -> bool
-    ensures { result ≡ shown.is_configurable component.now }
-{
-    match component {
-        Component::Object(_) => true,
-        Component::Plain(_) => false,
-    }
-}
 
 // The material of a line's component, as its own word.
 fn material_of(

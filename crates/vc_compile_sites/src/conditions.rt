@@ -1,6 +1,6 @@
 //! Conditions as the plan has them where they stand.
 
-ghost use Rattle.std.specs.Prelude.{◌≡◌, ◌∷◌, ◌++◌, map, IfOk, OnOk, Some};
+ghost use Rattle.std.specs.Prelude.{◌≡◌, ◌∷◌, ◌++◌, map, option_map, IfOk, OnOk, Some};
 ghost use Rattle.vc_syntax_tree.specs.Trees.{term_of};
 ghost use Rattle.vc_syntax_tree.specs.Trees as trees;
 ghost use Rattle.vc_plan.specs.declared.conditions.Piece.TheVariants.{Stretch};
@@ -298,5 +298,22 @@ pub fn condition_at(
         Condition::Relation(relation) => relation_at(alloc, layout, site, relation),
         Condition::Specified(operand) => Ok(specified_at(layout, site, operand)),
         Condition::PartOf(_, _) => Ok(PlanCondition::Always),
+    }
+}
+
+/// The same of a condition that may be missing.
+pub fn condition_if(
+    alloc: Global,
+    layout: &Layout<'_, '_>,
+    site: &Site<'_, '_, '_, '_>,
+    condition: &Option<Box<Condition>>,
+) -> Result<Option<PlanCondition>, AllocError>
+    ensures { IfOk result (λ asked. option_map plan.condition_of asked ≡ option_map
+        (conditions.condition_at (layout_seen layout.now) (site_seen site.now))
+        (option_map (λ boxed. trees.condition_of boxed.value) condition.now)) }
+{
+    match condition {
+        Some(condition) => Ok(Some(condition_at(alloc, layout, site, condition)?)),
+        None => Ok(None),
     }
 }

@@ -7,6 +7,7 @@ ghost use Rattle.vc_types.specs.Settings.{is_line};
 ghost use Rattle.vc_types_meanings.specs.Seen.{seen};
 ghost use Rattle.vc_compile_plan.specs.Layouts.{tree_of, object_at, object_if};
 ghost use Rattle.vc_compile_plan.specs.Places as places;
+ghost use Rattle.vc_compile_plan.specs.Shown as shown;
 ghost use Rattle.vc_compile_plan.specs.Sites.{number_or_zero};
 ghost use Rattle.vc_compile_layout.specs.Standing.{layout_seen};
 ghost use Rattle.vc_compile_sites.specs.Standing.{asked_seen, site_seen};
@@ -14,6 +15,7 @@ ghost use Rattle.vc_compile_sites.specs.Standing.{asked_seen, site_seen};
 use crate::site::Site;
 use std::alloc::{AllocError, Global};
 use vc_compile_layout::Layout;
+use vc_model_parts::Component;
 use vc_plan::Slot;
 use vc_syntax_tree::{Condition, Dependency, Statement};
 use vc_types::{At, Place};
@@ -25,6 +27,16 @@ use vc_value::Listed;
 pub struct Asked<'n> {
     pub dependency: u32,
     pub condition: &'n Condition,
+}
+
+/// Whether a line of this component is configured.
+pub fn is_configurable(component: &Component) -> bool
+    ensures { result ≡ shown.is_configurable component.now }
+{
+    match component {
+        Component::Object(_) => true,
+        Component::Plain(_) => false,
+    }
 }
 
 fn object_at(layout: &Layout<'_, '_>, slot: u32) -> Option<u32>

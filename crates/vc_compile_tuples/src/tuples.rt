@@ -80,14 +80,14 @@ fn grow(
         [] => put_tuple(alloc, slots, parts, most, front.as_slice(), out),
         [choice, more @ ..] => {
             for slot in choice.as_slice() {
-                if choose(slots, parts, front, *slot)? {
-                    let fits = grow(alloc, slots, parts, most, front, more, out)?;
-                    front.pop();
-                    if !fits {
-                        return Ok(false);
-                    }
+                let fits = if choose(slots, parts, front, *slot)? {
+                    grow(alloc, slots, parts, most, front, more, out)?
                 } else {
-                    front.pop();
+                    true
+                };
+                front.pop();
+                if !fits {
+                    return Ok(false);
                 }
             }
             Ok(true)

@@ -4,7 +4,6 @@ ghost use Rattle.std.specs.Prelude.{◌≡◌, ◌∷◌, flat_map, if◌then◌
 ghost use Rattle.std.specs.List.{list_any};
 ghost use Rattle.vc_syntax_tree.specs.Trees.{Counts, term_of};
 ghost use Rattle.vc_compile_plan.specs.Refusals as refusals;
-ghost use Rattle.vc_compile_plan.specs.Shown as shown;
 ghost use Rattle.vc_compile_layout.specs.Standing.{layout_seen};
 ghost use Rattle.vc_compile_typing.specs.Alike.{is_alike};
 ghost use Rattle.vc_compile_typing.specs.Finding.{first_with, seen_if};
@@ -15,20 +14,11 @@ use crate::skipping::has_alike;
 use crate::uses::{with_constraints, with_uses, with_uses_at};
 use std::alloc::{AllocError, Global};
 use vc_compile_layout::Layout;
-use vc_compile_sites::place_at;
-use vc_model_parts::{BillItem, Component, Object, Operation};
+use vc_compile_sites::{is_configurable, place_at};
+use vc_model_parts::{BillItem, Object, Operation};
 use vc_plan::Slot;
 use vc_syntax_tree::Term;
 use vc_types::{At, Place};
-
-fn is_configurable(component: &Component) -> bool
-    ensures { result ≡ shown.is_configurable component.now }
-{
-    match component {
-        Component::Object(_) => true,
-        Component::Plain(_) => false,
-    }
-}
 
 // A quantity or a time of a line of the text, and what is used at the same place.
 fn with_counted(

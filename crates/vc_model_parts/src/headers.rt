@@ -1,6 +1,7 @@
 //! What the files of a model's tables must have.
 
-ghost use Rattle.std.specs.Prelude.{◌≡◌, ◌<◌, length, map, slice_get, option_map, IfOk, OnOk, Some, [], ◌++◌};
+ghost use Rattle.std.specs.Prelude.{◌≡◌, ◌==◌, ◌<◌, length, map, slice_get, option_map, IfOk, OnOk, Some, [], ◌++◌};
+ghost use Rattle.std.specs.List.{position_or_len};
 ghost use Rattle.vc_model_parts.specs.Headers as headers;
 
 use crate::parts::{Characteristic, Model, NumberValue, Table, TableColumn, TextValue, Values};
@@ -41,7 +42,8 @@ fn entries_of(
     Ok(entries)
 }
 
-fn numbers_of(alloc: Global, values: &[TextValue]) -> Result<Listed<u32>, AllocError>
+/// The texts that are listed, by their numbers.
+pub fn numbers_of(alloc: Global, values: &[TextValue]) -> Result<Listed<u32>, AllocError>
     ensures { IfOk result (λ numbers. numbers ≡ map (λ value. value.text) values.now) }
 {
     let mut numbers = Listed::new(alloc);
@@ -68,7 +70,8 @@ fn add_above(grains: &mut GrainList, value: &NumberValue) -> Result<(), AllocErr
     Ok(())
 }
 
-fn grains_of(alloc: Global, values: &[NumberValue]) -> Result<GrainList, AllocError>
+/// The intervals that are listed, each that lies above all before it.
+pub fn grains_of(alloc: Global, values: &[NumberValue]) -> Result<GrainList, AllocError>
     ensures { IfOk result (λ grains. grains ≡ headers.grains_of [] values.now) }
 {
     let mut grains = GrainList::new(alloc);
@@ -167,6 +170,18 @@ pub fn header(alloc: Global, model: &Model, table: u32) -> Result<TableHeader, A
         (slice_get model.now.tables table) ≡ Some header) }
 {
     header_of(alloc, model, &model.tables.as_slice()[table as usize])
+}
+
+/// The place of the first column of the characteristic, or else their count.
+pub fn column_among(columns: &[TableColumn], characteristic: u32) -> usize
+    ensures { result ≡ position_or_len (λ column. column.characteristic == characteristic) columns.now }
+{
+    for (place, column) in columns.iter().enumerate() {
+        if column.characteristic == characteristic {
+            return place;
+        }
+    }
+    columns.len()
 }
 
 /// How many tables the model has.

@@ -1,10 +1,10 @@
 //! What a table call needs at the places of the variables that it may narrow.
 
 ghost use Rattle.std.specs.Prelude.{◌≡◌, ◌^◌, ◌<◌, ◌+◌, length, OnOk};
-ghost use Rattle.std.specs.List.{filter, list_any};
+ghost use Rattle.std.specs.List.{filter};
 ghost use Rattle.vc_plan.specs.declared.rules.Kind.TheVariants.{ByTable};
 ghost use Rattle.vc_plan.specs.Domains.{atom_count, count_of};
-ghost use Rattle.vc_plan.specs.TableRows.{columns_of, has_grain, is_column_of, rows_of};
+ghost use Rattle.vc_plan.specs.TableRows.{columns_of, has_grain, rows_of};
 ghost use Rattle.vc_net_places.specs.Cells.{all_places};
 ghost use Rattle.vc_net_places.specs.Places.{index_of};
 ghost use Rattle.vc_net_bounds.specs.Capping.{capped};
@@ -20,21 +20,8 @@ use vc_net_places::Places;
 use vc_plan::{Binding, Plan, Rule};
 use vc_plan_values::{grain_count, is_restrictable};
 use vc_rule_table::grains::has_grain;
-use vc_rule_table::rows::{is_column_of, rows_of};
+use vc_rule_table::rows::{has_column, rows_of};
 use vc_value::{Listed, Value};
-
-fn has_column(columns: &[Binding], var: u32) -> bool
-    ensures { result ≡ list_any (is_column_of var) columns.now }
-{
-    let mut rest = columns;
-    while let [column, more @ ..] = rest {
-        if is_column_of(var, *column) {
-            return true;
-        }
-        rest = more;
-    }
-    false
-}
 
 /// How many of the rows have the grain, as far as that is told.
 #[tactic(auto, using(crate::proofs::CappingLemmas::row_next, crate::proofs::CappingLemmas::sum_done))]

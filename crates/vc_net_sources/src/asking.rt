@@ -21,6 +21,7 @@ use vc_plan_sources::Sources;
 use vc_rule::evaluate;
 use vc_rule::resting::rests;
 use vc_rule_grains::grains::stands;
+use vc_rule_grains::kinds::is_here;
 use vc_rule_yield::Yield;
 use vc_value::Value;
 use vc_value_steps::Steps;
@@ -98,15 +99,6 @@ fn ask_source<V: View>(plan: &Plan, view: &V, var: u32, told: Telling, out: &mut
     if is_here(plan, view, var) {
         cite_slot(plan, var, out);
         tell(view, var, told, out);
-    }
-}
-
-fn is_here<V: View>(plan: &Plan, view: &V, var: u32) -> bool
-    ensures { result ≡ is_here plan.now (V.seen view.now) var }
-{
-    match element(plan.vars.as_slice(), var) {
-        Some(x) => view.here(x.slot),
-        None => false,
     }
 }
 

@@ -224,8 +224,8 @@ fn value_by(atom: Atom, var: u32) -> Option<Value>
     }
 }
 
-// Whether it is this value.
-fn is_value(value: Value, other: Option<Value>) -> bool
+/// Whether it is this value.
+pub fn is_value(value: Value, other: Option<Value>) -> bool
     ensures { result ≡ is_value value other }
 {
     match other {

@@ -29,9 +29,9 @@ use vc_net_readers::touching::touches_as_told;
 use vc_net_readers::triggers::grain_held;
 use vc_net_readers::{Glance, Hint, Readers};
 use vc_net_sources::{rests_at, tells_nothing};
+use vc_net_standing::standing::is_value;
 use vc_plan::{Atom, Plan, View, element};
 use vc_plan_sources::Sources;
-use vc_rule_yield::atoms::same_value;
 use vc_value::Value;
 
 /// A variable with the value that it has, if it has one, so that it is looked up once.
@@ -434,16 +434,6 @@ fn value_beside<V: View>(view: &V, held: Held, var: u32) -> Option<Value>
         held.value
     } else {
         view.value(var)
-    }
-}
-
-// Whether it is this value.
-fn is_value(value: Value, other: Option<Value>) -> bool
-    ensures { result ≡ is_value value other }
-{
-    match other {
-        Some(other) => same_value(value, other),
-        None => false,
     }
 }
 

@@ -104,7 +104,8 @@ fn cite_slot_of(plan: &Plan, var: u32, out: &mut Yield)
     }
 }
 
-fn is_here<V: View>(plan: &Plan, view: &V, var: u32) -> bool
+/// Whether the variable's slot is here.
+pub fn is_here<V: View>(plan: &Plan, view: &V, var: u32) -> bool
     ensures { result ≡ is_here plan.now (V.seen view.now) var }
 {
     match element(plan.vars.as_slice(), var) {

@@ -5,12 +5,12 @@ use Rattle.std.proofs.Common.{◌≡◌, ℕ, Bool, true, false, cond, not, ◌&
 use Rattle.std.proofs.Common.{◌∙◌, ap, subst, inl, inr}
 use Rattle.std.specs.Prelude.{flat_map, slice_get, nat_eq, Option, None, Some}
 use Rattle.std.specs.List.{filter, find, list_any, list_all, AllByRecursion}
-use Rattle.std.proofs.lemmas.Bool.{and_parts, and_from, not-true, not_from_false, false_from_ne_true}
+use Rattle.std.proofs.lemmas.Bool.{and_parts, and_from}
 use Rattle.std.proofs.lemmas.List.Folds.{list_all-append}
 use Rattle.vc_base.specs.Rounds.{atoms, is_clash, atoms_of}
 use Rattle.vc_base.specs.Sets.{has}
 use Rattle.vc_base.proofs.ListLaws.{number_exact, number_itself}
-use Rattle.vc_base.proofs.SetLaws.{both, has_cases, has_first, has_more, has_front, has_back}
+use Rattle.vc_base.proofs.SetLaws.{has_cases, has_first, has_more, has_front, has_back}
 use Rattle.vc_value.specs.declared.value.Value.{Value}
 use Rattle.vc_plan.specs.declared.atoms.Atom.{Atom}
 use Rattle.vc_plan.specs.declared.atoms.Atom.TheVariants.{Out, Is}
@@ -27,32 +27,17 @@ use Rattle.vc_plan.specs.TableRows.{rows_of, cell_passes, fits, has_left, is_pos
 use Rattle.vc_plan.specs.TableRows.{other_columns, has_grain, agreed, for_variable, narrowed, by_table}
 use Rattle.vc_plan.proofs.PlanLaws.Atoms.{atom_exact, atom_itself}
 use Rattle.vc_plan.proofs.PlanLaws.Lists.{any_grows, all_grows}
+use Rattle.vc_plan_values.specs.Computing.{ValuesAreLeft}
 use Rattle.vc_rule_yield.specs.Yielding.{Conclusion}
 use Rattle.vc_rule_premises.specs.Saying.{concluding, clash_when}
 use Rattle.vc_rule_premises.specs.Sufficing.{IsPartOf, SaysAll, Follows, EachFollows}
-use Rattle.vc_rule_premises.proofs.SufficingLaws.{value_said}
+use Rattle.vc_rule_premises.proofs.SufficingLaws.{value_said, left_by}
 use Rattle.vc_rule_table.specs.Cells.{is_missing}
-use Rattle.vc_rule_table.specs.Laws.{ValuesAreLeft, TableFollows}
+use Rattle.vc_rule_table.specs.Laws.{TableFollows}
 use Rattle.vc_rule_table.specs.Reasons.{cell_reasons, operand_reasons, misfit_reasons, row_reasons}
 use Rattle.vc_rule_table.specs.Reasons.{rows_reasons}
 use Rattle.vc_rule_table.specs.TableSaid.{grain_out, cell_agreed, concluded_for, concluded_newly}
 use Rattle.vc_rule_table.proofs.SaidLaws.{given_for, gathered_atoms}
-
--- a grain that is left stays left at a part
-left_by : (plan : Plan) (seen part : Seen) → IsPartOf part seen → ValuesAreLeft plan seen
-    → (v g : ℕ) (o p : Option Value)
-    → part.value v ≡ o → seen.value v ≡ p → is_left_by plan seen v g p ≡ true → is_left_by plan part v g o ≡ true
-left_by plan seen part w kept v g None None e k h =
-    not_from_false (part.out v g)
-    (false_from_ne_true (part.out v g) (λ q. both (w.out v g q) (not-true (seen.out v g) h)))
-left_by plan seen part w kept v g None (Some b) e k h =
-    not_from_false (part.out v g) (false_from_ne_true (part.out v g) (λ q. both (w.out v g q) (kept v g b k h)))
-left_by plan seen part w kept v g (Some a) None e k h =
-    let no : None ≡ Some a = sym k ∙ w.value v a e in absurd (cc)
-left_by plan seen part w kept v g (Some a) (Some b) e k h =
-    let now : Some b ≡ Some a = sym k ∙ w.value v a e in
-    let same : b ≡ a = cc in
-    subst (λ z. is_grain_with plan v (lies_in z) g ≡ true) same h
 
 fits_before : (plan : Plan) (seen part : Seen) → IsPartOf part seen → ValuesAreLeft plan seen
     → (operand : Operand) (a : Value)

@@ -1,7 +1,6 @@
 -- Laws of what a table call says.
-use Rattle.std.specs.Prelude.{◌≡◌, ℕ, ◌≤◌, true, false, List, length, map, flat_map, Some}
+use Rattle.std.specs.Prelude.{◌≡◌, ℕ, ◌≤◌, true, List, length, map, flat_map}
 use Rattle.std.specs.List.{AllByRecursion}
-use Rattle.vc_value.specs.declared.value.Value.{Value}
 use Rattle.vc_plan.specs.declared.atoms.Atom.{Atom}
 use Rattle.vc_plan.specs.declared.atoms.Atom.TheVariants.{Here, Out, Is}
 use Rattle.vc_plan.specs.declared.plans.Plan.{Plan}
@@ -9,11 +8,10 @@ use Rattle.vc_plan.specs.declared.rules.Binding.{Binding}
 use Rattle.vc_plan.specs.declared.rules.Rule.{Rule}
 use Rattle.vc_plan.specs.Answers.{fresh}
 use Rattle.vc_plan.specs.Bounds.{rows_with}
-use Rattle.vc_plan.specs.Domains.{is_grain_with}
-use Rattle.vc_plan.specs.Pieces.{lies_in}
 use Rattle.vc_plan.specs.Seen.{Seen, says}
 use Rattle.vc_plan.specs.TableRows.{rows_of, by_table}
 use Rattle.vc_plan.specs.Valid.{IsValid}
+use Rattle.vc_plan_values.specs.Computing.{ValuesAreLeft}
 use Rattle.vc_plan_reasons.specs.Things.{var_at, has_thing, thing_of, vars_of_column}
 use Rattle.vc_rule_premises.specs.Saying.{Said, clashing, concluding, given_of}
 use Rattle.vc_rule_premises.specs.Sufficing.{each_premise, EachFollows}
@@ -28,11 +26,6 @@ TableIsSaid = (plan : Plan) (seen : Seen) (rule : Rule) (table : ℕ) (columns :
 abbrev pub TableStands : Type 0
 TableStands = (plan : Plan) (seen : Seen) (rule : Rule) (table : ℕ) (columns : List Binding)
     → each_premise (says seen) (table_said plan seen rule table columns) ≡ true
-
--- no grain that holds its variable's value is out, as in every clear set
-abbrev pub ValuesAreLeft : Plan → Seen → Type 0
-ValuesAreLeft plan seen = (v g : ℕ) (a : Value) → seen.value v ≡ Some a → is_grain_with plan v (lies_in a) g ≡ true
-    → seen.out v g ≡ false
 
 -- all that is said follows from its premises alone
 abbrev pub TableFollows : Type 0

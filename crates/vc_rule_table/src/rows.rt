@@ -4,6 +4,7 @@ ghost use Rattle.std.specs.Prelude.{◌≡◌, slice_get};
 ghost use Rattle.vc_plan.specs.TableRows.{rows_of, is_possible, is_column_of};
 ghost use Rattle.vc_rule_table.specs.Cells.{FewGrains, is_given, columns_but};
 ghost use Rattle.vc_rule_table.specs.Reasons.{first_misfit};
+ghost use Rattle.vc_rule_table.specs.TableSaid.{has_column};
 
 use crate::cells::fits;
 use vc_plan::{Binding, Operand, Plan, View, element};
@@ -27,6 +28,20 @@ pub fn is_column_of(var: u32, column: Binding) -> bool
         Operand::Constant(_) => false,
         Operand::Variable(other) => var == other,
     }
+}
+
+/// Whether a column is given the variable.
+pub fn has_column(columns: &[Binding], var: u32) -> bool
+    ensures { result ≡ has_column columns.now var }
+{
+    let mut rest = columns;
+    while let [column, more @ ..] = rest {
+        if is_column_of(var, *column) {
+            return true;
+        }
+        rest = more;
+    }
+    false
 }
 
 /// Whether the column is given the variable, if one is named.

@@ -17,7 +17,7 @@ use Rattle.vc_rule_yield.specs.declared.scratch.Note.{Note}
 use Rattle.vc_rule_yield.specs.Yielding.{Conclusion, Yielded, with_cites, cited, concluded, concluded_if, may_conclude}
 use Rattle.vc_rule_premises.specs.Citing.{cited_all}
 use Rattle.vc_rule_premises.specs.Saying.{conclusion_from, take_conclusions}
-use Rattle.vc_rule_premises.proofs.SayingLaws.{all_cited_after, conclusion_taken}
+use Rattle.vc_rule_premises.proofs.SayingLaws.{all_cited_after, conclusion_taken, concluded_cites}
 use Rattle.vc_rule_table.specs.Noting.{AreNotesOf}
 use Rattle.vc_rule_table.specs.Reasons.{first_misfit, misfit_reasons, row_reasons, rows_reasons}
 use Rattle.vc_rule_table_saying.specs.Sharing.{IsCiting, fails_first, is_given_in, kept, shares}
@@ -121,10 +121,6 @@ cited_rooms k a =
 all_rooms : (k : Yielded) (premises : List Atom) → (cited_all k premises).rooms ≡ k.rooms
 all_rooms k [] = refl
 all_rooms k (a ∷ premises) = all_rooms (cited k a) premises ∙ cited_rooms k a
-
-concluded_cites : (y : Yielded) (a : Atom) → (concluded y a).cites ≡ y.cites
-concluded_cites y a =
-    elim (may_conclude y y.clash) as (λ b. (concluded_if b y a).cites ≡ y.cites) [ true ↦ refl | false ↦ refl ]
 
 concluded_rooms : (y : Yielded) (a : Atom) → (concluded y a).rooms ≡ y.rooms
 concluded_rooms y a =

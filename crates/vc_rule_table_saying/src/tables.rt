@@ -16,36 +16,15 @@ ghost use Rattle.vc_rule_table_saying.specs.Sharing.{IsCiting, kept};
 use crate::agreed::conclude_agreed;
 use crate::calls::NotedCall;
 use crate::sharing::cite_all;
-use vc_plan::{Binding, Plan, Rule, View, element};
+use vc_plan::{Binding, Plan, Rule, View};
+use vc_plan_values::is_restrictable;
 use vc_rule_table::notes::{behind, first_note, note_rows, noted};
-use vc_rule_table::rows::{is_column_of, rows_of};
+use vc_rule_table::rows::{has_column, rows_of};
 use vc_rule_table_grains::grains::narrow_grains;
 use vc_rule_table_grains::misfits::is_possible_in;
 use vc_rule_yield::Yield;
 use vc_rule_yield::scratch::{Marks, Note};
 use vc_value::{Listed, Value};
-
-fn is_restrictable(plan: &Plan, var: u32) -> bool
-    ensures { result ≡ is_restrictable plan.now var }
-{
-    match element(plan.vars.as_slice(), var) {
-        Some(var) => var.restrictable,
-        None => false,
-    }
-}
-
-fn has_column(columns: &[Binding], var: u32) -> bool
-    ensures { result ≡ has_column columns.now var }
-{
-    let mut rest = columns;
-    while let [column, more @ ..] = rest {
-        if is_column_of(var, *column) {
-            return true;
-        }
-        rest = more;
-    }
-    false
-}
 
 // Whether the row is possible in all columns.
 fn is_possible<V: View>(call: &NotedCall<V>, row: &[Value], note: Option<Note>) -> bool

@@ -77,7 +77,8 @@ fn put_calls<'a>(out: &mut Listed<&'a TableCall>, tree: Tree<'a>) -> Result<(), 
     }
 }
 
-fn put_demanded<'a>(out: &mut Listed<&'a Relation>, tree: Tree<'a>) -> Result<(), AllocError>
+/// Puts the relations that a constraint demands.
+pub fn put_demanded<'a>(out: &mut Listed<&'a Relation>, tree: Tree<'a>) -> Result<(), AllocError>
     ensures { OnOk result (relations_seen out.new ≡ relations_seen out.old
         ++ occurrences.demanded_relations (tree_of tree.entry)) }
 {
@@ -113,7 +114,8 @@ fn put_other_names(out: &mut Listed<Use>, setting: &Setting, tree: Tree) -> Resu
     }
 }
 
-fn put_all_relations<'a>(
+/// Puts the relations of conditions.
+pub fn put_all_relations<'a>(
     out: &mut Listed<&'a Relation>,
     conditions: &[&'a Condition],
 ) -> Result<(), AllocError>

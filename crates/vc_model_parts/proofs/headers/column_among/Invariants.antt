@@ -1,6 +1,6 @@
 use Rattle.std.proofs.Common.{◌≡◌, ◌==◌, ◌+◌, drop}
 use Rattle.std.specs.List.{position_or_len}
-use Rattle.vc_compile_layout.proofs.layout.column_among.Given as goal
+use Rattle.vc_model_parts.proofs.headers.column_among.Given as goal
 
 abbrev pub invariant-loop-place : goal.invariant-loop-place
 invariant-loop-place l =
