@@ -17,7 +17,7 @@ use Rattle.vc_compile_plan.specs.declared.standings.Standing.{Standing}
 use Rattle.vc_compile_plan.proofs.PlanLaws.{defined_plans_are_ones}
 use Rattle.vc_compile.specs.Compiled.{IsFaultOver, IsLaidOut, IsPlanWithin, IsRefusal, IsSizeFault, IsSound, IsTyped}
 use Rattle.vc_compile.proofs.Above.{above, is_above}
-use Rattle.vc_compile.proofs.InTurnLaws.{rules_are_counted}
+use Rattle.vc_compile_parts.proofs.InTurnLaws.{rules_are_counted}
 use Rattle.vc_compile.proofs.SizeLaws.{sizes_same}
 
 -- the first fault by what is found of levels, slots, the typing and the sizes

@@ -1,3 +1,1 @@
 pub mod Compiled
-pub mod InTurn
-pub mod Parts

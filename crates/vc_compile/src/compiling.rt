@@ -7,15 +7,14 @@ ghost use Rattle.vc_compile_plan.specs.Numbering.{drafts_of};
 ghost use Rattle.vc_compile_plan.specs.PlanOf.{IsPlanOf, IsPlanOver};
 ghost use Rattle.vc_compile_plan.specs.Refusals.{size_fault};
 ghost use Rattle.vc_compile_layout.specs.Standing.{layout_seen};
-ghost use Rattle.vc_compile.specs.Parts.{AreNumbered};
+ghost use Rattle.vc_compile_parts.specs.Parts.{AreNumbered};
 ghost use Rattle.vc_compile.specs.Compiled.{IsFaultOver, IsLaidOut, IsPlanWithin};
 ghost use Rattle.vc_compile.specs.Compiled.{IsRefusal, IsSound, IsTyped, IsValidIfRead};
 
-use crate::numbered::{Numbered, numbered_of};
 use crate::sizes::within_sizes;
-use crate::taken::{Taken, taken_of};
 use std::alloc::{AllocError, Global};
 use vc_compile_layout::{Layout, Lists};
+use vc_compile_parts::{Numbered, Taken, numbered_of, taken_of};
 use vc_compile_plan::{CompileFault, Standing};
 use vc_compile_slots::{is_too_deep, sets_of, slots_of, standings_of, vars_of};
 use vc_compile_typing::type_fault;

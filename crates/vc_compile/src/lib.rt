@@ -2,10 +2,6 @@
 #![tactic(auto)]
 
 pub mod compiling;
-pub mod numbered;
-pub mod ruled;
-pub mod shown;
 pub mod sizes;
-pub mod taken;
 
 pub use compiling::compile;

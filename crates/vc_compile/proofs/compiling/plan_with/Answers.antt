@@ -3,8 +3,8 @@ use Rattle.std.proofs.Common.{ap, ◌∙◌, subst, sym}
 use Rattle.vc_compile_plan.specs.Numbering.{drafts_of}
 use Rattle.vc_compile_plan.specs.PlanOf.{IsPlanOver}
 use Rattle.vc_compile_layout.specs.Standing.{layout_seen}
-use Rattle.vc_compile.proofs.InTurnLaws.{conditions_are, guards_are, lines_are, operations_are, procedures_are}
-use Rattle.vc_compile.proofs.InTurnLaws.{requirements_are, rules_are, terms_are}
+use Rattle.vc_compile_parts.proofs.InTurnLaws.{conditions_are, guards_are, lines_are, operations_are, procedures_are}
+use Rattle.vc_compile_parts.proofs.InTurnLaws.{requirements_are, rules_are, terms_are}
 use Rattle.vc_compile.proofs.compiling.plan_with.Goals as goal
 
 pub returns : goal.returns

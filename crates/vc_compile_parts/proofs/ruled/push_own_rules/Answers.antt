@@ -3,8 +3,8 @@ use Rattle.vc_compile_plan.specs.Rules.{last_drafts, slot_drafts_from}
 use Rattle.vc_compile_numbering.specs.Growing.{seen}
 use Rattle.vc_compile_rules.specs.Adding.{Adds}
 use Rattle.vc_compile_layout.specs.Standing.{layout_seen}
-use Rattle.vc_compile.proofs.RoomLaws.{adds_both}
-use Rattle.vc_compile.proofs.ruled.push_own_rules.Goals as goal
+use Rattle.vc_compile_parts.proofs.RoomLaws.{adds_both}
+use Rattle.vc_compile_parts.proofs.ruled.push_own_rules.Goals as goal
 
 pub returns-in_ok-room-in-Enough : goal.returns-in_ok-room-in-Enough
 returns-in_ok-room-in-Enough c =

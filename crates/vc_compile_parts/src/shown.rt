@@ -3,7 +3,7 @@
 ghost use Rattle.std.specs.Prelude.{◌≡◌, IfOk};
 ghost use Rattle.vc_compile_numbering.specs.Growing.{kept, seen};
 ghost use Rattle.vc_compile_layout.specs.Standing.{layout_seen};
-ghost use Rattle.vc_compile.specs.InTurn as in_turn;
+ghost use Rattle.vc_compile_parts.specs.InTurn as in_turn;
 
 use std::alloc::{AllocError, Global};
 use vc_compile_layout::Layout;

@@ -2,7 +2,7 @@ use Rattle.std.proofs.Common.{ap, ◌∙◌}
 use Rattle.vc_compile_plan.specs.Cuts.{domains_of}
 use Rattle.vc_compile_plan.specs.Layouts.{layout_over}
 use Rattle.vc_compile_layout.specs.Standing.{layout_seen}
-use Rattle.vc_compile.proofs.taken.domains.Goals as goal
+use Rattle.vc_compile_parts.proofs.taken.domains.Goals as goal
 
 pub returns : goal.returns
 returns c =

@@ -5,8 +5,8 @@ ghost use Rattle.vc_compile_plan.specs.Refusals.{most_rules};
 ghost use Rattle.vc_compile_plan.specs.Rules.{rule_drafts};
 ghost use Rattle.vc_compile_numbering.specs.Growing.{kept, seen};
 ghost use Rattle.vc_compile_layout.specs.Standing.{layout_seen};
-ghost use Rattle.vc_compile.specs.Parts.{AreNumbered};
-ghost use Rattle.vc_compile.specs.InTurn as in_turn;
+ghost use Rattle.vc_compile_parts.specs.Parts.{AreNumbered};
+ghost use Rattle.vc_compile_parts.specs.InTurn as in_turn;
 
 use crate::ruled::rules_of;
 use crate::shown::{Shown, shown_of};

@@ -6,7 +6,7 @@ ghost use Rattle.vc_compile_plan.specs.Rules.{last_drafts, rule_drafts, slot_dra
 ghost use Rattle.vc_compile_numbering.specs.Growing.{seen};
 ghost use Rattle.vc_compile_rules.specs.Adding.{Adds};
 ghost use Rattle.vc_compile_layout.specs.Standing.{layout_seen};
-ghost use Rattle.vc_compile.specs.InTurn.{ruled};
+ghost use Rattle.vc_compile_parts.specs.InTurn.{ruled};
 
 use std::alloc::{AllocError, Global};
 use vc_compile_constraints::push_constraint_rules;

@@ -2,8 +2,8 @@
 use Rattle.std.specs.Prelude.{◌≡◌, map}
 use Rattle.vc_compile_plan.specs.Layouts.{Layout}
 use Rattle.vc_compile_plan.specs.Trees.{condition_of, term_of}
-use Rattle.vc_compile.specs.declared.numbered.Numbered.{Numbered}
-use Rattle.vc_compile.specs.InTurn.{ruled, guarded, required, lined, operated, proceeded}
+use Rattle.vc_compile_parts.specs.declared.numbered.Numbered.{Numbered}
+use Rattle.vc_compile_parts.specs.InTurn.{ruled, guarded, required, lined, operated, proceeded}
 
 -- rules and what follows them, with the conditions and terms of a layout's plan
 pub record AreNumbered (layout : Layout) (numbered : Numbered) : Type 0 where

@@ -14,7 +14,7 @@ use Rattle.vc_compile_plan.specs.Shown.{GuardDraft, RequirementDraft}
 use Rattle.vc_compile_plan.specs.Trees.{Condition, Term, Always}
 use Rattle.vc_compile_numbering.specs.Growing.{Kept, with_drafts}
 use Rattle.vc_compile_numbering.proofs.NumberingLaws.{drafts_are_numbered}
-use Rattle.vc_compile.specs.InTurn.{over, ruled, guarded, required, lined, operated, proceeded}
+use Rattle.vc_compile_parts.specs.InTurn.{over, ruled, guarded, required, lined, operated, proceeded}
 
 -- drafts over what is kept: what they bring comes behind it, and their numbers begin there
 behind_conditions : {D X : Type 0} (brings : Brings D) (make : ℕ → ℕ → D → X) (before : Kept) (drafts : List D)

@@ -1,0 +1,2 @@
+pub mod InTurnLaws
+pub mod RoomLaws
