@@ -14,10 +14,12 @@ use Rattle.vc_wire_replies.specs.declared.reply.Refusal.{Refusal}
 use Rattle.vc_wire_replies.specs.declared.reply.Refusal.TheVariants.{NameTaken, NoSession, TooManySessions}
 use Rattle.vc_wire_replies.specs.declared.reply.Reply.{Reply}
 use Rattle.vc_wire_replies.specs.declared.reply.Reply.TheVariants.{Closed, Refused}
-use Rattle.vc_desk.specs.Answers.{Closes, EditsSession, Tells, TellsSession, start_refusal}
+use Rattle.vc_desk_session.specs.Reasons.{Asked, AsksSession, IsAnswerTo}
+use Rattle.vc_desk_session.specs.Edits.{Edited}
+use Rattle.vc_desk_session.specs.Telling.{Tells}
+use Rattle.vc_desk.specs.Answers.{Closes, EditsSession, TellsSession, start_refusal}
 use Rattle.vc_desk.specs.Editing.{EditsTo}
-use Rattle.vc_desk.specs.Desks.{Edited, RepliesTo, open_of}
-use Rattle.vc_desk.specs.Reasons.{Asked, AsksSession, IsAnswerTo}
+use Rattle.vc_desk.specs.Desks.{RepliesTo, open_of}
 use Rattle.vc_desk.specs.States.{ByName, chosen_in, open_count}
 use Rattle.vc_desk.proofs.OpenLaws.{chosen_of, count_is, is_none_at, open_kept, open_put, open_removed}
 

@@ -3,6 +3,7 @@ use Rattle.std.proofs.Common.{◌≡◌, ◌∙◌, ℕ, Bool, true, false, cond
 use Rattle.std.specs.Prelude.{Some, Result, Ok, Err}
 use Rattle.std.specs.Cmp.Lexicographic.{nat_list_cmp_total}
 use Rattle.std.specs.FinMap.{get, get-insert, insert}
+use Rattle.vc_outside.proofs.NameLaws.{is_name, name_is, same_answers}
 use Rattle.vc_plan.specs.declared.plans.Plan.{Plan}
 use Rattle.vc_session.specs.Costing.{EditCosts}
 use Rattle.vc_session.specs.Sessions.{Opened}
@@ -11,7 +12,6 @@ use Rattle.vc_wire_replies.specs.declared.reply.Reply.{Reply}
 use Rattle.vc_desk.specs.Costing.{SpendsOnEdit, edited, unedited}
 use Rattle.vc_desk.specs.Desks.{RepliesTo}
 use Rattle.vc_desk.specs.States.{ByName}
-use Rattle.vc_outside.proofs.NameLaws.{is_name, name_is, same_answers}
 
 -- a session in its own place
 put_same : (sessions : ByName Opened) (name : List ℕ) (session : Opened) → get sessions name ≡ Some session

@@ -11,12 +11,13 @@ use Rattle.std.specs.FinMap.{remove}
 use Rattle.std.specs.FinMap.Entries.{below_all}
 use Rattle.std.specs.Option.{option_map}
 use Rattle.std.specs.Ordering.{is_lt, nat_cmp}
+use Rattle.vc_outside.proofs.NameLaws.{is_name, name_is, same_answers}
+use Rattle.vc_outside.specs.Keepers.{Texts}
 use Rattle.vc_plan.specs.declared.plans.Plan.{Plan}
 use Rattle.vc_plan_users.specs.Choosing.{Chosen}
 use Rattle.vc_session.specs.Sessions.{IsSessionOf, Opened}
-use Rattle.vc_desk.specs.Desks.{AreSessionsOf, chosen_entry, open_of}
-use Rattle.vc_desk.specs.States.{ByName, chosen_in, open_count, with_session, without_session}
-use Rattle.vc_outside.proofs.NameLaws.{is_name, name_is, same_answers}
+use Rattle.vc_desk.specs.Desks.{AreSessionsOf, chosen_entry, open_of, Kept, state_of}
+use Rattle.vc_desk.specs.States.{ByName, chosen_in, open_count, with_session, without_session, State, kept, start_state}
 
 abbrev users_in : Option Opened → Option Chosen
 users_in found = option_map (λ session. session.users) found
@@ -207,3 +208,11 @@ module _ (plan : Plan) (sessions : ByName Opened) (of : AreSessionsOf plan sessi
 
   pub one_of : (name : List ℕ) (found : Opened) → get sessions name ≡ Some found → IsSessionOf plan found
   one_of name found there = subst IsOf there (of.each name)
+
+-- a desk of the plan at which no session is open has the state before the first link
+pub begins : (desk : Kept) (plan : Plan) (saved : Option Texts) (faults : ℕ) (Holds : Plan → State → Type 0)
+    → desk.plan ≡ plan → open_of desk.sessions ≡ empty
+    → Holds desk.plan (state_of desk.sessions saved faults) → Holds plan (start_state saved faults)
+begins desk plan saved faults Holds its none holds =
+    subst (λ p. Holds p (start_state saved faults)) its
+    (subst (Holds desk.plan) (ap (λ sessions. kept sessions saved faults) none) holds)

@@ -14,7 +14,6 @@ use Rattle.vc_wire_replies.specs.declared.reply.Refusal.{Refusal}
 use Rattle.vc_wire_replies.specs.declared.reply.Refusal.TheVariants.{NothingSaved, OutOfMemory}
 use Rattle.vc_wire_replies.specs.declared.reply.Reply.{Reply}
 use Rattle.vc_wire_replies.specs.declared.reply.Reply.TheVariants.{Forgotten, Refused, Saved}
-use Rattle.vc_store.specs.Saving.{saved_text}
 use Rattle.vc_desk.specs.Editing.{EditsTo}
 use Rattle.vc_desk.specs.Saved as wanted
 use Rattle.vc_desk.specs.Saved.{ForgetsSaved, IsGiven, IsKeeperRefusal, IsLoaded, IsSaved, LoadsSession}
@@ -23,6 +22,7 @@ use Rattle.vc_desk.specs.Saved.{UnlessKeeperFails, after_load, answers, exhauste
 use Rattle.vc_desk.specs.Saved.{keeper_refusal, loaded, memory, no_memory, refused}
 use Rattle.vc_desk.specs.States.{AreSaved, HoldsOfSaved, OpenSessions, kept}
 use Rattle.vc_desk.proofs.OpenLaws.{removed_none}
+use Rattle.vc_store.specs.Saving.{saved_text}
 
 -- what follows from what holds
 so_holds : {before after : Option Texts} (P Q : Texts → Texts → Type 0)

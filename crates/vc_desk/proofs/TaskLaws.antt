@@ -3,22 +3,22 @@ use Rattle.std.proofs.Common.{◌≡◌, ℕ, List, refl, subst}
 use Rattle.std.specs.Prelude.{Some}
 use Rattle.vc_plan.specs.declared.plans.Plan.{Plan}
 use Rattle.vc_session.specs.Sessions.{Opened}
-use Rattle.vc_wire_replies.specs.declared.reply.Reply.{Reply}
 use Rattle.vc_wire_requests.specs.declared.request.Request.{Request}
 use Rattle.vc_wire_requests.specs.declared.request.Request.TheVariants as requests
-use Rattle.vc_desk.specs.declared.edits.Edit.{Edit}
-use Rattle.vc_desk.specs.declared.edits.Edit.TheVariants as edits
-use Rattle.vc_desk.specs.declared.reasons.Question.{Question}
-use Rattle.vc_desk.specs.declared.reasons.Question.TheVariants as questions
-use Rattle.vc_desk.specs.declared.telling.Told.{Told}
-use Rattle.vc_desk.specs.declared.telling.Told.TheVariants as told
+use Rattle.vc_wire_replies.specs.declared.reply.Reply.{Reply}
+use Rattle.vc_desk_session.specs.declared.edits.Edit.{Edit}
+use Rattle.vc_desk_session.specs.declared.edits.Edit.TheVariants as edits
+use Rattle.vc_desk_session.specs.declared.reasons.Question.{Question}
+use Rattle.vc_desk_session.specs.declared.reasons.Question.TheVariants as questions
+use Rattle.vc_desk_session.specs.declared.telling.Told.{Told}
+use Rattle.vc_desk_session.specs.declared.telling.Told.TheVariants as told
+use Rattle.vc_desk_session.specs.Edits.{MayEdit, after_edit}
+use Rattle.vc_desk_session.specs.Reasons.{AsksSession, asked_by}
+use Rattle.vc_desk_session.specs.Telling.{text_told, told_as}
 use Rattle.vc_desk.specs.Answers.{Apply, EditsSession, TellsSession}
 use Rattle.vc_desk.specs.Costing.{AnswerSpends, SpendsOnEdit}
-use Rattle.vc_desk.specs.Edits.{MayEdit, after_edit}
-use Rattle.vc_desk.specs.Reasons.{AsksSession, asked_by}
 use Rattle.vc_desk.specs.States.{ByName, KeeperStays, State, chosen_in}
 use Rattle.vc_desk.specs.Tasks.{edit_request, reason_request, show_request}
-use Rattle.vc_desk.specs.Telling.{text_told, told_as}
 
 -- the request is the one that asks for the task
 pub same_request : {x y : Request} → Some x ≡ Some y → x ≡ y

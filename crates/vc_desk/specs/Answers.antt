@@ -4,8 +4,8 @@ use Rattle.std.specs.Prelude.{◌≡◌, ℕ, nat_lt, is_some, if◌then◌else�
 use Rattle.vc_plan.specs.declared.plans.Plan.{Plan}
 use Rattle.vc_plan.specs.declared.shown.Status.{Status}
 use Rattle.vc_plan.specs.Evaluate.{Users}
-use Rattle.vc_plan_reasons.specs.Blaming.{IsStatus}
 use Rattle.vc_plan_users.specs.Choosing.{Chosen, none_chosen, users_of}
+use Rattle.vc_plan_reasons.specs.Blaming.{IsStatus}
 use Rattle.vc_wire_requests.specs.declared.request.Request.{Request}
 use Rattle.vc_wire_requests.specs.declared.request.Request.TheVariants as requests
 use Rattle.vc_wire_replies.specs.declared.reply.Refusal.{Refusal}
@@ -14,9 +14,10 @@ use Rattle.vc_wire_replies.specs.declared.reply.Reply.{Reply}
 use Rattle.vc_wire_replies.specs.declared.reply.Reply.TheVariants.{BillShown, Closed, Done, Refused, RoutingShown}
 use Rattle.vc_wire_replies.specs.declared.reply.Reply.TheVariants.{Shown}
 use Rattle.vc_desk_shown.specs.Shown.{bill_shown, routing_shown, shown}
+use Rattle.vc_desk_session.specs.Edits.{after_add, after_drop, after_retract, after_set}
+use Rattle.vc_desk_session.specs.Reasons.{AsksSession, Conflict, Log, Why, WhyNot}
+use Rattle.vc_desk_session.specs.Telling.{Tells}
 use Rattle.vc_desk.specs.Editing.{EditsTo}
-use Rattle.vc_desk.specs.Edits.{after_add, after_drop, after_retract, after_set}
-use Rattle.vc_desk.specs.Reasons.{AsksSession, Conflict, Log, Why, WhyNot}
 use Rattle.vc_desk.specs.Saved.{ForgetsSaved, LoadsSession, SavesSession}
 use Rattle.vc_desk.specs.States.{KeeperStays, OpenSessions, State, chosen_in, open_count, with_session}
 use Rattle.vc_desk.specs.States.{without_session}
@@ -50,12 +51,6 @@ abbrev pub EditsSession : Plan → OpenSessions → List ℕ → (Chosen → Res
     → Type 0
 EditsSession plan sessions name edit None reply next = (reply ≡ Refused NoSession) × (next ≡ sessions)
 EditsSession plan sessions name edit (Some chosen) reply next = EditsTo plan sessions name (edit chosen) reply next
-
--- what is told of what is chosen: how it stands, and a text that it determines; memory may be wanting
-pub data Tells (plan : Plan) (users : Users) (tell : Status → List ℕ → Reply) (text : List ℕ) (reply : Reply) : Type 0
-  where
-    exhausted : reply ≡ Refused OutOfMemory → Tells plan users tell text reply
-    told : (status : Status) → IsStatus plan users status → reply ≡ tell status text → Tells plan users tell text reply
 
 -- of the session of this name, if one is open
 abbrev pub TellsSession : Plan → (Status → List ℕ → Reply) → (Plan → Users → List ℕ) → Option Chosen → Reply → Type 0

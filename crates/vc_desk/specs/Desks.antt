@@ -5,8 +5,8 @@ use Rattle.vc_outside.specs.Keepers.{Texts}
 use Rattle.vc_plan.specs.declared.plans.Plan.{Plan}
 use Rattle.vc_plan.specs.declared.shown.Status.{Status}
 use Rattle.vc_plan.specs.Valid.{IsValid}
-use Rattle.vc_plan_reasons.specs.Blaming.{IsStatus}
 use Rattle.vc_plan_users.specs.Choosing.{Chosen, none_chosen, users_of}
+use Rattle.vc_plan_reasons.specs.Blaming.{IsStatus}
 use Rattle.vc_proc_look_ups.specs.declared.look_ups.LookUps.{LookUps}
 use Rattle.vc_session_evaluation.specs.Sharing.{AreAllLookUpsOf}
 use Rattle.vc_session.specs.Costing.{HasStarted}
@@ -51,11 +51,6 @@ pub record IsDesk (desk : Kept) : Type 0 where
   pub valid : IsValid desk.plan
   pub look_ups : IfSome desk.look_ups (AreAllLookUpsOf desk.plan)
   pub sessions : AreSessionsOf desk.plan desk.sessions
-
--- what an edit of a session did: what is chosen is what the edit makes of it, or it is refused and nothing changes
-abbrev pub Edited : Chosen → Result Chosen Refusal → Chosen → Result Unit Refusal → Type 0
-Edited old after new (Ok done) = after ≡ Ok new
-Edited old after new (Err refusal) = (after ≡ Err refusal) × (new ≡ old)
 
 -- what is replied to an edit after which this is chosen
 abbrev pub RepliesTo : Plan → Chosen → Result Unit Refusal → Reply → Type 0

@@ -2,9 +2,7 @@ pub mod Answers
 pub mod Costing
 pub mod Desks
 pub mod Editing
-pub mod Edits
-pub mod Reasons
+pub mod Keeping
 pub mod Saved
 pub mod States
 pub mod Tasks
-pub mod Telling

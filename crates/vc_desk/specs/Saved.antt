@@ -7,10 +7,6 @@ use Rattle.vc_outside.specs.declared.keeper.KeepFault.{KeepFault}
 use Rattle.vc_outside.specs.declared.keeper.KeepFault.TheVariants as keep_faults
 use Rattle.vc_plan.specs.declared.plans.Plan.{Plan}
 use Rattle.vc_plan_users.specs.Choosing.{Chosen}
-use Rattle.vc_store.specs.Reading.{read_saved}
-use Rattle.vc_store.specs.Saving.{saved_text}
-use Rattle.vc_store.specs.declared.faults.SavedFault.{SavedFault}
-use Rattle.vc_store.specs.declared.faults.SavedFault.TheVariants as saved_faults
 use Rattle.vc_wire_replies.specs.declared.reply.Refusal.{Refusal}
 use Rattle.vc_wire_replies.specs.declared.reply.Refusal.TheVariants.{KeeperFault, NoSession, NothingSaved}
 use Rattle.vc_wire_replies.specs.declared.reply.Refusal.TheVariants.{OutOfMemory, SavedRefused}
@@ -19,6 +15,10 @@ use Rattle.vc_wire_replies.specs.declared.reply.Reply.TheVariants.{Forgotten, Re
 use Rattle.vc_wire_replies.specs.declared.reply.SavedRefusal.TheVariants.{NotJson, OtherModel, Shape, UnknownName}
 use Rattle.vc_desk.specs.Editing.{EditsTo}
 use Rattle.vc_desk.specs.States.{HoldsOfSaved, State}
+use Rattle.vc_store.specs.Reading.{read_saved}
+use Rattle.vc_store.specs.Saving.{saved_text}
+use Rattle.vc_store.specs.declared.faults.SavedFault.{SavedFault}
+use Rattle.vc_store.specs.declared.faults.SavedFault.TheVariants as saved_faults
 
 -- where the keeper failed, its count of faults rose, and it is said; where memory was wanting, that is said; nothing
 -- else changes then. Else it is answered so by the texts that are saved before and after

@@ -2,14 +2,14 @@
 use Rattle.std.specs.Prelude.{ℕ, List, Option, None, Some}
 use Rattle.vc_wire_requests.specs.declared.request.Request.{Request}
 use Rattle.vc_wire_requests.specs.declared.request.Request.TheVariants as requests
-use Rattle.vc_desk.specs.declared.edits.Edit.{Edit}
-use Rattle.vc_desk.specs.declared.edits.Edit.TheVariants as edits
-use Rattle.vc_desk.specs.declared.reasons.Question.{Question}
-use Rattle.vc_desk.specs.declared.reasons.Question.TheVariants as questions
+use Rattle.vc_desk_session.specs.declared.edits.Edit.{Edit}
+use Rattle.vc_desk_session.specs.declared.edits.Edit.TheVariants as edits
+use Rattle.vc_desk_session.specs.declared.reasons.Question.{Question}
+use Rattle.vc_desk_session.specs.declared.reasons.Question.TheVariants as questions
+use Rattle.vc_desk_session.specs.declared.telling.Told.{Told}
+use Rattle.vc_desk_session.specs.declared.telling.Told.TheVariants as told
 use Rattle.vc_desk.specs.declared.tasks.Task.{Task}
 use Rattle.vc_desk.specs.declared.tasks.Task.TheVariants as tasks
-use Rattle.vc_desk.specs.declared.telling.Told.{Told}
-use Rattle.vc_desk.specs.declared.telling.Told.TheVariants as told
 
 -- no request replaces all that was chosen by what it tells itself
 abbrev pub edit_request : List ℕ → Edit → Option Request

@@ -2,13 +2,9 @@
 #![tactic(auto)]
 
 pub mod desk;
-pub mod edits;
-pub mod reasons;
 pub mod saved;
 pub mod sessions;
 pub mod sharing;
 pub mod tasks;
-pub mod telling;
-pub mod words;
 
 pub use desk::Desk;

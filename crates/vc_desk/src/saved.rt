@@ -3,16 +3,16 @@
 ghost use Rattle.std.specs.Prelude.{◌≡◌, IfErr, IfOk, IsSome};
 ghost use Rattle.vc_plan.specs.Valid.{IsValid};
 ghost use Rattle.vc_session.specs.Sessions.{AreUsersOf};
-ghost use Rattle.vc_store.specs.Saving.{saved_text};
 ghost use Rattle.vc_desk.specs.Costing.{SpendsOnEdit};
 ghost use Rattle.vc_desk.specs.Desks.{AreSessionsOf, open_of, state_of};
 ghost use Rattle.vc_desk.specs.Saved as saved;
 ghost use Rattle.vc_desk.specs.States.{OpenSessions, chosen_in, kept};
+ghost use Rattle.vc_store.specs.Saving.{saved_text};
 
-use crate::edits::Edit;
 use crate::sessions::{Sessions, refused};
 use std::alloc::Global;
 use std::sync::ledger::Ledger;
+use vc_desk_session::Edit;
 use vc_outside::{KeepFault, Keeper};
 use vc_plan::Plan;
 use vc_plan_users::UserValues;

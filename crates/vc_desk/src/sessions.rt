@@ -5,20 +5,18 @@ ghost use Rattle.std.specs.FinMap.{empty, get, len};
 ghost use Rattle.std.specs.Option.{option_copied};
 ghost use Rattle.vc_plan.specs.Valid.{IsValid};
 ghost use Rattle.vc_session.specs.Sessions.{IsSessionOf};
+ghost use Rattle.vc_desk_session.specs.Edits.{MayEdit, after_edit};
+ghost use Rattle.vc_desk_session.specs.Telling.{text_told, told_as};
 ghost use Rattle.vc_desk.specs.Answers.{Closes, EditsSession, Starts, TellsSession};
 ghost use Rattle.vc_desk.specs.Desks.{AreSessionsOf, Opens, RepliesTo, open_of};
-ghost use Rattle.vc_desk.specs.Edits.{MayEdit, after_edit};
 ghost use Rattle.vc_desk.specs.States.{chosen_in};
-ghost use Rattle.vc_desk.specs.Telling.{text_told, told_as};
 
-use crate::edits::{Edit, apply};
-use crate::reasons::{Question, answer};
 use crate::sharing::shared;
-use crate::telling::{Told, tell};
 use std::alloc::{AllocError, Global};
 use std::collections::BTreeMap;
 use std::marker::Model;
 use std::sync::ledger::Ledger;
+use vc_desk_session::{Edit, Question, Told, answer, apply, tell};
 use vc_desk_shown::status;
 use vc_plan::{Plan, Status};
 use vc_session::Session;
@@ -87,10 +85,10 @@ impl Sessions {
     ghost use Rattle.vc_desk.specs.Costing.{OpensOne, SpendsOnEdit};
     ghost use Rattle.vc_desk.specs.Answers.{Closes, EditsSession, Starts, TellsSession};
     ghost use Rattle.vc_desk.specs.Desks.{AreSessionsOf, KeepsLookUps, Opens, open_of};
-    ghost use Rattle.vc_desk.specs.Edits.{MayEdit, after_edit};
-    ghost use Rattle.vc_desk.specs.Reasons.{AsksSession, asked_by};
+    ghost use Rattle.vc_desk_session.specs.Edits.{MayEdit, after_edit};
+    ghost use Rattle.vc_desk_session.specs.Reasons.{AsksSession, asked_by};
     ghost use Rattle.vc_desk.specs.States.{chosen_in};
-    ghost use Rattle.vc_desk.specs.Telling.{text_told, told_as};
+    ghost use Rattle.vc_desk_session.specs.Telling.{text_told, told_as};
 
     /// None is open.
     pub fn new(alloc: Global) -> Sessions

@@ -3,9 +3,7 @@
 ghost use Rattle.std.specs.Prelude.{◌≡◌, Some};
 ghost use Rattle.vc_desk.specs.Tasks.{request_of};
 
-use crate::edits::Edit;
-use crate::reasons::Question;
-use crate::telling::Told;
+use vc_desk_session::{Edit, Question, Told};
 use vc_value::Word;
 use vc_wire_requests::Request;
 

@@ -1,13 +1,13 @@
 -- What is chosen in the session is saved, or none has the name.
 use Rattle.std.proofs.Common.{◌∙◌, ap, refl, subst, sym, Err, Ok}
 use Rattle.std.specs.Option.{option_copied}
-use Rattle.vc_store.specs.Saving.{saved_text}
 use Rattle.vc_wire_replies.specs.declared.reply.Reply.TheVariants.{Saved}
 use Rattle.vc_desk.specs.Desks.{open_of, state_of}
 use Rattle.vc_desk.specs.Saved.{IsSaved, SavesSession}
 use Rattle.vc_desk.proofs.AnswerLaws.{none_chosen_in, one_chosen_in}
 use Rattle.vc_desk.proofs.SavedLaws.{saves_done, saves_failed}
 use Rattle.vc_desk.proofs.saved.save.Goals as goal
+use Rattle.vc_store.specs.Saving.{saved_text}
 
 pub returns-in-Ok-clause-saves : goal.returns-in-Ok-clause-saves
 returns-in-Ok-clause-saves g c =

@@ -1,10 +1,10 @@
 -- The text of what the user chose is put under the name.
 use Rattle.std.proofs.Common.{◌∙◌, ◌≡◌, subst}
 use Rattle.std.specs.FinMap.{insert}
-use Rattle.vc_store.specs.Saving.{saved_text}
 use Rattle.vc_desk.specs.States.{HoldsOfSaved}
 use Rattle.vc_desk.proofs.SavedLaws.{put_holds}
 use Rattle.vc_desk.proofs.saved.save_users.Goals as goal
+use Rattle.vc_store.specs.Saving.{saved_text}
 
 pub returns-in-Ok-clause-saves : goal.returns-in-Ok-clause-saves
 returns-in-Ok-clause-saves g c =

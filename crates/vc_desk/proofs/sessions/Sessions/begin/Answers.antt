@@ -2,8 +2,8 @@
 use Rattle.std.proofs.Common.{◌∙◌, ap}
 use Rattle.std.specs.FinMap.{from_entries, insert}
 use Rattle.std.specs.Prelude.{map}
-use Rattle.vc_desk.specs.Desks.{named_entry}
 use Rattle.vc_outside.proofs.NameLaws.{inserted}
+use Rattle.vc_desk.specs.Desks.{named_entry}
 use Rattle.vc_desk.proofs.sessions.Sessions.begin.Goals as goal
 
 pub returns-clause-opened : goal.returns-clause-opened

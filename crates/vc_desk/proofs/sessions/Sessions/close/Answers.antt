@@ -2,11 +2,11 @@
 use Rattle.std.proofs.Common.{◌≡◌, ◌∙◌, ap, sym, subst}
 use Rattle.std.specs.FinMap.{from_entries, get, remove}
 use Rattle.std.specs.Prelude.{map, is_some}
+use Rattle.vc_outside.proofs.NameLaws.{found, removed}
 use Rattle.vc_desk.specs.Answers.{Closes}
 use Rattle.vc_desk.specs.Desks.{AreSessionsOf, named_entry, open_of}
 use Rattle.vc_desk.specs.States.{chosen_in}
 use Rattle.vc_desk.proofs.AnswerLaws.{closes_none, closes_one}
-use Rattle.vc_outside.proofs.NameLaws.{found, removed}
 use Rattle.vc_desk.proofs.OpenLaws.{closed_sessions, removed_none}
 use Rattle.vc_desk.proofs.sessions.Sessions.close.Goals as goal
 use Rattle.vc_desk.proofs.sessions.Sessions.close.Goals.{else-found, then-found}

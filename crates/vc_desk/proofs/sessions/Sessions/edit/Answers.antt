@@ -3,16 +3,16 @@ use Rattle.std.proofs.Common.{◌∙◌, ap, sym, subst}
 use Rattle.std.specs.FinMap.{from_entries, get, insert}
 use Rattle.std.specs.Option.{option_copied_mut}
 use Rattle.std.specs.Prelude.{map}
-use Rattle.vc_desk.specs.Answers.{EditsSession}
+use Rattle.vc_outside.proofs.NameLaws.{found, value_set}
 use Rattle.vc_session.specs.Costing.{EditCosts}
 use Rattle.vc_wire_replies.specs.declared.reply.Refusal.TheVariants.{NoSession}
+use Rattle.vc_desk_session.specs.Edits.{after_edit}
+use Rattle.vc_desk.specs.Answers.{EditsSession}
 use Rattle.vc_desk.specs.Costing.{SpendsOnEdit, unedited}
 use Rattle.vc_desk.specs.Desks.{AreSessionsOf, RepliesTo, named_entry, open_of}
 use Rattle.vc_desk.proofs.CostLaws.{edits_spend}
-use Rattle.vc_desk.specs.Edits.{after_edit}
 use Rattle.vc_desk.specs.States.{chosen_in}
 use Rattle.vc_desk.proofs.AnswerLaws.{edits_none, edits_one}
-use Rattle.vc_outside.proofs.NameLaws.{found, value_set}
 use Rattle.vc_desk.proofs.OpenLaws.{changed_sessions, one_of}
 use Rattle.vc_desk.proofs.sessions.Sessions.edit.Goals as goal
 use Rattle.vc_desk.proofs.sessions.Sessions.edit.Goals.{in-Some, in-None}

@@ -1,7 +1,7 @@
 -- The session of the name is asked, or none has the name.
 use Rattle.std.proofs.Common.{◌∙◌, ap, sym}
 use Rattle.std.specs.Option.{option_copied}
-use Rattle.vc_desk.specs.Reasons.{asked_by}
+use Rattle.vc_desk_session.specs.Reasons.{asked_by}
 use Rattle.vc_desk.proofs.AnswerLaws.{asks_none, asks_one}
 use Rattle.vc_desk.proofs.sessions.Sessions.explain.Goals as goal
 

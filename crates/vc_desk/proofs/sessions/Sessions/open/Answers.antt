@@ -1,8 +1,8 @@
 -- A session is opened where its name is free and few are open.
 use Rattle.std.proofs.Common.{◌∙◌, ◌≤◌, ◌<◌, ap, arith, false, true, refl, subst, sym}
 use Rattle.std.specs.FinMap.{get, len}
-use Rattle.vc_plan_reasons.specs.Blaming.{IsStatus}
 use Rattle.vc_plan_users.specs.Choosing.{users_of}
+use Rattle.vc_plan_reasons.specs.Blaming.{IsStatus}
 use Rattle.vc_wire_replies.specs.declared.reply.Refusal.TheVariants.{NameTaken, TooManySessions}
 use Rattle.vc_desk.specs.Answers.{exhausted, refused, started}
 use Rattle.vc_desk.specs.Costing.{opened, unopened}

@@ -1,7 +1,7 @@
 -- It is told of the session of the name, or none has the name.
 use Rattle.std.proofs.Common.{◌∙◌, ap, sym}
 use Rattle.std.specs.Option.{option_copied}
-use Rattle.vc_desk.specs.Telling.{text_told, told_as}
+use Rattle.vc_desk_session.specs.Telling.{text_told, told_as}
 use Rattle.vc_desk.proofs.AnswerLaws.{tells_none, tells_one}
 use Rattle.vc_desk.proofs.sessions.Sessions.tell.Goals as goal
 

@@ -1,0 +1,3 @@
+pub mod Edits
+pub mod Reasons
+pub mod Telling
