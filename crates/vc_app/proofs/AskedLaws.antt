@@ -10,8 +10,25 @@ use Rattle.std.proofs.lemmas.Slice.Eq.{bytes_eq-Decides}
 use Rattle.vc_app_gen.specs.Counts.{families_asked}
 use Rattle.vc_app_serve.specs.Counts.{links_asked}
 use Rattle.vc_app_serve.specs.Serving.{Service}
-use Rattle.vc_app.specs.Endings.{IsCheck, Words}
-use Rattle.vc_app.specs.Asked.{IsGen, IsGenWith, IsNoGen, IsServe, IsServeWith, IsVerify}
+use Rattle.vc_app_run.specs.Endings.{Words}
+use Rattle.vc_app.specs.Asked.{IsGen, IsGenWith, IsNoGen, IsServe, IsServeWith, IsVerify, IsCheck}
+
+-- two words of which the first is `check`
+pub check_words : (words : Words) (a b : String Global) (command model : List ℕ) (is_check : Bool)
+    → 2 ≤ length words → length words < 3 → a ≡ get_or words 0 a → b ≡ get_or words 1 b
+    → command ≡ string_bytes a → model ≡ string_bytes b
+    → is_check ≡ bytes_eq command (codes "check") → is_check ≡ true → IsCheck words model
+check_words [] a b command model is_check least most p q r s test holds = absurd (omega arith)
+check_words (x ∷ []) a b command model is_check least most p q r s test holds = absurd (omega arith)
+check_words (x ∷ y ∷ []) a b command model is_check least most p q r s test holds =
+    let check : command ≡ codes "check" = (bytes_eq-Decides command (codes "check")).0 (sym test ∙ holds) in
+    cc
+check_words (x ∷ y ∷ z ∷ more) a b command model is_check least most p q r s test holds = absurd (omega arith)
+
+-- words ask to check one name
+pub one_name : (words : Words) (a b : List ℕ) → IsCheck words a → IsCheck words b → a ≡ b
+one_name words a b p q =
+    let e : codes "check" ∷ (a ∷ []) ≡ codes "check" ∷ (b ∷ []) = sym p ∙ q in ap (λ xs. get_or xs 1 a) e
 
 -- three words of which the first is `verify`
 pub verify_words : (words : Words) (a b d : String Global) (command model chain : List ℕ) (is_verify : Bool)

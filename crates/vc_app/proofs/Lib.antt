@@ -1,5 +1,1 @@
 pub mod AskedLaws
-pub mod EndingLaws
-pub mod ExactnessLaws
-pub mod SinkLaws
-pub mod StatusLaws

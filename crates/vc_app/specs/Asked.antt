@@ -1,11 +1,18 @@
--- What the words ask for beside a run: to verify a chain file, to make families of models, or to serve links; and that
--- they ask for none of the commands that take no script.
+-- What the words ask for beside a run: to check a model, to verify a chain file, to make families of models, or to
+-- serve links; and that they ask for none of these.
 use Rattle.std.specs.Prelude.{◌≡◌, ℕ, List, [], ◌∷◌, map, codes, string_bytes, Option, Some}
 use Rattle.std.specs.Option.{option_to_list}
 use Rattle.vc_app_gen.specs.Counts.{families_asked}
 use Rattle.vc_app_serve.specs.Counts.{links_asked}
 use Rattle.vc_app_serve.specs.Serving.{Service}
-use Rattle.vc_app.specs.Endings.{IsNoCheck, Words}
+use Rattle.vc_app_run.specs.Endings.{Words}
+
+-- the words are `check` and a name
+abbrev pub IsCheck : Words → List ℕ → Type 0
+IsCheck words model = map string_bytes words ≡ codes "check" ∷ (model ∷ [])
+
+abbrev pub IsNoCheck : Words → Type 0
+IsNoCheck words = (model : List ℕ) → ¬ IsCheck words model
 
 -- the words are `verify` and two names
 abbrev pub IsVerify : Words → List ℕ → List ℕ → Type 0

@@ -1,5 +1,1 @@
 pub mod Asked
-pub mod Endings
-pub mod Exactness
-pub mod Keeping
-pub mod Statuses

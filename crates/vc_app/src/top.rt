@@ -1,134 +1,26 @@
 //! The top call.
 
-ghost use Rattle.std.specs.Prelude.{◌≡◌, ℕ, List, ◌≤◌, ◌<◌, false, IsSome, OnOk};
-ghost use Rattle.std.specs.Result.{IsErrOf};
-ghost use Rattle.vc_outside.specs.Faults.{Raised};
-ghost use Rattle.vc_plan.specs.Valid.{IsValid};
+ghost use Rattle.std.specs.Prelude.{◌≡◌, ℕ, List, false};
+ghost use Rattle.vc_desk.specs.Keeping.{keeping};
 ghost use Rattle.vc_app_check.specs.Checking.{EndsCheck};
+ghost use Rattle.vc_app_check.specs.Checking.{outside};
+ghost use Rattle.vc_app_verify.specs.Verifying.{EndsVerify};
 ghost use Rattle.vc_app_gen.specs.Generating.{EndsGen};
 ghost use Rattle.vc_app_serve.specs.Serving.{EndsServe, Service, at_door};
 ghost use Rattle.vc_app_serve.specs.Visits.{links, telling};
-ghost use Rattle.vc_app_verify.specs.Verifying.{EndsVerify};
+ghost use Rattle.vc_app_run.specs.Exactness.{IsExact};
+ghost use Rattle.vc_app_run.specs.Statuses.{IsStatus};
 ghost use Rattle.vc_app.specs.Asked as asked;
-ghost use Rattle.vc_app.specs.Endings as endings;
-ghost use Rattle.vc_app.specs.Endings.{keeping, outside};
-ghost use Rattle.vc_app.specs.Exactness.{IsExact};
-ghost use Rattle.vc_app.specs.Statuses.{IsStatus};
-ghost use Rattle.vc_app_script.specs.Transcript as transcript;
 
-use crate::ending::{Ending, Stop, say_stop, write_text};
-use crate::loading::{
-    Job, Serving, checked_name, families_of, keep_file, load_job, service_of, verified_names,
-};
+use crate::words::{Serving, checked_name, families_of, service_of, verified_names};
 use std::alloc::Global;
-use std::marker::Brand;
-use std::sync::ledger::{Blank, Ledger};
 use vc_app_check::check;
 use vc_app_gen::generate;
-use vc_app_script::{ScriptFault, answer_script};
+use vc_app_run::end;
 use vc_app_serve::serve;
 use vc_app_verify::verify;
-use vc_desk::Desk;
-use vc_outside::{Failed, Keeper, Shelf, Sink};
+use vc_outside::{Keeper, Shelf, Sink};
 use vc_outside_links::{Door, Link};
-use vc_plan::Plan;
-use vc_value_steps::Steps;
-
-/// Says that memory was wanting at a line.
-fn say_exhausted<S: Sink>(out: &mut S) -> Ending
-    ensures ends { endings.EndsExhausted (S.written out.old) (S.written out.new) result }
-    ensures cause { endings.HasSinkCause (S.faults out.old) (S.faults out.new) result }
-    ensures later { S.faults out.old ≤ S.faults out.new }
-{
-    match write_text(out, "no memory\n") {
-        Ok(()) => Ending::Exhausted,
-        Err(Failed) => Ending::ExhaustedCut,
-    }
-}
-
-/// Answers a script with no session open at first. Steps are counted in the blank's ledger.
-fn answer_from_start<K: Keeper, L: Ledger, S: Sink>(
-    alloc: Global,
-    plan: Plan,
-    script: &[u8],
-    keeper: &mut K,
-    out: &mut S,
-    blank: Blank,
-) -> Result<(), ScriptFault>
-    requires valid { IsValid plan }
-    requires begun { IsSome (K.begun keeper.old) }
-    requires name { blank.name ≡ L.name }
-    requires parts { blank.parts ≡ L.parts }
-    requires some { 0 < blank.parts }
-    ensures done { OnOk result (transcript.AnswersAll plan script.now
-        (keeping (K.texts keeper.old) (K.texts keeper.new) (K.faults keeper.old) (K.faults keeper.new)
-        (K.begun keeper.new)) (S.written out.old) (S.written out.new)) }
-    ensures memory { IsErrOf result ScriptFault.OutOfMemory → transcript.AnswersSome plan script.now
-        (keeping (K.texts keeper.old) (K.texts keeper.new) (K.faults keeper.old) (K.faults keeper.new)
-        (K.begun keeper.new)) (S.written out.old) (S.written out.new) }
-    ensures cut { IsErrOf result ScriptFault.Sink → transcript.BreaksOff plan script.now
-        (keeping (K.texts keeper.old) (K.texts keeper.new) (K.faults keeper.old) (K.faults keeper.new)
-        (K.begun keeper.new)) (S.written out.old) (S.written out.new) }
-    ensures cause { IsErrOf result ScriptFault.Sink → Raised (S.faults out.old) (S.faults out.new) }
-    ensures later { S.faults out.old ≤ S.faults out.new }
-    ensures begun { K.begun keeper.new ≡ K.begun keeper.old }
-{
-    let mut desk = Desk::new(alloc, plan);
-    let mut steps: Steps<L> = Steps::new(blank);
-    let answered = answer_script(alloc, &mut desk, keeper, script, out, &mut steps);
-    drop(steps);
-    drop(desk);
-    answered
-}
-
-fn run_job<K: Keeper, S: Sink>(alloc: Global, job: Job, keeper: &mut K, out: &mut S) -> Ending
-    requires valid { IsValid job.plan }
-    requires begun { IsSome (K.begun keeper.old) }
-    ensures ends { endings.EndsJob job
-        (keeping (K.texts keeper.old) (K.texts keeper.new) (K.faults keeper.old) (K.faults keeper.new)
-        (K.begun keeper.new)) (S.written out.old) (S.written out.new) result }
-    ensures cause { endings.HasSinkCause (S.faults out.old) (S.faults out.new) result }
-    ensures later { S.faults out.old ≤ S.faults out.new }
-    ensures begun { K.begun keeper.new ≡ K.begun keeper.old }
-{
-    let Job { plan, script } = job;
-    match answer_from_start::<K, Brand, S>(
-        alloc,
-        plan,
-        script.bytes(),
-        keeper,
-        out,
-        Blank::new(1),
-    ) {
-        Ok(()) => Ending::Answered,
-        Err(ScriptFault::Sink) => Ending::AnswerCut,
-        Err(ScriptFault::OutOfMemory) => say_exhausted(out),
-    }
-}
-
-/// Does what the words ask, and says how it ended.
-fn end<F: Shelf, K: Keeper, S: Sink>(
-    alloc: Global,
-    words: &[String],
-    shelf: &mut F,
-    keeper: &mut K,
-    out: &mut S,
-) -> Ending
-    ensures ends { endings.Ends words.now
-        (outside (F.files shelf.old) (F.faults shelf.old) (F.faults shelf.new) (S.written out.old)
-        (S.written out.new) (S.faults out.old) (S.faults out.new))
-        (keeping (K.texts keeper.old) (K.texts keeper.new) (K.faults keeper.old) (K.faults keeper.new)
-        (K.begun keeper.new)) (keeper.new ≡ keeper.old) result }
-    ensures cause { endings.HasSinkCause (S.faults out.old) (S.faults out.new) result }
-{
-    match load_job(alloc, shelf, words) {
-        Ok(job) => match keeper.begin(keep_file(words)) {
-            Ok(()) => run_job(alloc, job, keeper, out),
-            Err(fault) => say_stop(alloc, out, words, Stop::Keeper(fault)),
-        },
-        Err(stop) => say_stop(alloc, out, words, stop),
-    }
-}
 
 /// Serves links where the words ask for that, and does else what they ask for.
 fn serve_or_run<F: Shelf, K: Keeper, D: Door, S: Sink>(
@@ -146,7 +38,7 @@ fn serve_or_run<F: Shelf, K: Keeper, D: Door, S: Sink>(
         (outside (F.files shelf.old) (F.faults shelf.old) (F.faults shelf.new) (S.written out.old)
         (S.written out.new) (S.faults out.old) (S.faults out.new))
         (keeping (K.texts keeper.old) (K.texts keeper.new) (K.faults keeper.old) (K.faults keeper.new)
-        (K.begun keeper.new))
+        (K.begun keeper.new)) ((keeper.new ≡ keeper.old) × (door.new ≡ door.old))
         (at_door (links (D.coming door.old) (D.coming door.new) (D.finished door.old) (D.finished door.new))
         (D.address door.old) (D.address door.new) (D.faults door.old) (D.faults door.new)) result }
     ensures door { asked.IsNoServe words.now → door.new ≡ door.old }
@@ -189,7 +81,7 @@ pub fn desk<F: Shelf, K: Keeper, D: Door, S: Sink>(
     requires home { D.is_out door.old ≡ false }
     ensures home { D.is_out door.new ≡ false }
     // `check`: what the model comes to is said, and nothing else.
-    ensures check { (name : List ℕ) → endings.IsCheck words.now name → EndsCheck name
+    ensures check { (name : List ℕ) → asked.IsCheck words.now name → EndsCheck name
         (outside (F.files shelf.old) (F.faults shelf.old) (F.faults shelf.new) (S.written out.old)
         (S.written out.new) (S.faults out.old) (S.faults out.new))
         result × (keeper.new ≡ keeper.old) }
@@ -207,7 +99,7 @@ pub fn desk<F: Shelf, K: Keeper, D: Door, S: Sink>(
         (outside (F.files shelf.old) (F.faults shelf.old) (F.faults shelf.new) (S.written out.old)
         (S.written out.new) (S.faults out.old) (S.faults out.new))
         (keeping (K.texts keeper.old) (K.texts keeper.new) (K.faults keeper.old) (K.faults keeper.new)
-        (K.begun keeper.new))
+        (K.begun keeper.new)) ((keeper.new ≡ keeper.old) × (door.new ≡ door.old))
         (at_door (links (D.coming door.old) (D.coming door.new) (D.finished door.old) (D.finished door.new))
         (D.address door.old) (D.address door.new) (D.faults door.old) (D.faults door.new)) result }
     // Any other leaves the door as it was.

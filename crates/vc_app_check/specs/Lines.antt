@@ -1,7 +1,9 @@
--- What is written of a model that is checked: the counts of its plan, or why it has none.
+-- What is written of a model that is checked: the counts of its plan, or why it has none; and why no keeper was begun.
 use Rattle.std.specs.Prelude.{ℕ, List, ◌++◌, length, decimal, codes, Option, Some, None}
 use Rattle.vc_outside.specs.declared.file.FileFault.{FileFault}
 use Rattle.vc_outside.specs.declared.file.FileFault.TheVariants as files
+use Rattle.vc_outside.specs.declared.keeper.KeepFault.{KeepFault}
+use Rattle.vc_outside.specs.declared.keeper.KeepFault.TheVariants as keepers
 use Rattle.vc_model_faults.specs.Faults as text_faults
 use Rattle.vc_model_faults.specs.declared.fault.ModelFaultKind.{ModelFaultKind}
 use Rattle.vc_table.specs.Faults as table_faults
@@ -86,3 +88,8 @@ stop_line name (stops.TableUnread file fault) = file_line file fault
 stop_line name (stops.TableRefused table fault) = table_line table fault
 stop_line name (stops.Uncompiled fault) = compile_line fault
 stop_line name stops.OutOfMemory = memory_line
+
+-- why a keeper couldn't be begun
+abbrev pub keeper_line : KeepFault → List ℕ
+keeper_line keepers.Failed = codes "keeper fault\n"
+keeper_line keepers.OutOfMemory = memory_line

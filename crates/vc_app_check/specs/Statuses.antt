@@ -1,7 +1,9 @@
--- The exit status where a model has no plan.
+-- The exit status where a model has no plan, or no keeper was begun.
 use Rattle.std.specs.Prelude.{ℕ}
 use Rattle.vc_outside.specs.declared.file.FileFault.{FileFault}
 use Rattle.vc_outside.specs.declared.file.FileFault.TheVariants as files
+use Rattle.vc_outside.specs.declared.keeper.KeepFault.{KeepFault}
+use Rattle.vc_outside.specs.declared.keeper.KeepFault.TheVariants as keepers
 use Rattle.vc_table.specs.declared.table.TableFault.{TableFault}
 use Rattle.vc_table.specs.declared.table.TableFault.TheVariants as tables
 use Rattle.vc_compile_plan.specs.declared.fault.CompileFault.{CompileFault}
@@ -38,3 +40,8 @@ stop_status (stops.TableUnread file fault) = file_status fault
 stop_status (stops.TableRefused table fault) = table_status fault
 stop_status (stops.Uncompiled fault) = compile_status fault
 stop_status stops.OutOfMemory = 8
+
+-- where a keeper couldn't be begun
+abbrev pub keeper_status : KeepFault → ℕ
+keeper_status keepers.Failed = 7
+keeper_status keepers.OutOfMemory = 8

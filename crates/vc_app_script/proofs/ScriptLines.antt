@@ -1,12 +1,13 @@
 -- The first line of a text and what follows it.
-use Rattle.std.proofs.Common.{◌≡◌, ℕ, ◌+◌, ◌<◌, ◌≤◌, Bool, true, false, List, [], ◌∷◌, length, take, drop, cond, refl}
+use Rattle.std.proofs.Common.{◌≡◌, ℕ, ◌+◌, ◌<◌, ◌≤◌, Bool, List, [], ◌∷◌, length, take, drop, refl}
 use Rattle.std.proofs.Common.{ap, ◌∙◌, arith, Some, None}
-use Rattle.std.specs.Prelude.{position, ◌==◌, nat_lt}
+use Rattle.std.specs.Prelude.{position, ◌==◌}
 use Rattle.std.specs.List.{slice_split, position_or_len}
 use Rattle.std.specs.Str.Lines.{lines_of_parts, strip_carriage_return}
 use Rattle.std.proofs.lemmas.List.Splits.{slice_split_first, slice_split_none, length-slice_split}
 use Rattle.std.proofs.lemmas.List.Sums.{fails_before_first}
-use Rattle.std.proofs.lemmas.Bool.{ltb-true, ltb-false, ne_eqb}
+use Rattle.std.proofs.lemmas.Bool.{ne_eqb}
+use Rattle.vc_base.proofs.ListLaws.{position_found, position_missing}
 use Rattle.vc_app_script.specs.Script.{lines_of}
 
 -- a line before further parts
@@ -14,28 +15,6 @@ lines-onto : (line : List ℕ) (parts : List (List ℕ)) → 0 < length parts
     → lines_of_parts (line ∷ parts) ≡ strip_carriage_return line ∷ lines_of_parts parts
 lines-onto line [] h = absurd (omega arith)
 lines-onto line (part ∷ parts) h = refl
-
--- what a position says
-position_found : {A : Type 0} (p : A → Bool) (xs : List A) (at : ℕ) → position p xs ≡ Some at
-    → (position_or_len p xs ≡ at) × (at < length xs)
-position_found p xs at h =
-    elim (nat_lt (position_or_len p xs) (length xs)) as
-    (λ b. nat_lt (position_or_len p xs) (length xs) ≡ b → cond b (Some (position_or_len p xs)) None ≡ Some at
-    → (position_or_len p xs ≡ at) × (at < length xs)) [
-      | true ↦ λ test e. let same : position_or_len p xs
-          ≡ at = cc in (same, let below : position_or_len p xs < length xs = ltb-true _ _ test in omega arith)
-      | false ↦ λ test e. cc
-    ] refl h
-
--- what no position says
-position_missing : {A : Type 0} (p : A → Bool) (xs : List A) → position p xs ≡ None → length xs ≤ position_or_len p xs
-position_missing p xs h =
-    elim (nat_lt (position_or_len p xs) (length xs)) as
-    (λ b. nat_lt (position_or_len p xs) (length xs) ≡ b → cond b (Some (position_or_len p xs)) None ≡ None
-    → length xs ≤ position_or_len p xs) [
-      | true ↦ λ test e. cc
-      | false ↦ λ test e. ltb-false _ _ test
-    ] refl h
 
 pub first_line : (text : List ℕ) (at : ℕ) → position (λ byte. byte == 10) text ≡ Some at
     → lines_of text ≡ strip_carriage_return (take at text) ∷ lines_of (drop (at + 1) text)

@@ -1,7 +1,6 @@
 -- Laws of transcripts: one line more, whole or cut short.
 use Rattle.std.proofs.Common.{◌≡◌, ℕ, false, List, [], ◌∷◌, ◌++◌, sym, ap, subst, ◌∙◌, append_assoc, append-nil, refl}
 use Rattle.std.proofs.Common.{Option}
-use Rattle.std.specs.FinMap.{empty}
 use Rattle.std.specs.Io.KnownBytes.{Appends}
 use Rattle.std.proofs.KnownBytes.{Appends-trans}
 use Rattle.vc_base.proofs.RunLaws.{Run-push}
@@ -10,8 +9,8 @@ use Rattle.vc_plan.specs.declared.plans.Plan.{Plan}
 use Rattle.vc_wire_requests.specs.declared.request.Request.{Request}
 use Rattle.vc_wire_replies.specs.Replies.{reply_text}
 use Rattle.vc_wire_replies.specs.declared.reply.Reply.{Reply}
-use Rattle.vc_desk.specs.Desks.{Kept, open_of, state_of}
-use Rattle.vc_desk.specs.States.{State, kept, start_state}
+use Rattle.vc_desk.specs.Desks.{Kept, state_of}
+use Rattle.vc_desk.specs.States.{State}
 use Rattle.vc_app_script.specs.Script.{lines_of, is_skipped}
 use Rattle.vc_app_script.specs.Transcript.{asked_by, RepliesAsked, AnswersAsked, LeavesAsked, AnswersLine, Transcript}
 use Rattle.vc_app_script.specs.Transcript.{LineStands, done_unsaid, StandsAt, LineDone, LineUnsaid, LineCut, IsAnswered}
@@ -36,14 +35,6 @@ pub line_unsaid : (plan : Plan) (state : State) (line : List ℕ) (request : Opt
     → LineStands plan state line next
 line_unsaid plan state line request next skipped asked answer =
     done_unsaid answer.0 (line_answer plan state line request answer.0 next skipped asked answer.1)
-
--- a desk of the plan at which no session is open has the state before the script
-pub begins : (desk : Kept) (plan : Plan) (saved : Option Texts) (faults : ℕ) (Holds : Plan → State → Type 0)
-    → desk.plan ≡ plan → open_of desk.sessions ≡ empty
-    → Holds desk.plan (state_of desk.sessions saved faults) → Holds plan (start_state saved faults)
-begins desk plan saved faults Holds its none holds =
-    subst (λ p. Holds p (start_state saved faults)) its
-    (subst (Holds desk.plan) (ap (λ sessions. kept sessions saved faults) none) holds)
 
 -- the state of a desk beside its keeper
 abbrev pub state_beside : {Keeper : Type 0} → (Keeper → Option Texts) → (Keeper → ℕ) → Kept → Keeper → State

@@ -11,7 +11,7 @@ use Rattle.vc_wire_replies.specs.declared.reply.Reply.{Reply}
 use Rattle.vc_wire_replies.specs.declared.reply.Reply.TheVariants.{NotARequest}
 use Rattle.vc_desk.specs.Answers.{Apply}
 use Rattle.vc_desk.specs.States.{OpenSessions, State, kept, start_state}
-use Rattle.vc_app_serve.specs.Keeping.{Keeping}
+use Rattle.vc_desk.specs.Keeping.{Keeping}
 use Rattle.vc_app_script.specs.Script.{lines_of, is_skipped}
 
 -- the most bytes of a line that may be a request

@@ -1,12 +1,9 @@
 -- Laws of a desk that is asked to serve links.
-use Rattle.std.proofs.Common.{◌≡◌, ℕ, List, Option, Some, Result, Ok, Err, refl, ap, subst, ◌∙◌}
-use Rattle.std.specs.FinMap.{empty}
+use Rattle.std.proofs.Common.{◌≡◌, ℕ, List, Option, Some, Result, Ok, Err, refl, subst, ◌∙◌}
 use Rattle.vc_outside.specs.Faults.{HasCause, Raised}
-use Rattle.vc_outside.specs.Keepers.{Texts}
 use Rattle.vc_outside.specs.declared.fault.Failed.{Failed}
 use Rattle.vc_plan.specs.declared.plans.Plan.{Plan}
-use Rattle.vc_desk.specs.Desks.{Kept, open_of, state_of}
-use Rattle.vc_desk.specs.States.{State, kept, start_state}
+use Rattle.vc_desk.specs.States.{State}
 use Rattle.vc_app_serve.specs.Readying.{IsUnready, TakesNone, stopped_by_door}
 use Rattle.vc_app_serve.specs.Serving.{AtDoor, DeskEnds, at_door, behind_links, in_listening}
 use Rattle.vc_app_serve.specs.Visits.{ServesUnless, Telling, links}
@@ -53,11 +50,3 @@ module _ {C : Type 0} (tells : Telling C) (plan : Plan) (address : List ℕ) (co
     serves = serves_then tells plan before after coming coming_between coming_after finished finished_between
         finished_after serves.0 none serves.2;
   }
-
--- a desk of the plan at which no session is open has the state before the first link
-pub begins : (desk : Kept) (plan : Plan) (saved : Option Texts) (faults : ℕ) (Holds : Plan → State → Type 0)
-    → desk.plan ≡ plan → open_of desk.sessions ≡ empty
-    → Holds desk.plan (state_of desk.sessions saved faults) → Holds plan (start_state saved faults)
-begins desk plan saved faults Holds its none holds =
-    subst (λ p. Holds p (start_state saved faults)) its
-    (subst (Holds desk.plan) (ap (λ sessions. kept sessions saved faults) none) holds)

@@ -7,12 +7,12 @@ use Rattle.vc_outside.specs.Shelves.{Files}
 use Rattle.vc_outside.specs.declared.keeper.KeepFault.TheVariants as keep_faults
 use Rattle.vc_plan.specs.declared.plans.Plan.{Plan}
 use Rattle.vc_compile_plan.specs.Trees.{Spot}
+use Rattle.vc_desk.specs.Keeping.{Keeping}
 use Rattle.vc_app_models.specs.Loading.{IsPlanIn, IsStop}
 use Rattle.vc_app_models.specs.declared.stop.ModelStop.{ModelStop}
 use Rattle.vc_app_models.proofs.OneLaws.{no_stop, one_stop}
 use Rattle.vc_app_check.specs.Checking.{IsQuiet, IsSaid, IsWritten, Outside}
 use Rattle.vc_app_check.proofs.CheckLaws.{told_stop}
-use Rattle.vc_app_serve.specs.Keeping.{Keeping}
 use Rattle.vc_app_serve.specs.Serving.{AtDoor, Ends, EndsServe, IsRefused, Read, Says, Service, read_by}
 use Rattle.vc_app_serve.specs.Telling.{IsToldAs, IsToldOf, exhausted, itself, stop_line, stop_status}
 use Rattle.vc_app_serve.specs.Visits.{Telling}
@@ -55,11 +55,11 @@ module _ (p : Spot) (name : List ℕ) (o : Outside) (status : ℕ) (files : File
       (caused a x) (caused b y)
 
 -- so what was said is what is due
-module _ (p : Spot) {C : Type 0} (tells : Telling C) (s : Service) (o : Outside) (k : Keeping) (d : AtDoor C)
-    (status : ℕ) (files : Files) (q : IsQuiet o files status) where
-  stop_due : (end : Result Unit Stop) → Ends tells s (read_by o) k d end → Says s o status end → (stop : ModelStop)
-      → stop_status (stops.Model stop) ≢ 8 → IsStop o.files o.shelf_before o.shelf_after s.model stop
-      → IsRefused s o status stop
+module _ (p : Spot) {C : Type 0} (tells : Telling C) (s : Service) (o : Outside) (k : Keeping) (Stays : Type 0)
+    (d : AtDoor C) (status : ℕ) (files : Files) (q : IsQuiet o files status) where
+  stop_due : (end : Result Unit Stop) → Ends tells s (read_by o) k Stays d end → Says s o status end
+      → (stop : ModelStop) → stop_status (stops.Model stop) ≢ 8
+      → IsStop o.files o.shelf_before o.shelf_after s.model stop → IsRefused s o status stop
   stop_due (Ok done) ends says stop memory cause =
       absurd (never_both p s.model o status files q ends.plan stop memory ends.loads cause)
   stop_due (Err (stops.Model other)) ends says stop memory cause =
@@ -75,7 +75,7 @@ module _ (p : Spot) {C : Type 0} (tells : Telling C) (s : Service) (o : Outside)
   stop_due (Err stops.Door) ends says stop memory cause =
       absurd (never_both p s.model o status files q ends.plan stop memory ends.loads cause)
 
-  plan_due : (end : Result Unit Stop) → Ends tells s (read_by o) k d end → Says s o status end
+  plan_due : (end : Result Unit Stop) → Ends tells s (read_by o) k Stays d end → Says s o status end
       → ¬ Raised k.faults_before k.faults_after → ¬ Raised d.faults_before d.faults_after → (plan : Plan)
       → IsPlanIn o.files s.model plan → status ≡ 0
   plan_due (Ok done) ends says keeper door plan has = says.0
@@ -90,31 +90,34 @@ module _ (p : Spot) {C : Type 0} (tells : Telling C) (s : Service) (o : Outside)
       absurd (q.memory (was_said o status files q (stop_line s.model stops.OutOfMemory) 8 says).1)
   plan_due (Err stops.Door) ends says keeper door plan has = absurd (door ends.ends.ends.raised)
 
-pub ends_with : Spot → {C : Type 0} → (tells : Telling C) (s : Service) (o : Outside) (k : Keeping) (d : AtDoor C)
-    (status : ℕ) (end : Result Unit Stop)
-    → Ends tells s (read_by o) k d end → Says s o status end → EndsServe tells s o k d status
-ends_with p tells s o k d status end ends says = record {
+pub ends_with : Spot → {C : Type 0} → (tells : Telling C) (s : Service) (o : Outside) (k : Keeping) (Stays : Type 0)
+    (d : AtDoor C) (status : ℕ) (end : Result Unit Stop)
+    → Ends tells s (read_by o) k Stays d end → Says s o status end → EndsServe tells s o k Stays d status
+ends_with p tells s o k Stays d status end ends says = record {
   end = end;
   ends = ends;
   says = says;
-  exact = λ files stop q memory cause. stop_due p tells s o k d status files q end ends says stop memory cause;
+  exact = λ files stop q memory cause. stop_due p tells s o k Stays d status files q end ends says stop memory cause;
   complete = λ files plan q keeper door has.
-      plan_due p tells s o k d status files q end ends says keeper door plan has;
+      plan_due p tells s o k Stays d status files q end ends says keeper door plan has;
 }
 
 -- what a stop is told as stops too
-told_stops : {C : Type 0} (tells : Telling C) (s : Service) (r : Read) (k : Keeping) (d : AtDoor C) (stop told : Stop)
-    → IsToldAs stop told → Ends tells s r k d (Err stop) → Ends tells s r k d (Err told)
-told_stops tells s r k d stop told (itself same) ends = subst (λ x. Ends tells s r k d (Err x)) (sym same) ends
-told_stops tells s r k d stop told (exhausted of is same) ends =
-    let unread = subst (λ x. Ends tells s r k d (Err x)) is ends in
-    subst (λ x. Ends tells s r k d (Err x)) (sym same)
-    (record { cause = tt; saved = unread.saved; faults = unread.faults; stays = unread.stays })
+told_stops : {C : Type 0} (tells : Telling C) (s : Service) (r : Read) (k : Keeping) (Stays : Type 0) (d : AtDoor C)
+    (stop told : Stop)
+    → IsToldAs stop told → Ends tells s r k Stays d (Err stop) → Ends tells s r k Stays d (Err told)
+told_stops tells s r k Stays d stop told (itself same) ends =
+    subst (λ x. Ends tells s r k Stays d (Err x)) (sym same) ends
+told_stops tells s r k Stays d stop told (exhausted of is same) ends =
+    let unread = subst (λ x. Ends tells s r k Stays d (Err x)) is ends in
+    subst (λ x. Ends tells s r k Stays d (Err x)) (sym same)
+    (record { cause = tt; saved = unread.saved; faults = unread.faults; both = unread.both; stays = unread.stays })
 
-pub ends_told : Spot → {C : Type 0} → (tells : Telling C) (s : Service) (o : Outside) (k : Keeping) (d : AtDoor C)
-    (status : ℕ) (stop : Stop)
-    → Ends tells s (read_by o) k d (Err stop)
+pub ends_told : Spot → {C : Type 0} → (tells : Telling C) (s : Service) (o : Outside) (k : Keeping) (Stays : Type 0)
+    (d : AtDoor C) (status : ℕ) (stop : Stop)
+    → Ends tells s (read_by o) k Stays d (Err stop)
     → IsToldOf s.model stop o.written_before o.written_after o.sink_before o.sink_after status
-    → EndsServe tells s o k d status
-ends_told p tells s o k d status stop ends t =
-    ends_with p tells s o k d status (Err t.told) (told_stops tells s (read_by o) k d stop t.told t.as_told ends) t.said
+    → EndsServe tells s o k Stays d status
+ends_told p tells s o k Stays d status stop ends t =
+    ends_with p tells s o k Stays d status (Err t.told)
+    (told_stops tells s (read_by o) k Stays d stop t.told t.as_told ends) t.said

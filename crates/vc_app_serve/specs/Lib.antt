@@ -1,5 +1,4 @@
 pub mod Counts
-pub mod Keeping
 pub mod Readying
 pub mod Serving
 pub mod Telling

@@ -7,10 +7,10 @@ use Rattle.vc_outside.specs.Shelves.{Files}
 use Rattle.vc_outside.specs.declared.keeper.KeepFault.{KeepFault}
 use Rattle.vc_plan.specs.declared.plans.Plan.{Plan}
 use Rattle.vc_desk.specs.States.{OpenSessions, State, kept, start_state}
+use Rattle.vc_desk.specs.Keeping.{Keeping}
 use Rattle.vc_app_models.specs.Loading.{IsPlanIn, IsStop}
 use Rattle.vc_app_models.specs.declared.stop.ModelStop.{ModelStop}
 use Rattle.vc_app_check.specs.Checking.{IsQuiet, IsSaid, Outside}
-use Rattle.vc_app_serve.specs.Keeping.{Keeping}
 use Rattle.vc_app_serve.specs.Telling.{stop_line, stop_status}
 use Rattle.vc_app_serve.specs.Visits.{Links, Serves, Telling}
 use Rattle.vc_app_serve.specs.declared.stop.Stop.{Stop}
@@ -119,21 +119,23 @@ pub record IsUnkept {Conn : Type 0} (s : Service) (r : Read) (k : Keeping) (d : 
   pub saved : k.saved_after ≡ k.saved_before
   pub stays : IsUntouched d
 
--- the model has no plan, and neither keeper nor door was asked
-pub record HasNoPlan {Conn : Type 0} (s : Service) (r : Read) (k : Keeping) (d : AtDoor Conn) (stop : ModelStop) :
-    Type 0 where
+-- the model has no plan, and neither keeper nor door was asked: both stay, as `Stays` says
+pub record HasNoPlan {Conn : Type 0} (s : Service) (r : Read) (k : Keeping) (Stays : Type 0) (d : AtDoor Conn)
+    (stop : ModelStop) : Type 0 where
   pub cause : IsStop r.files r.before r.after s.model stop
   pub saved : k.saved_after ≡ k.saved_before
   pub faults : k.faults_after ≡ k.faults_before
+  pub both : Stays
   pub stays : IsUntouched d
 
 -- how it ended: the model has no plan; or the keeper couldn't be begun; or it was, and a desk ended so
-abbrev pub Ends : {Conn : Type 0} → Telling Conn → Service → Read → Keeping → AtDoor Conn → Result Unit Stop → Type 0
-Ends tells s r k d (Ok done) = PlanEnds tells s r k d (Ok done)
-Ends tells s r k d (Err (stops.Model stop)) = HasNoPlan s r k d stop
-Ends tells s r k d (Err (stops.Keeper fault)) = IsUnkept s r k d fault
-Ends tells s r k d (Err stops.OutOfMemory) = PlanEnds tells s r k d (Err stops.OutOfMemory)
-Ends tells s r k d (Err stops.Door) = PlanEnds tells s r k d (Err stops.Door)
+abbrev pub Ends : {Conn : Type 0} → Telling Conn → Service → Read → Keeping → Type 0 → AtDoor Conn → Result Unit Stop
+    → Type 0
+Ends tells s r k Stays d (Ok done) = PlanEnds tells s r k d (Ok done)
+Ends tells s r k Stays d (Err (stops.Model stop)) = HasNoPlan s r k Stays d stop
+Ends tells s r k Stays d (Err (stops.Keeper fault)) = IsUnkept s r k d fault
+Ends tells s r k Stays d (Err stops.OutOfMemory) = PlanEnds tells s r k d (Err stops.OutOfMemory)
+Ends tells s r k Stays d (Err stops.Door) = PlanEnds tells s r k d (Err stops.Door)
 
 -- what it said: nothing where all links were served, and else why not, and nothing else
 abbrev pub Says : Service → Outside → ℕ → Result Unit Stop → Type 0
@@ -152,10 +154,10 @@ pub record IsRefused (s : Service) (o : Outside) (status : ℕ) (stop : ModelSto
 
 -- how it ended is what it said; and by files that are told, a model without a plan was refused so, and one with a plan
 -- was served by to the end, wherever no count of faults rose and memory was there
-pub record EndsServe {Conn : Type 0} (tells : Telling Conn) (s : Service) (o : Outside) (k : Keeping) (d : AtDoor Conn)
-    (status : ℕ) : Type 0 where
+pub record EndsServe {Conn : Type 0} (tells : Telling Conn) (s : Service) (o : Outside) (k : Keeping) (Stays : Type 0)
+    (d : AtDoor Conn) (status : ℕ) : Type 0 where
   pub end : Result Unit Stop
-  pub ends : Ends tells s (read_by o) k d end
+  pub ends : Ends tells s (read_by o) k Stays d end
   pub says : Says s o status end
   pub exact : (files : Files) (stop : ModelStop) → IsQuiet o files status → stop_status (stops.Model stop) ≢ 8
       → IsStop o.files o.shelf_before o.shelf_after s.model stop → IsRefused s o status stop

@@ -1,7 +1,5 @@
 -- What is said where not all links were served: a line, and the exit status.
 use Rattle.std.specs.Prelude.{◌≡◌, ℕ, List, codes, Option}
-use Rattle.vc_outside.specs.declared.keeper.KeepFault.{KeepFault}
-use Rattle.vc_outside.specs.declared.keeper.KeepFault.TheVariants as keep_faults
 use Rattle.vc_app_models.specs.declared.stop.ModelStop.{ModelStop}
 use Rattle.vc_app_models.specs.declared.stop.ModelStop.TheVariants as models
 use Rattle.vc_app_check.specs.Checking.{IsSaid}
@@ -10,25 +8,16 @@ use Rattle.vc_app_check.specs.Statuses as statuses
 use Rattle.vc_app_serve.specs.declared.stop.Stop.{Stop}
 use Rattle.vc_app_serve.specs.declared.stop.Stop.TheVariants as stops
 
--- why a keeper couldn't be begun
-abbrev pub keeper_line : KeepFault → List ℕ
-keeper_line keep_faults.Failed = codes "keeper fault\n"
-keeper_line keep_faults.OutOfMemory = lines.memory_line
-
-abbrev pub keeper_status : KeepFault → ℕ
-keeper_status keep_faults.Failed = 7
-keeper_status keep_faults.OutOfMemory = 8
-
 -- why not all links were served
 abbrev pub stop_line : List ℕ → Stop → List ℕ
 stop_line model (stops.Model stop) = lines.stop_line model stop
-stop_line model (stops.Keeper fault) = keeper_line fault
+stop_line model (stops.Keeper fault) = lines.keeper_line fault
 stop_line model stops.OutOfMemory = lines.memory_line
 stop_line model stops.Door = codes "door fault\n"
 
 abbrev pub stop_status : Stop → ℕ
 stop_status (stops.Model stop) = statuses.stop_status stop
-stop_status (stops.Keeper fault) = keeper_status fault
+stop_status (stops.Keeper fault) = statuses.keeper_status fault
 stop_status stops.OutOfMemory = 8
 stop_status stops.Door = 6
 

@@ -5,8 +5,8 @@ ghost use Rattle.std.specs.Option.{option_map};
 ghost use Rattle.vc_outside.specs.Faults.{HasCause};
 ghost use Rattle.vc_plan.specs.Valid.{IsValid};
 ghost use Rattle.vc_desk.specs.Desks.{IsDesk, state_of};
+ghost use Rattle.vc_desk.specs.Keeping.{keeping};
 ghost use Rattle.vc_app_check.specs.Checking.{outside};
-ghost use Rattle.vc_app_serve.specs.Keeping.{keeping};
 ghost use Rattle.vc_app_serve.specs.Readying as readying;
 ghost use Rattle.vc_app_serve.specs.Serving as serving;
 ghost use Rattle.vc_app_serve.specs.Serving.{at_door, read_from, service};
@@ -160,7 +160,7 @@ fn serve_model<F: Shelf, K: Keeper, D: Door>(
         (service model.now address.now count (option_map (λ name. name.now) keep_file.entry))
         (read_from (F.files shelf.old) (F.faults shelf.old) (F.faults shelf.new))
         (keeping (K.texts keeper.old) (K.texts keeper.new) (K.faults keeper.old) (K.faults keeper.new)
-        (K.begun keeper.new))
+        (K.begun keeper.new)) ((keeper.new ≡ keeper.old) × (door.new ≡ door.old))
         (at_door (links (D.coming door.old) (D.coming door.new) (D.finished door.old) (D.finished door.new))
         (D.address door.old) (D.address door.new) (D.faults door.old) (D.faults door.new)) result }
     ensures home { D.is_out door.new ≡ false }
@@ -196,7 +196,7 @@ pub fn serve<F: Shelf, K: Keeper, D: Door, S: Sink>(
         (outside (F.files shelf.old) (F.faults shelf.old) (F.faults shelf.new) (S.written out.old)
         (S.written out.new) (S.faults out.old) (S.faults out.new))
         (keeping (K.texts keeper.old) (K.texts keeper.new) (K.faults keeper.old) (K.faults keeper.new)
-        (K.begun keeper.new))
+        (K.begun keeper.new)) ((keeper.new ≡ keeper.old) × (door.new ≡ door.old))
         (at_door (links (D.coming door.old) (D.coming door.new) (D.finished door.old) (D.finished door.new))
         (D.address door.old) (D.address door.new) (D.faults door.old) (D.faults door.new)) result }
     ensures home { D.is_out door.new ≡ false }

@@ -1,6 +1,8 @@
 //! What is said where not all links were served.
 
 ghost use Rattle.vc_app_check.specs.Checking.{IsSaid};
+ghost use Rattle.vc_app_check.specs.Lines as lines;
+ghost use Rattle.vc_app_check.specs.Statuses as statuses;
 ghost use Rattle.vc_app_serve.specs.Telling as telling;
 ghost use Rattle.vc_app_serve.specs.declared.stop.Stop.TheVariants as stops;
 
@@ -26,7 +28,7 @@ fn say_model<S: Sink>(alloc: Global, out: &mut S, model: &str, stop: &ModelStop)
 // Says why the keeper couldn't be begun.
 fn say_keeper<S: Sink>(out: &mut S, fault: KeepFault) -> u8
     ensures { IsSaid (S.written out.old) (S.written out.new) (S.faults out.old) (S.faults out.new)
-        (telling.keeper_line fault) (telling.keeper_status fault) result }
+        (lines.keeper_line fault) (statuses.keeper_status fault) result }
 {
     match fault {
         KeepFault::Failed => say(out, b"keeper fault\n", 7),

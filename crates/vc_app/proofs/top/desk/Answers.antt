@@ -1,11 +1,11 @@
 -- Of words that ask for a command, what it tells, and that they ask for no other.
 use Rattle.std.proofs.Common.{refl, subst}
 use Rattle.vc_app_check.specs.Checking.{EndsCheck}
-use Rattle.vc_app_gen.specs.Generating.{EndsGen}
+use Rattle.vc_app_check.specs.Checking.{outside}
 use Rattle.vc_app_verify.specs.Verifying.{EndsVerify}
-use Rattle.vc_app.specs.Endings.{outside}
-use Rattle.vc_app.proofs.AskedLaws.{check_or_gen, check_or_verify, one_chain, one_count, one_model, verify_or_gen}
-use Rattle.vc_app.proofs.EndingLaws.{one_name}
+use Rattle.vc_app_gen.specs.Generating.{EndsGen}
+use Rattle.vc_app.proofs.AskedLaws.{check_or_gen, check_or_verify, one_chain, one_count, one_model, one_name}
+use Rattle.vc_app.proofs.AskedLaws.{verify_or_gen}
 use Rattle.vc_app.proofs.top.desk.Goals as goal
 
 -- `check`

@@ -1,9 +1,9 @@
 -- Nothing is said where all links were served, and else what stopped it.
-use Rattle.std.proofs.Common.{refl, Ok}
+use Rattle.std.proofs.Common.{◌≡◌, refl, Ok}
 use Rattle.std.specs.Option.{option_map}
+use Rattle.vc_desk.specs.Keeping.{keeping}
 use Rattle.vc_app_check.specs.Checking.{outside}
 use Rattle.vc_app_check.proofs.CheckLaws.{some_spot}
-use Rattle.vc_app_serve.specs.Keeping.{keeping}
 use Rattle.vc_app_serve.specs.Serving.{at_door, service}
 use Rattle.vc_app_serve.specs.Visits.{links, telling}
 use Rattle.vc_app_serve.proofs.ServeLaws.{ends_told, ends_with}
@@ -22,7 +22,7 @@ returns-in-Ok-clause-ends g c =
     (outside (g.F.Shelf.files old.shelf.now) (g.F.Shelf.faults old.shelf.now) (g.F.Shelf.faults new.shelf) written
     written sunk sunk)
     (keeping (texts old.keeper.now) (texts new.keeper) (faults old.keeper.now) (faults new.keeper)
-    (g.K.Keeper.begun new.keeper))
+    (g.K.Keeper.begun new.keeper)) ((new.keeper ≡ old.keeper.now) × (new.door ≡ old.door.now))
     (at_door (links (g.D.Door.coming old.door.now) (g.D.Door.coming new.door) (g.D.Door.finished old.door.now)
     (g.D.Door.finished new.door)) (g.D.Door.address old.door.now) (g.D.Door.address new.door)
     (g.D.Door.faults old.door.now) (g.D.Door.faults new.door))
@@ -41,7 +41,7 @@ returns-in-Err-clause-ends g c =
     (outside (g.F.Shelf.files old.shelf.now) (g.F.Shelf.faults old.shelf.now) (g.F.Shelf.faults new.shelf)
     (written old.out.now) (written c.say_stop.new.out) (sunk old.out.now) (sunk c.say_stop.new.out))
     (keeping (texts old.keeper.now) (texts new.keeper) (faults old.keeper.now) (faults new.keeper)
-    (g.K.Keeper.begun new.keeper))
+    (g.K.Keeper.begun new.keeper)) ((new.keeper ≡ old.keeper.now) × (new.door ≡ old.door.now))
     (at_door (links (g.D.Door.coming old.door.now) (g.D.Door.coming new.door) (g.D.Door.finished old.door.now)
     (g.D.Door.finished new.door)) (g.D.Door.address old.door.now) (g.D.Door.address new.door)
     (g.D.Door.faults old.door.now) (g.D.Door.faults new.door))

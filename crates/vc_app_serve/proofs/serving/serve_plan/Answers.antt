@@ -1,8 +1,8 @@
 -- No session is open at first.
 use Rattle.vc_desk.specs.Desks.{open_of, state_of}
+use Rattle.vc_desk.proofs.OpenLaws.{begins}
 use Rattle.vc_app_serve.specs.Serving.{DeskEnds, at_door}
 use Rattle.vc_app_serve.specs.Visits.{links, telling}
-use Rattle.vc_app_serve.proofs.DeskLaws.{begins}
 use Rattle.vc_app_serve.proofs.serving.serve_plan.Goals as goal
 
 pub returns-clause-ends : goal.returns-clause-ends

@@ -1,0 +1,4 @@
+pub mod EndingLaws
+pub mod ExactnessLaws
+pub mod SinkLaws
+pub mod StatusLaws
