@@ -24,7 +24,8 @@ use Rattle.vc_compile_valid.proofs.PlaceLaws.{class_same}
 use Rattle.vc_compile_valid.proofs.SlotwiseLaws.{at_slot, below_count}
 use Rattle.vc_compile_valid.proofs.EachLaws.{Each, each_mapped, each_more, each_of_all, each_passes}
 use Rattle.vc_compile_valid.proofs.NamedLaws.{any_by_slot, any_made, each_among}
-use Rattle.vc_compile_laws.proofs.VariableLaws.{all_sets, no_sets, numbers_same, slots_same}
+use Rattle.vc_compile_valid.proofs.DomainLaws.{numbers_same}
+use Rattle.vc_compile_laws.proofs.VariableLaws.{all_sets, no_sets, slots_same}
 
 filter_same : (p q : ℕ → Bool) (xs : List ℕ) → Each (λ x. p x ≡ q x) xs → filter p xs ≡ filter q xs
 filter_same p q [] h = refl

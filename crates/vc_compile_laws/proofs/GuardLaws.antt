@@ -11,8 +11,6 @@ use Rattle.vc_value.specs.declared.grains.Grain.{Grain}
 use Rattle.vc_model_parts.specs.Headers.{grain_of}
 use Rattle.vc_model_parts.specs.declared.parts.Characteristic.{Characteristic}
 use Rattle.vc_model_parts.specs.declared.parts.Model.{Model}
-use Rattle.vc_model_parts.specs.declared.parts.NumberValue.{NumberValue}
-use Rattle.vc_model_parts.specs.declared.parts.TextValue.{TextValue}
 use Rattle.vc_model_parts.specs.declared.parts.Values.{Values}
 use Rattle.vc_model_parts.specs.declared.parts.Values.TheVariants as values
 use Rattle.vc_model_drafts.specs.Seen.{seen_model}
@@ -40,8 +38,8 @@ use Rattle.vc_compile_plan.specs.Numbering.{requirement_brings, requirement_from
 use Rattle.vc_compile_plan.specs.PlanOf.{IsPlanOf}
 use Rattle.vc_compile_plan.specs.Places.{characteristic_site, precondition_in, preconditions_among, selection_in}
 use Rattle.vc_compile_plan.specs.Places.{selections_among}
-use Rattle.vc_compile_plan.specs.Shown.{Choice, GuardDraft, RequirementDraft, choice_at, entries_of, entry_of_numbers}
-use Rattle.vc_compile_plan.specs.Shown.{entry_of_text, guard_drafts, guards_among, guards_at, guards_of}
+use Rattle.vc_compile_plan.specs.Shown.{Choice, GuardDraft, RequirementDraft, choice_at, entries_of}
+use Rattle.vc_compile_plan.specs.Shown.{guard_drafts, guards_among, guards_at, guards_of}
 use Rattle.vc_compile_plan.specs.Shown.{requirement_drafts, requirements_at, requirements_of}
 use Rattle.vc_compile_plan.specs.Sites.{Site, named_at}
 use Rattle.vc_compile_plan.specs.Slots.{slots_of}
@@ -55,6 +53,7 @@ use Rattle.vc_compile_laws.proofs.ListedLaws.{list_same, list_there}
 use Rattle.vc_compile_valid.proofs.NamedLaws.{IsNamed, each_among, named_found}
 use Rattle.vc_compile_valid.proofs.NumberingLaws.{StandFrom, condition_count, guard_conditions, no_terms, numbered_each}
 use Rattle.vc_compile_valid.proofs.NumberingLaws.{requirement_conditions, stand_within}
+use Rattle.vc_compile_valid.proofs.EntryLaws.{text_pieces, each_unmapped, number_pieces}
 
 -- a piece is the same as itself
 not_above : (z : ℤ) → le_z z z ≡ true
@@ -68,24 +67,9 @@ same_itself (Stretch grain) =
     (not_above grain.low.millionths) (not_above grain.high.millionths) in
     and_from (is_part (Stretch grain) (Stretch grain)) (is_part (Stretch grain) (Stretch grain)) one one
 
--- the pieces of a characteristic's values are the grains of its list
-text_pieces : (xs : List TextValue)
-    → map (λ e. e.piece) (map entry_of_text xs) ≡ map OneText (map (λ value. value.text) xs)
-text_pieces [] = refl
-text_pieces (x ∷ xs) = ap (λ ps. OneText x.text ∷ ps) (text_pieces xs)
-
-number_pieces : (xs : List NumberValue) → map (λ e. e.piece) (map entry_of_numbers xs) ≡ map Stretch (map grain_of xs)
-number_pieces [] = refl
-number_pieces (x ∷ xs) = ap (λ ps. Stretch (grain_of x) ∷ ps) (number_pieces xs)
-
 pieces_are : (v : Values) → map (λ e. e.piece) (entries_of v) ≡ grains_in (Some (whole_domain v))
 pieces_are (values.Texts size multiple listed) = text_pieces listed
 pieces_are (values.Numbers decimals unit listed) = number_pieces listed
-
--- what holds of each of what is made of a list, holds so of each of the list
-each_unmapped : {X Y : Type 0} (P : Y → Type 0) (f : X → Y) (xs : List X) → Each P (map f xs) → Each (λ x. P (f x)) xs
-each_unmapped P f [] h = tt
-each_unmapped P f (x ∷ xs) h = (h.0, each_unmapped P f xs h.1)
 
 -- the grains of a list that is there are there
 texts_there : (plan : Plan) (ts : List ℕ) → list_all (is_of plan.texts) ts ≡ true

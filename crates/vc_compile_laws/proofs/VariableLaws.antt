@@ -1,5 +1,5 @@
 -- The variables and sets of a plan, slot by slot, are those of its objects' classes.
-use Rattle.std.proofs.Common.{◌≡◌, ℕ, zero, suc, ◌+◌, ◌<◌, Bool, true, false, not, ◌&&◌, ◌||◌, nat_lt, List, [], ◌∷◌}
+use Rattle.std.proofs.Common.{◌≡◌, ℕ, ◌+◌, ◌<◌, Bool, true, false, not, ◌&&◌, ◌||◌, nat_lt, List}
 use Rattle.std.proofs.Common.{length, map}
 use Rattle.std.proofs.Common.{Option, Some, None, refl, sym, ap, ◌∙◌, arith}
 use Rattle.std.specs.Prelude.{◌==◌, nat_le, slice_get}
@@ -26,14 +26,14 @@ use Rattle.vc_model_laws.proofs.SpelledLaws.{spelled_keeps_all}
 use Rattle.vc_model_laws.proofs.TextsLaws.{passes_at, weaker}
 use Rattle.vc_plan.specs.Alike.{are_of_one_domain, sets_of_one_domain}
 use Rattle.vc_plan.specs.Lists.{has_its_texts, has_listed_texts, list_of}
-use Rattle.vc_plan.specs.Orders.{are_in_order, same_numbers}
+use Rattle.vc_plan.specs.Orders.{are_in_order}
 use Rattle.vc_plan.specs.Ranges.{is_of, set_there, var_there}
 use Rattle.vc_plan.specs.declared.plans.Plan.{Plan}
 use Rattle.vc_plan.specs.declared.plans.TextSet.{TextSet}
 use Rattle.vc_plan.specs.declared.plans.Var.{Var}
 use Rattle.vc_table.specs.declared.table.VariantTable.{VariantTable}
 use Rattle.vc_types.specs.Settings.{are_multiple, is_multiple, multiple_in}
-use Rattle.vc_compile_plan.specs.Cuts.{Mark, all_marks, cut_domain, cuts_at, domains_from}
+use Rattle.vc_compile_plan.specs.Cuts.{all_marks, cut_domain, cuts_at, domains_from}
 use Rattle.vc_compile_plan.specs.Layouts.{layout_of}
 use Rattle.vc_compile_plan.specs.PlanOf.{IsPlanOf}
 use Rattle.vc_compile_plan.specs.Slots.{slots_of}
@@ -45,6 +45,7 @@ use Rattle.vc_compile_laws.specs.Variables.{HasVariables}
 use Rattle.vc_compile_valid.proofs.EachLaws.{Each, each_by_slot, each_left, each_mapped, each_more, each_of_all}
 use Rattle.vc_compile_valid.proofs.EachLaws.{each_passes, each_tested, order_by_slot}
 use Rattle.vc_compile_valid.proofs.ListLaws.{none_from}
+use Rattle.vc_compile_valid.proofs.DomainLaws.{domain_at, domain_count, numbers_same}
 use Rattle.vc_compile_laws.proofs.ListedLaws.{list_same}
 use Rattle.vc_compile_laws.proofs.ThingLaws.{members_pass, tables_pass}
 
@@ -108,33 +109,6 @@ all_sets model keeps =
     (filter (is_multiple model) (members_of model slot.object))
     (each_left (λ c. nat_lt c (length model.characteristics) ≡ true) (is_multiple model)
     (members_of model slot.object) (members_there model keeps slot.object))))
-
--- there is a domain for each characteristic: its list, cut
-pub domain_count : (marks : List Mark) (c : ℕ) (xs : List Characteristic) → length (domains_from marks c xs) ≡ length xs
-domain_count marks c [] = refl
-domain_count marks c (x ∷ xs) = ap suc (domain_count marks (suc c) xs)
-
-pub domain_at : (marks : List Mark) (c : ℕ) (xs : List Characteristic) (k : ℕ) (x : Characteristic)
-    → slice_get xs k ≡ Some x
-    → slice_get (domains_from marks c xs) k ≡ Some (cut_domain (cuts_at marks (c + k)) (domain_of x.values))
-domain_at marks c [] k x e = absurd (cc)
-domain_at marks c (y ∷ xs) zero x e =
-    let same : y ≡ x = cc in
-    ap (λ z. Some (cut_domain (cuts_at marks c) (domain_of z.values))) same
-    ∙ ap (λ n. Some (cut_domain (cuts_at marks n) (domain_of x.values))) (no_more c)
-  where
-    no_more : (n : ℕ) → n ≡ n + 0
-    no_more n = omega arith
-domain_at marks c (y ∷ xs) (suc k) x e =
-    domain_at marks (suc c) xs k x e
-    ∙ ap (λ n. Some (cut_domain (cuts_at marks n) (domain_of x.values))) (one_more c k)
-  where
-    one_more : (n k : ℕ) → suc n + k ≡ n + suc k
-    one_more n k = omega arith
-
-pub numbers_same : (ns : List ℕ) → same_numbers ns ns ≡ true
-numbers_same [] = refl
-numbers_same (n ∷ ns) = and_from (n == n) (same_numbers ns ns) (eq-eqb n n refl) (numbers_same ns)
 
 -- a list of texts isn't cut
 texts_kept : (numbers : List Dec) (v : Values) → are_multiple v ≡ true

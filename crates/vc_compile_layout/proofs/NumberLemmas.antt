@@ -1,24 +1,13 @@
 -- A place with its number, put last into what has numbers.
-use Rattle.std.proofs.Common.{◌≡◌, ℕ, Bool, true, false, cond, ◌&&◌, ◌==◌, List, [], ◌∷◌, ◌++◌, refl, ap, ◌∙◌, ◌≤◌}
-use Rattle.std.proofs.Common.{arith, is_some, length, nat_lt, not, Option, Some, None, if◌then◌else◌}
+use Rattle.std.proofs.Common.{◌≡◌, ℕ, Bool, cond, ◌&&◌, ◌==◌, List, [], ◌∷◌, ◌++◌, ap, ◌∙◌, ◌≤◌}
+use Rattle.std.proofs.Common.{arith, length, nat_lt, not, Some, None, if◌then◌else◌}
 use Rattle.std.specs.List.{position, position_or_len}
 use Rattle.std.specs.Option.{option_or}
 use Rattle.std.proofs.lemmas.Bool.Decides.{nat_tests}
 use Rattle.std.proofs.lemmas.List.Sums.{prefix_len-le-length}
 use Rattle.std.specs.Map.{lookup}
+use Rattle.vc_types_names.proofs.NameLemmas.{lookup_join}
 use Rattle.vc_compile_layout.specs.declared.numbers.Spot.{Spot}
-
--- what is looked for in two lists is found in the first, or else in the second
-lookup_join : {K V : Type 0} (test : K → Bool) (first second : List (K × V))
-    → lookup test (first ++ second) ≡ option_or (lookup test first) (lookup test second)
-lookup_join test [] second = refl
-lookup_join test (pair ∷ pairs) second = by (test pair.0) (lookup_join test pairs second)
-  where
-    by : (b : Bool) → lookup test (pairs ++ second) ≡ option_or (lookup test pairs) (lookup test second)
-        → cond b (Some pair.1) (lookup test (pairs ++ second))
-        ≡ option_or (cond b (Some pair.1) (lookup test pairs)) (lookup test second)
-    by true more = refl
-    by false more = more
 
 -- equality is told the same from both sides
 turned : (i j c d : ℕ) → ((i == j) && (c == d)) ≡ ((j == i) && (d == c))
@@ -41,7 +30,3 @@ nowhere p xs is = past (position_or_len p xs) (length xs) (prefix_len-le-length 
     past m n before is = grind (arith, nat_tests)
 
 pub ruleset nowheres = (nowhere)
-
-pub is_absent : {V : Type 0} (value : Option V) → is_some value ≡ false → value ≡ None
-is_absent None none = refl
-is_absent (Some v) none = absurd (cc none)

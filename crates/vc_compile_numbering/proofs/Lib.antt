@@ -1,1 +1,2 @@
 pub mod NumberingLaws
+pub mod StepLemmas

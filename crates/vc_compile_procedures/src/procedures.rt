@@ -244,7 +244,7 @@ fn push_of_values(
 }
 
 // The procedures of the profile, of characteristics and of values at the slot whose site this is.
-#[tactic(auto, using(crate::proofs::ProcedureLemmas::joins))]
+#[tactic(auto, using(vc_compile_numbering::proofs::NumberingLaws::drafts_append))]
 fn push_all_at(
     alloc: Global,
     layout: &Layout<'_, '_>,

@@ -6,33 +6,11 @@ use Rattle.std.proofs.lemmas.Bool.Decides.{nat_tests}
 use Rattle.std.proofs.lemmas.List.{append_assoc, append-nil}
 use Rattle.std.proofs.lemmas.List.Folds.{list_any-append}
 use Rattle.vc_compile_plan.specs.Rules.{distinct}
+use Rattle.vc_compile_uses.proofs.GrowingLemmas.{filter_both, filter_swap, or_none}
 use Rattle.vc_compile_rules.specs.Inferring.{with_numbers}
 
 abbrev is_new : List ℕ → ℕ → Bool
 is_new known n = not (list_any (λ m. n == m) known)
-
--- what passes two tests, one after the other
-filter_both : {X : Type 0} (p q both : X → Bool) → ((x : X) → both x ≡ (p x && q x))
-    → (xs : List X) → filter both xs ≡ filter q (filter p xs)
-filter_both p q both same [] = refl
-filter_both p q both same (x ∷ xs) =
-    ap (λ b. cond b (x ∷ filter both xs) (filter both xs)) (same x) ∙ by (p x) (filter_both p q both same xs)
-  where
-    by : (b : Bool) → filter both xs ≡ filter q (filter p xs)
-        → cond (b && q x) (x ∷ filter both xs) (filter both xs) ≡ filter q (cond b (x ∷ filter p xs) (filter p xs))
-    by true rest = ap (λ zs. cond (q x) (x ∷ zs) zs) rest
-    by false rest = rest
-
-and_swap : (a b : Bool) → (a && b) ≡ (b && a)
-and_swap true true = refl
-and_swap true false = refl
-and_swap false true = refl
-and_swap false false = refl
-
-filter_swap : {X : Type 0} (p q : X → Bool) (xs : List X) → filter p (filter q xs) ≡ filter q (filter p xs)
-filter_swap p q xs =
-    sym (filter_both q p (λ x. p x && q x) (λ x. and_swap (p x) (q x)) xs)
-    ∙ filter_both p q (λ x. p x && q x) (λ x. refl) xs
 
 -- the numbers that equal one that a test drops are dropped too
 dropped : (q : ℕ → Bool) (x other : ℕ) → q x ≡ false → q other ≡ (not (x == other) && q other)
@@ -55,12 +33,6 @@ distinct_filter q (x ∷ xs) = by (q x) refl (distinct_filter q xs)
     by true is rest = ap (λ ns. x ∷ others ns) rest
         ∙ ap (λ ns. x ∷ ns) (filter_swap (λ m. not (x == m)) q (distinct xs))
     by false is rest = rest ∙ filter_both (λ m. not (x == m)) q q (λ other. dropped q x other is) (distinct xs)
-
--- what is new, once a number more is known
-or_none : (a b : Bool) → not (a || (b || false)) ≡ (not a && not b)
-or_none true b = refl
-or_none false true = refl
-or_none false false = refl
 
 turned : (n m : ℕ) → (n == m) ≡ (m == n)
 turned n m = grind (arith, nat_tests)

@@ -129,7 +129,7 @@ fn push_guards_of_values(
 }
 
 // A characteristic's own preconditions, then those of its values.
-#[tactic(auto, using(crate::proofs::ShownLemmas::joins))]
+#[tactic(auto, using(vc_compile_numbering::proofs::NumberingLaws::drafts_append))]
 fn push_guards_of(
     alloc: Global,
     layout: &Layout<'_, '_>,

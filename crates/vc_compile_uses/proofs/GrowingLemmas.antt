@@ -15,7 +15,7 @@ use Rattle.vc_types_names.proofs.NameLemmas.{place_push}
 use Rattle.vc_compile_uses.specs.Growing.{with_text, with_texts}
 
 -- what passes two tests, one after the other
-filter_both : {X : Type 0} (p q both : X → Bool) → ((x : X) → both x ≡ (p x && q x))
+pub filter_both : {X : Type 0} (p q both : X → Bool) → ((x : X) → both x ≡ (p x && q x))
     → (xs : List X) → filter both xs ≡ filter q (filter p xs)
 filter_both p q both same [] = refl
 filter_both p q both same (x ∷ xs) =
@@ -26,13 +26,13 @@ filter_both p q both same (x ∷ xs) =
     by true rest = ap (λ zs. cond (q x) (x ∷ zs) zs) rest
     by false rest = rest
 
-and_swap : (a b : Bool) → (a && b) ≡ (b && a)
+pub and_swap : (a b : Bool) → (a && b) ≡ (b && a)
 and_swap true true = refl
 and_swap true false = refl
 and_swap false true = refl
 and_swap false false = refl
 
-filter_swap : {X : Type 0} (p q : X → Bool) (xs : List X) → filter p (filter q xs) ≡ filter q (filter p xs)
+pub filter_swap : {X : Type 0} (p q : X → Bool) (xs : List X) → filter p (filter q xs) ≡ filter q (filter p xs)
 filter_swap p q xs =
     sym (filter_both q p (λ x. p x && q x) (λ x. and_swap (p x) (q x)) xs)
     ∙ filter_both p q (λ x. p x && q x) (λ x. refl) xs
@@ -63,7 +63,7 @@ each_once_filter q (x ∷ xs) = by (q x) refl (each_once_filter q xs)
         rest ∙ filter_both (λ other. not (bytes_eq x other)) q q (λ other. dropped q x other is) (each_once xs)
 
 -- what is new, once a text more is known
-or_none : (a b : Bool) → not (a || (b || false)) ≡ (not a && not b)
+pub or_none : (a b : Bool) → not (a || (b || false)) ≡ (not a && not b)
 or_none true b = refl
 or_none false true = refl
 or_none false false = refl

@@ -60,7 +60,7 @@ domain_at marks c (y ∷ xs) (suc k) x e =
     one_more : (n k : ℕ) → suc n + k ≡ n + suc k
     one_more n k = omega arith
 
-domain_count : (marks : List Mark) (c : ℕ) (xs : List Characteristic) → length (domains_from marks c xs) ≡ length xs
+pub domain_count : (marks : List Mark) (c : ℕ) (xs : List Characteristic) → length (domains_from marks c xs) ≡ length xs
 domain_count marks c [] = refl
 domain_count marks c (x ∷ xs) = ap suc (domain_count marks (suc c) xs)
 
@@ -82,7 +82,7 @@ cut_proper numbers (domains.Nums decimals grains) h =
     (list_all (has_ends decimals) (cut_all decimals grains numbers))
     (cuts_ascend decimals grains numbers parts.0) (cuts_ends decimals grains numbers parts.1)
 
-numbers_same : (ns : List ℕ) → same_numbers ns ns ≡ true
+pub numbers_same : (ns : List ℕ) → same_numbers ns ns ≡ true
 numbers_same [] = refl
 numbers_same (n ∷ ns) = and_from (n == n) (same_numbers ns ns) (eq-eqb n n refl) (numbers_same ns)
 

@@ -156,12 +156,13 @@ pieces_apart (domains.Nums decimals grains) h =
     apart_from_order is_same_piece (map Stretch grains) (ascending_apart grains parts.0)
 
 -- the pieces of a characteristic's values are the grains of its list
-text_pieces : (xs : List TextValue)
+pub text_pieces : (xs : List TextValue)
     → map (λ e. e.piece) (map entry_of_text xs) ≡ map OneText (map (λ value. value.text) xs)
 text_pieces [] = refl
 text_pieces (x ∷ xs) = ap (λ ps. OneText x.text ∷ ps) (text_pieces xs)
 
-number_pieces : (xs : List NumberValue) → map (λ e. e.piece) (map entry_of_numbers xs) ≡ map Stretch (map grain_of xs)
+pub number_pieces : (xs : List NumberValue)
+    → map (λ e. e.piece) (map entry_of_numbers xs) ≡ map Stretch (map grain_of xs)
 number_pieces [] = refl
 number_pieces (x ∷ xs) = ap (λ ps. Stretch (grain_of x) ∷ ps) (number_pieces xs)
 

@@ -1,5 +1,5 @@
 -- What a session says is what the evaluation of the user's values reaches, and what it blames refutes.
-use Rattle.std.proofs.Common.{◌≡◌, ℕ, zero, suc, Bool, List, [], ◌∷◌, length, map, refl, sym, ap, ◌∙◌, subst}
+use Rattle.std.proofs.Common.{◌≡◌, ℕ, Bool, List, [], ◌∷◌, length, map, refl, sym, ap, ◌∙◌, subst}
 use Rattle.std.specs.Prelude.{Option, None, Some, Result, Ok, Err, IfOk}
 use Rattle.vc_plan.specs.declared.atoms.Clash.{Clash}
 use Rattle.vc_plan.specs.declared.atoms.Culprit.{Culprit}
@@ -15,8 +15,7 @@ use Rattle.vc_plan.specs.Bills.{bill_of, routing_of}
 use Rattle.vc_plan.specs.Shown.{bill, bill_after, reading_of, routing, routing_after}
 use Rattle.vc_plan.specs.Showing.{settled_status}
 use Rattle.vc_plan.specs.Valid.{IsValid}
-use Rattle.vc_plan.specs.Writes.{last_stage, set_at}
-use Rattle.vc_plan.specs.declared.atoms.Atom.{Atom}
+use Rattle.vc_plan.specs.Writes.{last_stage}
 use Rattle.vc_plan.proofs.StageProofs.LastStage.{last_stage_settles}
 use Rattle.vc_plan_reasons.specs.Blaming.{IsStatus, IsStatusAfter}
 use Rattle.vc_plan_users.specs.Choosing.{users_of}
@@ -24,19 +23,13 @@ use Rattle.vc_plan_values.specs.Computing.{LiesInGrains}
 use Rattle.vc_net.specs.Ending.{clash_of}
 use Rattle.vc_net.specs.Nets.{Netted, outcome_by}
 use Rattle.vc_session_stages.specs.Stages.{is_late_seen, seen_at}
-use Rattle.vc_session_stages.proofs.StageLaws.{late_is_seen}
+use Rattle.vc_session_stages.proofs.StageLaws.{late_is_seen, said_at}
 use Rattle.vc_session_evaluation.specs.Evaluating.{EndsAt, HasBroken, HasEnded}
 use Rattle.vc_session_evaluation.proofs.GoingLaws.{settled_lies}
 use Rattle.vc_session_evaluation.proofs.OnceLaws.{last_said}
 use Rattle.vc_session.specs.Sessions.{IsSessionOf, Opened, last_seen, outcome_at, outcome_of, seen_in}
 use Rattle.vc_desk_shown.specs.Laws.{SettledSessionsReach}
 use Rattle.vc_desk_shown.specs.Shown.{chosen_text, instances_text, shown, shown_after}
-
--- what the set of a stage says
-said_at : (sets : List (List Atom)) (k : ℕ) → seen_at (map seen_of sets) k ≡ seen_of (set_at sets k)
-said_at [] k = refl
-said_at (set ∷ sets) zero = refl
-said_at (set ∷ sets) (suc k) = said_at sets k
 
 same_flags : (f g : ℕ → Bool) → ((i : ℕ) → f i ≡ g i) → (numbers : List ℕ) → map f numbers ≡ map g numbers
 same_flags f g same [] = refl

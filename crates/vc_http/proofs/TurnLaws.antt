@@ -1,12 +1,14 @@
 -- What comes of a message is the same however its bytes are cut.
-use Rattle.std.proofs.Common.{◌≡◌, ℕ, List, [], ◌∷◌, ◌++◌, length, Option, None, Some, append_assoc}
-use Rattle.std.proofs.Common.{ap, arith, refl, sym, subst, ◌∙◌}
+use Rattle.std.proofs.Common.{◌≡◌, ℕ, List, [], ◌++◌, length, Option, None, Some, append_assoc}
+use Rattle.std.proofs.Common.{ap, refl, sym, subst, ◌∙◌}
 use Rattle.std.specs.Io.KnownBytes.{Consumes, IsAtEnd, Keeps}
 use Rattle.std.proofs.KnownBytes.{Consumes-kept, Consumes-trans}
+use Rattle.vc_outside.proofs.Reading.{no_length}
 use Rattle.vc_http_routes.specs.Methods.{methods_in}
 use Rattle.vc_http_messages.specs.Laws.{IsSpelled, followed}
 use Rattle.vc_http_messages.specs.Messages.{Message, MessageOf, cut, refused, whole}
 use Rattle.vc_http_messages.proofs.MessageLaws.{message_more, message_one}
+use Rattle.vc_http_responses.proofs.ResponseLaws.{nothing_behind}
 use Rattle.vc_http.specs.declared.turns.Turn.{Turn}
 use Rattle.vc_http.specs.declared.turns.Turn.TheVariants as turn
 use Rattle.vc_http.specs.Turns.{Comes, Gives, IsBehind, Takes}
@@ -14,10 +16,6 @@ use Rattle.vc_http.specs.Turns.{Comes, Gives, IsBehind, Takes}
 -- what was read so far: it was taken from the link, and stands behind what was kept
 abbrev pub Got : List ℕ → Option (List ℕ) → List ℕ → Option (List ℕ) → Type 0
 Got kept more bytes left = (got : List ℕ) × Consumes more left got × (bytes ≡ kept ++ got)
-
-nothing_behind : (xs : List ℕ) → xs ++ [] ≡ xs
-nothing_behind [] = refl
-nothing_behind (x ∷ xs) = ap (λ rest. x ∷ rest) (nothing_behind xs)
 
 pub begins : (kept : List ℕ) (more : Option (List ℕ)) → Got kept more kept more
 begins kept None = ([], tt, sym (nothing_behind kept))
@@ -88,10 +86,6 @@ ended kept bytes (Some more) (Some left) (got, taken, is) ends none =
     let all : bytes ++ left ≡ kept ++ more = all_of kept bytes more left got taken is in
     let same : bytes ++ left ≡ bytes = ap (λ xs. bytes ++ xs) none ∙ nothing_behind bytes in
     (subst (λ xs. MessageOf xs cut) (sym same ∙ all) ends, all)
-
-no_length : (xs : List ℕ) → length xs ≡ 0 → xs ≡ []
-no_length [] none = refl
-no_length (x ∷ xs) none = absurd (omega arith)
 
 -- a read that gives nothing, at the end
 pub comes_end : (kept bytes now : List ℕ) (more left later : Option (List ℕ)) → Got kept more bytes left

@@ -20,7 +20,7 @@ length_23 = refl
 
 pub ruleset bad_length = (length_22, length_23)
 
-nothing_behind : (xs : List ℕ) → xs ++ [] ≡ xs
+pub nothing_behind : (xs : List ℕ) → xs ++ [] ≡ xs
 nothing_behind [] = refl
 nothing_behind (x ∷ xs) = ap (λ rest. x ∷ rest) (nothing_behind xs)
 

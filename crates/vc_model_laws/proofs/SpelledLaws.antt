@@ -30,7 +30,7 @@ use Rattle.vc_model_laws.proofs.TextsLaws.{keeps_texts}
 use Rattle.vc_model_laws.proofs.Walks.{Sound, sound}
 
 -- what the model of sound lines keeps is kept by each model that a text spells
-spelled : (P : SeenModel → Type 0) → ((ls : List Line) → Sound [] ls → P (model_of ls)) → SpelledKeeps P
+pub spelled : (P : SeenModel → Type 0) → ((ls : List Line) → Sound [] ls → P (model_of ls)) → SpelledKeeps P
 spelled P keeps text model spells =
     let ls = lines_of text in
     subst P (sym spells.model_is) (keeps ls (sound ls (lines_formed text spells.utf8) spells.sound))

@@ -173,7 +173,7 @@ after_words_is (suc count) line h = after_words_is count (after_word line) (rest
 quote_ascii : (byte : ℕ) → (byte == 39) ≡ true → byte < 128
 quote_ascii byte h = let e = eqb-true byte 39 h in omega (arith, e)
 
-abbrev Quoted : List ℕ → Option (List ℕ) → Type 0
+abbrev pub Quoted : List ℕ → Option (List ℕ) → Type 0
 Quoted front None = Unit {0}
 Quoted front (Some text) = IsUtf8 (front ++ text)
 

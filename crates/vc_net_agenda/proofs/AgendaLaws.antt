@@ -212,12 +212,12 @@ module _ (agenda : Awaited) (giver : Giver) where
       by false = omega arith
 
 -- of which class a giver among mapped numbers is
-none_of : (f : ℕ → Giver) (giver : Giver) → ((n : ℕ) → same_giver giver (f n) ≡ false) → (ns : List ℕ)
+pub none_of : (f : ℕ → Giver) (giver : Giver) → ((n : ℕ) → same_giver giver (f n) ≡ false) → (ns : List ℕ)
     → has same_giver (map f ns) giver ≡ false
 none_of f giver h [] = refl
 none_of f giver h (n ∷ ns) = ap (λ b. b || has same_giver (map f ns) giver) (h n) ∙ none_of f giver h ns
 
-one_of : (f : ℕ → Giver) (k : ℕ) → ((n : ℕ) → same_giver (f k) (f n) ≡ nat_eq k n) → (ns : List ℕ)
+pub one_of : (f : ℕ → Giver) (k : ℕ) → ((n : ℕ) → same_giver (f k) (f n) ≡ nat_eq k n) → (ns : List ℕ)
     → has same_giver (map f ns) (f k) ≡ has nat_eq ns k
 one_of f k h [] = refl
 one_of f k h (n ∷ ns) =

@@ -10,9 +10,8 @@ use Rattle.std.proofs.lemmas.List.Folds.{list_any-append}
 use Rattle.std.proofs.lemmas.Map.Steps.{length-le_from_distinct_below}
 use Rattle.vc_base.specs.Sets.{has}
 use Rattle.vc_base.proofs.ListLaws.{number_exact, number_itself}
-use Rattle.vc_base.proofs.SetLaws.{both, has_back, has_cases, has_either, has_first, told}
+use Rattle.vc_base.proofs.SetLaws.{both, has_back, has_cases, has_either, has_first, told, distinct_more}
 use Rattle.vc_rule_yield.specs.Filling.{Filled}
-use Rattle.vc_net_laws.proofs.NetLaws.Working.{distinct_more}
 use Rattle.vc_net_agenda.specs.Pending.{IsMarked, IsStacked, pushed, stack_in, with_last}
 
 -- past the end there is no flag

@@ -16,6 +16,7 @@ use Rattle.vc_plan.specs.TableRows.{cell_passes, columns_of, has_grain, is_colum
 use Rattle.vc_rule_table.specs.Cells.{grain_holds}
 use Rattle.vc_net_places.specs.Cells.{all_places}
 use Rattle.vc_net_places.proofs.PlaceLaws.Things.{length_range, mapped_next}
+use Rattle.vc_net_places.proofs.PlaceLaws.Cells.{get_mapped}
 use Rattle.vc_net_bounds.specs.declared.keeping.Column.{Column}
 use Rattle.vc_net_bounds.specs.Capping.{capped}
 use Rattle.vc_net_bounds.specs.Keeping.{cell_of, cells_by_grain, cells_of, column_counts, if_met, lies_in_grain}
@@ -79,13 +80,6 @@ same_column a b e =
       column = eqb-true a.column b.column q.0 i;
       domain = eqb-true a.domain b.domain q.1 i;
     }
-
--- a column's counts among those that are kept
-get_mapped : {X Y : Type 0} (f : X → Y) (xs : List X) (i : ℕ) (x : X) → slice_get xs i ≡ Some x
-    → slice_get (map f xs) i ≡ Some (f x)
-get_mapped f [] i x e = absurd (cc)
-get_mapped f (y ∷ ys) zero x e = let is : y ≡ x = cc in ap (λ z. Some (f z)) is
-get_mapped f (y ∷ ys) (suc i) x e = get_mapped f ys i x e
 
 pub stored_counts : (plan : Plan) (column other : Column) (columns : List Column) (counts : List (List ℕ)) (place : ℕ)
     → counts ≡ map (column_counts plan) columns → slice_get columns place ≡ Some other → column ≡ other

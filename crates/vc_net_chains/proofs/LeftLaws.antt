@@ -9,7 +9,7 @@ use Rattle.vc_plan.specs.declared.atoms.Step.{Step}
 use Rattle.vc_plan_reasons.specs.Checking.{step_form}
 use Rattle.vc_plan_reasons.specs.Trimming.{is_vain, needed, numbers_left, trimmed}
 use Rattle.vc_plan_reasons.specs.Trimming.{trimmed_chain}
-use Rattle.vc_net_chains.proofs.MatchLaws.{Matches, matching}
+use Rattle.vc_plan_reasons.proofs.ReasonLaws.Trimming.{Matches, matching}
 use Rattle.vc_net_chains.specs.Leaving.{all_left, counted, last_in, new_number, number_in, number_past, one_left}
 use Rattle.vc_net_chains.specs.Leaving.{raised}
 use Rattle.vc_net_chains.specs.Telling.{trimmed_for}

@@ -1,4 +1,3 @@
 pub mod LastLaws
 pub mod LeftLaws
 pub mod MarkLaws
-pub mod MatchLaws

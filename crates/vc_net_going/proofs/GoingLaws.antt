@@ -10,6 +10,7 @@ use Rattle.vc_base.specs.Chains.{cited}
 use Rattle.vc_base.specs.Rounds.{atoms_of}
 use Rattle.vc_base.specs.Sets.{has, Within}
 use Rattle.vc_base.proofs.SetLaws.{both, filter_has, has_back, has_cases, has_either, has_first, has_front, has_more}
+use Rattle.vc_base.proofs.SetLaws.{distinct_more}
 use Rattle.vc_base.proofs.Settling as settling
 use Rattle.vc_plan.specs.declared.atoms.Atom.{Atom}
 use Rattle.vc_plan.specs.declared.atoms.Atom.TheVariants.{Here}
@@ -22,6 +23,7 @@ use Rattle.vc_plan.specs.Sources.{Sources}
 use Rattle.vc_plan.specs.Valid.{IsValid}
 use Rattle.vc_plan.proofs.PlanLaws.Atoms.{atom_exact, atom_itself}
 use Rattle.vc_plan.proofs.PlanLaws.Facts.{facts}
+use Rattle.vc_plan.specs.Bounds.{place_for}
 use Rattle.vc_plan_blame.proofs.BlameLaws.Growing.{has_says}
 use Rattle.vc_plan_reasons.specs.Checking.{concluded, is_accepted, set_with, step_form}
 use Rattle.vc_plan_reasons.specs.Things.{has_thing, thing_of}
@@ -36,11 +38,11 @@ use Rattle.vc_net_laws.specs.Working.{AreAskedOrQuiet, IsWorking, same_giver, wo
 use Rattle.vc_net_laws.proofs.NetLaws.Forced.{given_is_forced}
 use Rattle.vc_net_laws.proofs.NetLaws.Waking.{givers_wake_themselves}
 use Rattle.vc_net_laws.proofs.NetLaws.Wakings.{atoms_pay_for_turns}
-use Rattle.vc_net_laws.proofs.NetLaws.Working.{atoms_come, distinct_more, giver_exact, giver_itself}
+use Rattle.vc_net_laws.proofs.NetLaws.Working.{atoms_come, giver_exact, giver_itself}
 use Rattle.vc_net_log.specs.Logs.{cited_by, room_at, seen_by, set_of, step_from, stood_of}
 use Rattle.vc_net_log.proofs.LogLaws.{new_steps_are_free, premises_are_cited, rooms_are_bounds}
 use Rattle.vc_net_places.specs.Cells.{begins_of, own_bound}
-use Rattle.vc_net_places.specs.Places.{place_for, place_in}
+use Rattle.vc_net_places.specs.Places.{place_in}
 use Rattle.vc_net_sources.specs.Asking.{origin_of}
 use Rattle.vc_net_sources.specs.Laws.{IsFound}
 use Rattle.vc_net_sources.proofs.GiverLaws.{found_fits_cells, found_is_new, found_is_next}

@@ -8,7 +8,7 @@ use Rattle.vc_base.proofs.SetLaws.{both, has_cases}
 use Rattle.vc_plan.specs.declared.atoms.Atom.{Atom}
 use Rattle.vc_plan.specs.declared.atoms.Atom.TheVariants.{Here}
 use Rattle.vc_plan.specs.declared.plans.Plan.{Plan}
-use Rattle.vc_plan.specs.Bounds.{cell_bound, greatest}
+use Rattle.vc_plan.specs.Bounds.{cell_bound, greatest, place_for}
 use Rattle.vc_plan.specs.Clear.{are_all_out, collides, is_clear, is_exhausted, is_named}
 use Rattle.vc_plan.specs.Domains.{atom_count, count_of, numbers_below}
 use Rattle.vc_plan.specs.Seen.{is_here, same_atom, seen_of}
@@ -22,7 +22,7 @@ use Rattle.vc_plan_blame.proofs.BlameLaws.Unclear.{some_grain}
 use Rattle.vc_rule_grains.specs.Finding.{GrainsFit}
 use Rattle.vc_net_log.specs.Coming.{are_by_slot}
 use Rattle.vc_net_places.specs.Cells.{bounds_of, own_bound, total}
-use Rattle.vc_net_places.specs.Places.{index_of, number_of, place_for}
+use Rattle.vc_net_places.specs.Places.{index_of, number_of}
 use Rattle.std.proofs.lemmas.Bool.{and_parts, cases_lt, false_from_ne_true, lt-ltb, leb-true}
 use Rattle.vc_net_places.proofs.PlaceLaws.Cells.{bounds_are_by_place, cells_suffice}
 use Rattle.vc_net_places.proofs.PlaceLaws.Numbering.{named_have_places}

@@ -26,6 +26,7 @@ use Rattle.vc_plan_reasons.proofs.ReasonLaws.Dropping.{dropped_is_reached}
 use Rattle.vc_plan_reasons.proofs.ReasonLaws.Keeping.{kept_is_left}
 use Rattle.vc_plan_reasons.proofs.ReasonLaws.Reaching.{reach_is_least, thing_exact, thing_itself}
 use Rattle.vc_plan_reasons.proofs.ReasonLaws.Writing.{has_var}
+use Rattle.vc_plan_reasons.proofs.ReasonLaws.Spreading.{any_thing, some_thing}
 use Rattle.vc_net_laws.specs.Waking.{giver_touches}
 use Rattle.vc_net_laws.specs.Working.{same_giver}
 use Rattle.vc_net_laws.proofs.NetLaws.Working.{giver_exact, giver_itself}
@@ -38,7 +39,6 @@ use Rattle.vc_net_waking.specs.Spending.{AreOn, touches_one}
 use Rattle.vc_net_waking.proofs.CountLaws.{givers_once}
 use Rattle.vc_net_waking.proofs.WakingLaws.{source_touches, woken_touch}
 use Rattle.vc_net_waking.proofs.SpendLaws.{given_are}
-use Rattle.vc_net_waking.proofs.Spreading.{any_thing, some_thing}
 use Rattle.vc_net_going.specs.Going.{IsGoing}
 use Rattle.vc_net_going.specs.Renewing.{dropped_wake}
 use Rattle.vc_net_going.specs.declared.work.Work.{Work}

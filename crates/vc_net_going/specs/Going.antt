@@ -9,6 +9,7 @@ use Rattle.vc_plan.specs.Gives.{Giver, givers_of}
 use Rattle.vc_plan.specs.Seen.{same_atom, says}
 use Rattle.vc_plan.specs.Settle.{settlement_of}
 use Rattle.vc_plan.specs.Sources.{Sources}
+use Rattle.vc_plan.specs.Bounds.{place_for}
 use Rattle.vc_plan_blame.specs.Laws.{Blames}
 use Rattle.vc_plan_reasons.specs.Checking.{concluded, is_accepted, set_with}
 use Rattle.vc_rule.specs.Following.{IsNext}
@@ -20,7 +21,6 @@ use Rattle.vc_net_laws.specs.Wakings.{turns_left}
 use Rattle.vc_net_laws.specs.Working.{IsWorking, same_giver}
 use Rattle.vc_net_log.specs.Logs.{seen_by, set_of}
 use Rattle.vc_net_places.specs.Cells.{own_bound}
-use Rattle.vc_net_places.specs.Places.{place_for}
 use Rattle.vc_net_sources.specs.Asking.{found_from, origin_of}
 use Rattle.vc_net_going.specs.declared.turn.Turn.{Turn}
 use Rattle.vc_net_going.specs.declared.turn.Turn.TheVariants as turns

@@ -6,10 +6,11 @@ use Rattle.std.proofs.lemmas.Option.{get_or_from_slice_get, slice_get_within}
 use Rattle.vc_plan.specs.declared.atoms.Step.{Step}
 use Rattle.vc_plan.specs.Clear.{is_clear}
 use Rattle.vc_plan.specs.Seen.{says, seen_of}
+use Rattle.vc_plan.specs.Bounds.{place_for}
 use Rattle.vc_plan_blame.proofs.BlameLaws.Citing.{numbers_found}
 use Rattle.vc_plan_reasons.specs.Checking.{concluded, set_with}
 use Rattle.vc_net_places.specs.Cells.{all_places, begins_of, bounds_of, own_bound}
-use Rattle.vc_net_places.specs.Places.{number_of, place_for}
+use Rattle.vc_net_places.specs.Places.{number_of}
 use Rattle.vc_net_places.proofs.PlaceLaws.Cells.{bounds_are_by_place, cells_are_apart, places_length}
 use Rattle.vc_net_places.proofs.PlaceLaws.Numbering.{named_have_places}
 use Rattle.vc_net_places.proofs.PlaceLaws.Things.{index_tells_places}

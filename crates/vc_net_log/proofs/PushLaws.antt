@@ -9,7 +9,7 @@ use Rattle.std.proofs.lemmas.Map.Steps.{length-le_from_distinct_below}
 use Rattle.std.proofs.lemmas.Option.{get_or_from_slice_get, slice_get-get_or}
 use Rattle.vc_base.specs.Sets.{has, Within}
 use Rattle.vc_base.proofs.ListLaws.{number_exact, number_itself}
-use Rattle.vc_base.proofs.SetLaws.{all_at, both, has_first, has_front, has_more, told}
+use Rattle.vc_base.proofs.SetLaws.{all_at, both, has_first, has_front, has_more, told, distinct_more}
 use Rattle.vc_plan.specs.declared.atoms.Atom.{Atom}
 use Rattle.vc_plan.specs.declared.atoms.Step.{Step}
 use Rattle.vc_plan.specs.Seen.{same_atom}
@@ -21,7 +21,6 @@ use Rattle.vc_net_places.specs.Places.{Index, place_in}
 use Rattle.vc_net_places.proofs.PlaceLaws.Things.{get_first, get_second}
 use Rattle.vc_net_standing.specs.declared.standing.Fact.{Fact}
 use Rattle.vc_net_standing.specs.Standing.{Stood, atoms_of, is_free, places_of, with_fact}
-use Rattle.vc_net_standing.proofs.StandingLaws.{distinct_more}
 use Rattle.vc_net_log.specs.Keeping.{IsCounted, IsKept, cells_at, log_kept, number_at, raised_at, step_kept, written}
 use Rattle.vc_net_log.specs.Logs.{Logged, room_at, step_from, stood_of, with_step}
 use Rattle.vc_net_log.proofs.KeptLaws.{concludes, room_before, room_inside, stands_by, used_before}

@@ -8,9 +8,10 @@ use Rattle.vc_plan.specs.declared.plans.Plan.{Plan}
 use Rattle.vc_plan.specs.Clear.{is_clear, is_named}
 use Rattle.vc_plan.specs.Domains.{atom_count}
 use Rattle.vc_plan.specs.Seen.{same_atom, says}
+use Rattle.vc_plan.specs.Bounds.{place_for}
 use Rattle.vc_plan_reasons.specs.Checking.{concluded, set_with}
 use Rattle.vc_net_places.specs.Cells.{begins_of, bounds_of, own_bound}
-use Rattle.vc_net_places.specs.Places.{index_of, place_for, place_in}
+use Rattle.vc_net_places.specs.Places.{index_of, place_in}
 use Rattle.vc_net_standing.specs.declared.standing.Fact.{Fact}
 use Rattle.vc_net_standing.specs.Standing.{is_free}
 use Rattle.vc_net_log.specs.Logs.{Logged, cited_by, room_at, seen_by, stood_of, with_step}

@@ -2,11 +2,11 @@
 use Rattle.std.specs.Prelude.{◌≡◌, ◌<◌, ◌+◌, ℕ, max, true, List, length, slice_get, slice_index_or, Some}
 use Rattle.vc_plan.specs.declared.atoms.Atom.{Atom}
 use Rattle.vc_plan.specs.declared.plans.Plan.{Plan}
-use Rattle.vc_plan.specs.Bounds.{Place, cell_bound, clash_bound, greatest}
+use Rattle.vc_plan.specs.Bounds.{Place, cell_bound, clash_bound, greatest, place_for}
 use Rattle.vc_plan.specs.Clear.{is_named}
 use Rattle.vc_plan.specs.Domains.{atom_count}
 use Rattle.vc_net_places.specs.Cells.{all_places, begins_from, bounds_of, own_bound, total}
-use Rattle.vc_net_places.specs.Places.{index_of, is_place, number_of, place_for, place_in, place_numbered, place_of}
+use Rattle.vc_net_places.specs.Places.{index_of, is_place, number_of, place_in, place_numbered, place_of}
 use Rattle.vc_net_places.specs.Places.{thing_at}
 
 -- an atom that the plan names has a place

@@ -6,18 +6,12 @@ use Rattle.std.specs.List.{flat_map, sum_by}
 use Rattle.vc_plan.specs.declared.atoms.Atom.{Atom}
 use Rattle.vc_plan.specs.declared.atoms.Atom.TheVariants.{Here, Out, Is}
 use Rattle.vc_plan.specs.declared.plans.Plan.{Plan}
-use Rattle.vc_plan.specs.Bounds.{Place, here_at, out_at, is_at}
+use Rattle.vc_plan.specs.Bounds.{Place, here_at, out_at, is_at, place_for}
 use Rattle.vc_plan.specs.Domains.{numbers_below, count_of}
 use Rattle.vc_net_places.specs.declared.places.Spot.{Spot}
 use Rattle.vc_net_places.specs.declared.places.Spot.TheVariants as spots
 use Rattle.vc_net_places.specs.declared.places.Thing.{Thing}
 use Rattle.vc_net_places.specs.declared.places.Thing.TheVariants.{Slot, Var}
-
--- the place of an atom; all values of a variable share one
-abbrev pub place_for : Atom → Place
-place_for (Here i) = here_at i
-place_for (Out v g) = out_at v g
-place_for (Is v a) = is_at v
 
 -- whether the plan has the place
 abbrev pub is_place : Plan → Place → Bool

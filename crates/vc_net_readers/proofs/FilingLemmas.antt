@@ -9,7 +9,7 @@ use Rattle.vc_base.specs.Numbers.{numbers_below}
 use Rattle.vc_base.specs.Sets.{has}
 use Rattle.vc_base.proofs.ListLaws.{filter_next, has_range, number_exact, number_itself}
 use Rattle.vc_base.proofs.SetLaws.{has_first, has_more, told}
-use Rattle.vc_net_places.proofs.PlaceLaws.Things.{get_second, range_at}
+use Rattle.vc_net_places.proofs.PlaceLaws.Things.{get_second, range_at, get_replicate}
 use Rattle.vc_net_readers.specs.Filing.{ends_with, filed_at, filed_at_all, filed_at_each, filed_below, filed_in}
 use Rattle.vc_net_readers.specs.Filing.{is_told, list_at, list_or_none, put_once}
 
@@ -31,11 +31,6 @@ length_set : {X : Type 0} (xs : List X) (i : ℕ) (x : X) → length (slice_set 
 length_set [] i x = refl
 length_set (z ∷ xs) zero x = refl
 length_set (z ∷ xs) (suc i) x = ap (λ n. suc n) (length_set xs i x)
-
-get_replicate : {X : Type 0} (n i : ℕ) (x : X) → i < n → slice_get (replicate n x) i ≡ Some x
-get_replicate zero i x below = absurd (omega (arith, below))
-get_replicate (suc n) zero x below = refl
-get_replicate (suc n) (suc i) x below = get_replicate n i x (omega (arith, below))
 
 -- a number is put once
 ends_last : (xs : List ℕ) (n : ℕ) → ends_with (xs ++ n ∷ []) n ≡ true

@@ -21,7 +21,7 @@ use Rattle.vc_plan.specs.declared.atoms.Origin.TheVariants as origins
 use Rattle.vc_plan.specs.declared.atoms.Step.{Step}
 use Rattle.vc_plan.specs.declared.plans.Plan.{Plan}
 use Rattle.vc_plan.specs.Answers.{nothing, fresh}
-use Rattle.vc_plan.specs.Bounds.{clash_bound, greatest, place_bound}
+use Rattle.vc_plan.specs.Bounds.{clash_bound, greatest, place_bound, place_for}
 use Rattle.vc_plan.specs.Clear.{is_clear}
 use Rattle.vc_plan.specs.Gives.{Giver, by_rule, by_user, by_entry, entry_says, giver_says, gives, if_here, mark_says}
 use Rattle.vc_plan.specs.Gives.{value_says}
@@ -44,13 +44,12 @@ use Rattle.vc_rule_premises.proofs.SayingLaws.{fresh_is_said}
 use Rattle.vc_rule_premises.proofs.SufficingLaws.{each_from, part_says, premises_are_a_part}
 use Rattle.vc_rule_grains.specs.Kinds.{slot_of}
 use Rattle.vc_rule.proofs.FoundLaws as rule_found
-use Rattle.vc_rule.specs.Bounding.{IsWithinPlaces, place_for}
+use Rattle.vc_rule.specs.Bounding.{IsWithinPlaces}
 use Rattle.vc_rule.specs.Following.{AllFollow, IsNext}
 use Rattle.vc_rule.proofs.BoundLaws as rule_bounds
 use Rattle.vc_rule.proofs.CountingLemmas.{slot_few}
 use Rattle.vc_rule.proofs.FollowingLaws as rules
 use Rattle.vc_net_places.specs.Cells.{own_bound}
-use Rattle.vc_net_places.specs.Places as places
 use Rattle.vc_net_sources.specs.Asking.{found_from, origin_by, source_said, why_there}
 use Rattle.vc_net_sources.specs.Laws.{ClashFitsCells, FoundFitsCells, FoundIsConcluded, FoundIsGiven, FoundIsNew}
 use Rattle.vc_net_sources.specs.Laws.{FoundIsNext, FoundRefutes}
@@ -437,7 +436,7 @@ all_get P (c ∷ cs) (suc n) conclusion h e = all_get P cs n conclusion h.1 e
 
 -- the bound of a place is that of its cells, but at the root, which stands already
 own_at : (plan : Plan) (set : List Atom) (a : Atom) (n : ℕ) → says (seen_of (set_with set)) a ≡ false
-    → n ≤ place_bound plan (place_for a) → n ≤ own_bound plan (places.place_for a)
+    → n ≤ place_bound plan (place_for a) → n ≤ own_bound plan (place_for a)
 own_at plan set (Here i) n new h =
     elim (told (i == 0)) [
       | inl q ↦ absurd (both (has_first same_atom atom_exact atom_itself (Here 0) set)
@@ -449,12 +448,12 @@ own_at plan set (Is v x) n new h = h
 
 source_fits : (plan : Plan) (v : ℕ) (x : Value) (a : Atom) (premises : List Atom) → a ≡ Is v x
     → premises ≡ why_there plan v
-    → length premises ≤ own_bound plan (places.place_for a)
+    → length premises ≤ own_bound plan (place_for a)
 source_fits plan v x a premises is from =
     let short = why_short plan v in
-    let own : length (why_there plan v) ≤ own_bound plan (places.place_for (Is v x)) = omega arith in
-    subst (λ z. length premises ≤ own_bound plan (places.place_for z)) (sym is)
-    (subst (λ ps. length ps ≤ own_bound plan (places.place_for (Is v x))) (sym from) own)
+    let own : length (why_there plan v) ≤ own_bound plan (place_for (Is v x)) = omega arith in
+    subst (λ z. length premises ≤ own_bound plan (place_for z)) (sym is)
+    (subst (λ ps. length ps ≤ own_bound plan (place_for (Is v x))) (sym from) own)
 
 pub found_fits_cells : FoundFitsCells
 found_fits_cells plan sources log (by_rule r) conclusion valid clear f =

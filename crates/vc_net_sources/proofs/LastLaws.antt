@@ -1,10 +1,10 @@
 -- In a clear set the rule of a variable's last grain says nothing new where the variable has a value: a grain alone
 -- that isn't out is the value's.
-use Rattle.std.proofs.Common.{◌≡◌, ℕ, suc, ◌<◌, Bool, true, false, cond, not, ◌==◌, List, [], ◌∷◌}
+use Rattle.std.proofs.Common.{◌≡◌, ℕ, ◌<◌, Bool, true, false, cond, not, ◌==◌, List, [], ◌∷◌}
 use Rattle.std.proofs.Common.{refl, sym, ◌∙◌, ap, subst, inl, inr, arith}
 use Rattle.std.specs.Prelude.{Option, None, Some, is_some, nat_eq, slice_get}
-use Rattle.std.specs.List.{filter, list_any}
-use Rattle.std.proofs.lemmas.Bool.{and_from, eq-eqb, false_from_ne_true, not_from_false, or_cases}
+use Rattle.std.specs.List.{filter}
+use Rattle.std.proofs.lemmas.Bool.{and_from, eq-eqb, false_from_ne_true, not_from_false}
 use Rattle.vc_base.specs.Rounds.{atoms}
 use Rattle.vc_base.specs.Sets.{has}
 use Rattle.vc_base.proofs.ChainLaws.{get_below}
@@ -29,17 +29,8 @@ use Rattle.vc_plan.proofs.PlanLaws.Extending.{value_has}
 use Rattle.vc_plan.proofs.PlanLaws.Facts.{Facts, facts}
 use Rattle.vc_plan_reasons.specs.Checking.{is_silent}
 use Rattle.vc_plan_blame.proofs.BlameLaws.Named.{one_in_piece}
+use Rattle.vc_plan_blame.proofs.BlameLaws.Unclear.{any_place}
 use Rattle.vc_net_sources.specs.Asking.{is_last_of_known}
-
--- the place of what passes a test
-any_place : {X : Type 0} (p : X → Bool) (xs : List X) → list_any p xs ≡ true
-    → (i : ℕ) × (x : X) × (slice_get xs i ≡ Some x) × (p x ≡ true)
-any_place p [] e = absurd (cc)
-any_place p (x ∷ xs) e =
-    elim (or_cases (p x) (list_any p xs) e) [
-      | inl h ↦ (0, x, refl, h)
-      | inr h ↦ let r = any_place p xs h in (suc r.0, r.1, r.2, r.3)
-    ]
 
 module _
     (plan : Plan) (set : List Atom) (v : ℕ) (a : Value) (clear : is_clear plan set ≡ true)

@@ -6,7 +6,7 @@ use Rattle.vc_base.specs.Sets.{has}
 use Rattle.vc_plan.specs.declared.atoms.Atom.{Atom}
 use Rattle.vc_plan.specs.declared.atoms.Step.{Step}
 use Rattle.vc_plan.specs.declared.plans.Plan.{Plan}
-use Rattle.vc_plan.specs.Bounds.{clash_bound, greatest, is_at, place_bound}
+use Rattle.vc_plan.specs.Bounds.{clash_bound, greatest, is_at, place_bound, place_for}
 use Rattle.vc_plan.specs.Clear.{is_clear}
 use Rattle.vc_plan.specs.Domains.{count_of}
 use Rattle.vc_plan.specs.Gives.{Giver, gives}
@@ -24,7 +24,6 @@ use Rattle.vc_rule_premises.specs.Sufficing.{each_premise}
 use Rattle.vc_rule.specs.Rooms.{rooms_of}
 use Rattle.vc_rule.specs.Following.{IsNext}
 use Rattle.vc_net_places.specs.Cells.{own_bound}
-use Rattle.vc_net_places.specs.Places.{place_for}
 use Rattle.vc_net_sources.specs.Asking.{evaluations, found_from, is_at_rest, origin_of, tells_nothing}
 
 -- without what it follows from it is what the giver gives

@@ -9,7 +9,7 @@ use Rattle.vc_base.proofs.SetLaws.{both, has_back, has_cases, has_first, has_fro
 use Rattle.vc_plan.specs.declared.atoms.Atom.{Atom}
 use Rattle.vc_plan.specs.declared.atoms.Atom.TheVariants.{Here, Out, Is}
 use Rattle.vc_plan.specs.declared.plans.Plan.{Plan}
-use Rattle.vc_plan.specs.Bounds.{Place, here_at, is_at, out_at}
+use Rattle.vc_plan.specs.Bounds.{Place, here_at, is_at, out_at, place_for}
 use Rattle.vc_plan.specs.Clear.{collides}
 use Rattle.vc_plan.specs.Domains.{atom_count}
 use Rattle.vc_plan.specs.Pieces.{same_value}
@@ -18,7 +18,7 @@ use Rattle.vc_plan.proofs.PlanLaws.Atoms.{atom_exact, atom_itself}
 use Rattle.vc_plan.proofs.PlanLaws.Facts.{Facts, facts, part_clear}
 use Rattle.vc_plan_reasons.specs.Checking.{set_with}
 use Rattle.vc_plan_blame.proofs.BlameLaws.Growing.{has_says}
-use Rattle.vc_net_places.specs.Places.{Index, is_place, number_of, place_for, place_in, place_of}
+use Rattle.vc_net_places.specs.Places.{Index, is_place, number_of, place_in, place_of}
 use Rattle.vc_net_places.proofs.PlaceLaws.Numbering.{named_have_places, places_are_apart, places_are_counted}
 use Rattle.vc_net_places.proofs.PlaceLaws.Things.{index_tells_places, things_are_counted}
 use Rattle.vc_net_standing.specs.declared.standing.Fact.{Fact}

@@ -5,7 +5,7 @@ use Rattle.std.specs.Prelude.{None, Some, IfSome, Option, ◌-◌, option_map, g
 use Rattle.std.specs.Prelude.{replicate, slice_get, slice_index_or, slice_set, if◌then◌else◌}
 use Rattle.std.specs.List.{AllByRecursion, IsDistinct, position_or_len}
 use Rattle.std.specs.Option.{is_some}
-use Rattle.std.proofs.lemmas.Bool.{and_parts, cases_lt, le-leb, ltb-true, or_cases, or_left, or_parts, or_right}
+use Rattle.std.proofs.lemmas.Bool.{and_parts, cases_lt, le-leb, ltb-true, or_cases, or_left, or_right}
 use Rattle.std.proofs.lemmas.List.{get_or-set_other, get_or-set_same, length-map, length-replicate, length-set}
 use Rattle.std.proofs.lemmas.List.Quantifiers.{position-Some}
 use Rattle.std.proofs.lemmas.List.Sums.{fails_before_first}
@@ -14,7 +14,7 @@ use Rattle.std.proofs.lemmas.Option.{get_or_from_slice_get, slice_get-get_or, sl
 use Rattle.std.proofs.lemmas.Map.Steps.{length-le_from_distinct_below}
 use Rattle.vc_base.specs.Sets.{has}
 use Rattle.vc_base.proofs.ListLaws.{number_exact, number_itself}
-use Rattle.vc_base.proofs.SetLaws.{both, has_cases, has_either, told}
+use Rattle.vc_base.proofs.SetLaws.{both, has_cases, has_either, told, distinct_more}
 use Rattle.vc_value.specs.declared.value.Value.{Value}
 use Rattle.vc_plan.specs.declared.atoms.Atom.{Atom}
 use Rattle.vc_plan.specs.declared.atoms.Atom.TheVariants.{Here, Out, Is}
@@ -27,27 +27,6 @@ use Rattle.vc_net_standing.specs.declared.standing.Fact.{Fact}
 use Rattle.vc_net_standing.specs.Keeping.{IsNumbered}
 use Rattle.vc_net_standing.specs.Standing.{atoms_of, is_free, number_if_at, number_if_of, places_of, value_by}
 use Rattle.vc_net_standing.specs.Standing.{value_if_of}
-
--- one element more that wasn't there
-module _ {A : Type 0} (same : A → A → Bool) (exact : (a b : A) → same a b ≡ true → a ≡ b)
-    (itself : (a : A) → same a a ≡ true) where
-  more_apart : (a : A) (xs : List A) (b : A) → AllByRecursion (λ x. same a x ≡ false) xs → same a b ≡ false
-      → AllByRecursion (λ x. same a x ≡ false) (xs ++ b ∷ [])
-  more_apart a [] b h e = (e, tt)
-  more_apart a (x ∷ xs) b h e = (h.0, more_apart a xs b h.1 e)
-
-  pub distinct_more : (xs : List A) (b : A) → IsDistinct same xs → has same xs b ≡ false
-      → IsDistinct same (xs ++ b ∷ [])
-  unfolding IsDistinct
-  distinct_more [] b d e = (tt, tt)
-  distinct_more (x ∷ xs) b d e =
-      let p = or_parts (same b x) (has same xs b) e in
-      let apart : same x b ≡ false
-      = elim (told (same x b)) [
-        | inl q ↦ absurd (both (subst (λ z. same z x ≡ true) (exact x b q) (itself x)) p.0)
-        | inr q ↦ q
-      ] in
-      (more_apart x xs b d.0 apart, distinct_more xs b d.1 p.1)
 
 map_more : {X Y : Type 0} (f : X → Y) (xs ys : List X) → map f (xs ++ ys) ≡ map f xs ++ map f ys
 map_more f [] ys = refl

@@ -21,11 +21,12 @@ use Rattle.vc_net_laws.proofs.NetLaws.Triggers.{triggers_are_needed}
 use Rattle.vc_net_laws.proofs.NetLaws.Working.{giver_exact, giver_itself, work_begins}
 use Rattle.vc_net_agenda.specs.Agendas.{nobody_on}
 use Rattle.vc_net_readers.specs.Waiting.{is_free}
+use Rattle.vc_net_agenda.proofs.AgendaLaws.{one_of}
 use Rattle.vc_net_waking.specs.Beginning.{all_sources, beginners, begun, untriggered, untriggered_below}
 use Rattle.vc_net_waking.specs.Laws.{BeginnersSuffice}
 use Rattle.vc_net_waking.specs.Waking.{rules_in, sources_of}
 use Rattle.vc_net_waking.proofs.GiverLaws.{each_waits}
-use Rattle.vc_net_waking.proofs.WakingLaws.{entry_below, entry_in, one_of, rule_below, user_below, user_in}
+use Rattle.vc_net_waking.proofs.WakingLaws.{entry_below, entry_in, rule_below, user_below, user_in}
 
 -- a rule that waits for no value is among them
 free_rule : (plan : Plan) (n r : ℕ) → r < n → is_free (trigger_by plan (by_rule r)) ≡ true

@@ -3,6 +3,5 @@ pub mod ComingLaws
 pub mod CountLaws
 pub mod GiverLaws
 pub mod SpendLaws
-pub mod Spreading
 pub mod StartLaws
 pub mod WakingLaws

@@ -47,8 +47,8 @@ use Rattle.vc_net_waking.specs.Spending.{AreOn, ConclusionsAreOfThings, HoldsWha
 use Rattle.vc_net_waking.specs.Spending.{RulesAreWithinWork, RulesWokenAreFew, WokenAreOn, is_rule}
 use Rattle.vc_net_waking.specs.Spending.{touches_one}
 use Rattle.vc_net_waking.proofs.CountLaws.{added_are, distinct_few, filter_once, givers_once}
-use Rattle.vc_net_waking.proofs.Spreading.{any_thing, rule_spreads, some_thing, source_spreads}
 use Rattle.vc_base.proofs.Settling.{IsIn}
+use Rattle.vc_plan_reasons.proofs.ReasonLaws.Spreading.{any_thing, rule_spreads, some_thing, source_spreads}
 
 pub conclusions_are_of_things : ConclusionsAreOfThings
 conclusions_are_of_things plan sources things giver set atom holds there touch given =

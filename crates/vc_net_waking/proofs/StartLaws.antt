@@ -25,6 +25,7 @@ use Rattle.vc_plan_reasons.specs.Things.{slots_of_kind, touches, var_at, vars_of
 use Rattle.vc_plan_reasons.specs.Work.{links_of, reach_of}
 use Rattle.vc_plan_reasons.proofs.ReasonLaws.Reaching.{reach_is_least, thing_exact, thing_itself}
 use Rattle.vc_plan_reasons.proofs.ReasonLaws.Writing.{has_var}
+use Rattle.vc_plan_reasons.proofs.ReasonLaws.Spreading.{any_thing, some_thing}
 use Rattle.vc_net_agenda.specs.Agendas.{Awaited, nobody_on}
 use Rattle.vc_net_laws.specs.Waking.{giver_touches}
 use Rattle.vc_net_laws.specs.Wakings.{things_of}
@@ -33,7 +34,6 @@ use Rattle.vc_net_waking.proofs.WakingLaws.{entry_below, entry_in, rule_below, s
 use Rattle.vc_net_waking.specs.Spending.{BeginnersAreOn, EachTouchesSomething, touches_one}
 use Rattle.vc_net_waking.proofs.CountLaws.{givers_once}
 use Rattle.vc_net_waking.proofs.SpendLaws.{given_are, touches_at}
-use Rattle.vc_net_waking.proofs.Spreading.{any_thing, some_thing}
 
 -- a slot or variable that is there is one of the plan's things
 mapped_slot : (slots : List ℕ) (i : ℕ) → has nat_eq slots i ≡ true → has_thing (map slot_at slots) (slot_at i) ≡ true

@@ -37,6 +37,7 @@ use Rattle.vc_net_readers.specs.Waiting.{grain_held, grain_with}
 use Rattle.vc_net_readers.proofs.AskedLaws.{asked_are_readers}
 use Rattle.vc_net_readers.proofs.ReaderLaws.{touching_are_asked}
 use Rattle.vc_net_readers.proofs.TouchedLemmas.{any_kept}
+use Rattle.vc_net_agenda.proofs.AgendaLaws.{one_of, none_of}
 use Rattle.vc_net_sources.specs.Asking.{is_at_rest, tells_nothing}
 use Rattle.vc_net_sources.proofs.SilenceLaws.{resting_are_quiet}
 use Rattle.vc_net_waking.specs.Laws.{WakingIsFew, WokenWait}
@@ -44,18 +45,6 @@ use Rattle.vc_net_waking.specs.Waking.{is_met, is_slot, is_stirred, is_var_of, m
 use Rattle.vc_net_waking.specs.Waking.{telling, telling_at, telling_in_slot, tells, waking, with_givers}
 use Rattle.vc_net_waking.proofs.ComingLaws.{few_come}
 use Rattle.vc_net_waking.proofs.GiverLaws.{each_waits}
-
--- a giver among those of mapped numbers
-pub one_of : (f : ℕ → Giver) (k : ℕ) → ((n : ℕ) → same_giver (f k) (f n) ≡ nat_eq k n) → (ns : List ℕ)
-    → has same_giver (map f ns) (f k) ≡ has nat_eq ns k
-one_of f k h [] = refl
-one_of f k h (n ∷ ns) =
-    ap (λ b. b || has same_giver (map f ns) (f k)) (h n) ∙ ap (λ b. nat_eq k n || b) (one_of f k h ns)
-
-none_of : (f : ℕ → Giver) (giver : Giver) → ((n : ℕ) → same_giver giver (f n) ≡ false) → (ns : List ℕ)
-    → has same_giver (map f ns) giver ≡ false
-none_of f giver h [] = refl
-none_of f giver h (n ∷ ns) = ap (λ b. b || has same_giver (map f ns) giver) (h n) ∙ none_of f giver h ns
 
 -- the numbers of a plan's givers
 abbrev rules_of : Plan → List ℕ

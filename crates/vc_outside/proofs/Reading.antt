@@ -3,7 +3,7 @@ use Rattle.std.proofs.Common.{◌≡◌, ℕ, ◌+◌, ◌<◌, min, List, [], �
 use Rattle.std.proofs.Common.{take-append-drop}
 use Rattle.std.proofs.lemmas.List.{drop-drop}
 
-no_length : (xs : List ℕ) → length xs ≡ 0 → xs ≡ []
+pub no_length : (xs : List ℕ) → length xs ≡ 0 → xs ≡ []
 no_length [] none = refl
 no_length (x ∷ xs) none = absurd (omega arith)
 

@@ -2,6 +2,8 @@
 use Rattle.std.specs.Prelude.{ℕ, ◌+◌, max, Bool, false, not, ◌&&◌, ◌||◌, ◌==◌, if◌then◌else◌, List, [], ◌∷◌, ◌++◌}
 use Rattle.std.specs.Prelude.{length, drop, map, flat_map, slice_get, Option, None, Some}
 use Rattle.std.specs.List.{filter, list_any, sum_by}
+use Rattle.vc_plan.specs.declared.atoms.Atom.{Atom}
+use Rattle.vc_plan.specs.declared.atoms.Atom.TheVariants.{Here, Out, Is}
 use Rattle.vc_plan.specs.declared.plans.Plan.{Plan}
 use Rattle.vc_plan.specs.declared.rules.Binding.{Binding}
 use Rattle.vc_plan.specs.declared.rules.Kind.{Kind}
@@ -17,6 +19,12 @@ pub data Place : Type 0 where
   here_at : ℕ → Place
   out_at : ℕ → ℕ → Place
   is_at : ℕ → Place
+
+-- that of an atom
+abbrev pub place_for : Atom → Place
+place_for (Here i) = here_at i
+place_for (Out v g) = out_at v g
+place_for (Is v a) = is_at v
 
 -- the list with each number once
 abbrev pub distinct : List ℕ → List ℕ

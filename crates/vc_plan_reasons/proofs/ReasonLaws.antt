@@ -10,5 +10,6 @@ pub mod Keeping
 pub mod Local
 pub mod Reaching
 pub mod Refuting
+pub mod Spreading
 pub mod Trimming
 pub mod Writing

@@ -27,7 +27,7 @@ use Rattle.vc_plan.specs.declared.rules.Kind.TheVariants.{Among, Compare, Equate
 use Rattle.vc_plan.specs.declared.rules.Restriction.{Restriction}
 use Rattle.vc_plan.specs.declared.rules.Rule.{Rule}
 use Rattle.vc_plan.specs.Answers.{nothing, clash_if, is_nothing, last_atoms}
-use Rattle.vc_plan.specs.Bounds.{acting_size, bound_of, clash_bound, compare_bound, condition_size, distinct}
+use Rattle.vc_plan.specs.Bounds.{acting_size, bound_of, clash_bound, compare_bound, condition_size, distinct, place_for}
 use Rattle.vc_plan.specs.Bounds.{equate_bound, greatest, is_narrowed, is_side, is_this, kind_clash_bound, only_if}
 use Rattle.vc_plan.specs.Bounds.{place_bound, side_grains, sides_size}
 use Rattle.vc_plan.specs.Domains.{numbers_below, grains_of, count_of, decimals_of, is_restrictable, is_grain_with}
@@ -67,7 +67,7 @@ use Rattle.vc_rule_table.proofs.FewLaws.{table_is_few}
 use Rattle.vc_rule_table.proofs.FollowingLaws.{all_kept, all_joined}
 use Rattle.vc_rule.specs.Evaluating.{kind_said, found_by}
 use Rattle.vc_rule.specs.Bounding.{ClearLiesInGrains, IsWithin, IsWithinPlaces}
-use Rattle.vc_rule.specs.Bounding.{FoundIsFew, FoundFitsPlaces, kind_bound, place_for}
+use Rattle.vc_rule.specs.Bounding.{FoundIsFew, FoundFitsPlaces, kind_bound}
 use Rattle.vc_rule.proofs.CountingLemmas.{acting_few, both_within, distinct_has, fewer, last_is, left_few}
 use Rattle.vc_rule.proofs.CountingLemmas.{mapped_is, slot_few, values_few, values_within}
 

@@ -4,14 +4,12 @@ use Rattle.std.proofs.Common.{sym, ◌∙◌, ap, subst, inl, inr, append_assoc,
 use Rattle.std.specs.Prelude.{Option, None, Some, slice_get, ◌==◌}
 use Rattle.std.specs.List.{list_all, AllByRecursion}
 use Rattle.std.proofs.lemmas.Bool.{and_parts, and_from, or_left, not-true, not_from_false, false_from_ne_true, eq-eqb}
-use Rattle.std.proofs.lemmas.List.Folds.{list_all-append}
 use Rattle.vc_base.specs.Chains.{accepted, all_pass, cited, is_justified}
 use Rattle.vc_base.specs.Rounds.{Given, clash, atoms, is_clash, atoms_of}
 use Rattle.vc_base.specs.Sets.{has}
 use Rattle.vc_base.proofs.SetLaws.{told, both, all_at, all_from, has_cases, has_first, has_front, has_more, has_filter}
 use Rattle.vc_base.proofs.SetLaws.{filter_has}
 use Rattle.vc_base.proofs.SetLaws.{within_cons}
-use Rattle.vc_value.specs.declared.value.Value.{Value}
 use Rattle.vc_plan.specs.declared.atoms.Atom.{Atom}
 use Rattle.vc_plan.specs.declared.atoms.Atom.TheVariants.{Here, Out, Is}
 use Rattle.vc_plan.specs.declared.atoms.Step.{Step}
@@ -19,7 +17,7 @@ use Rattle.vc_plan.specs.declared.plans.Plan.{Plan}
 use Rattle.vc_plan.specs.declared.rules.Kind.{Kind}
 use Rattle.vc_plan.specs.declared.rules.Kind.TheVariants.{Among, Compare, Equate, ByTable, Never, Last, Line}
 use Rattle.vc_plan.specs.declared.rules.Rule.{Rule}
-use Rattle.vc_plan.specs.Answers.{nothing, fresh, value_atoms}
+use Rattle.vc_plan.specs.Answers.{nothing, fresh}
 use Rattle.vc_plan.specs.Clear.{is_clear}
 use Rattle.vc_plan.specs.Domains.{is_grain_with}
 use Rattle.vc_plan.specs.Gives.{acts, by_rule, gives, kind_gives, rule_says}
@@ -29,21 +27,20 @@ use Rattle.vc_plan.specs.Sources.{Sources}
 use Rattle.vc_plan.proofs.PlanLaws.Atoms.{atom_exact, atom_itself}
 use Rattle.vc_plan.proofs.PlanLaws.Extending.{value_has, says_has}
 use Rattle.vc_plan.proofs.PlanLaws.Facts.{facts, part_clear}
+use Rattle.vc_plan_values.specs.Computing.{ValuesAreLeft}
 use Rattle.vc_plan_reasons.specs.Checking.{are_of, concluded, follows, is_accepted, set_with, step_form}
 use Rattle.vc_plan_reasons.specs.Refuting.{contradicts, is_clash_at, is_collision, is_of_constraint, is_restriction}
 use Rattle.vc_plan_reasons.specs.Things.{giver_reads, has_thing, reads_in, thing_of}
 use Rattle.vc_rule_yield.specs.Yielding.{Conclusion}
 use Rattle.vc_rule_premises.specs.Cited.{cited_once}
 use Rattle.vc_rule_premises.specs.Citing.{values_of, deciding_if, why_it_acts}
-use Rattle.vc_rule_premises.specs.Deciding.{SameValues}
 use Rattle.vc_rule_premises.specs.Saying.{Said, clashing, concluding, silent, conclusion_with, said_with, given_of}
 use Rattle.vc_rule_premises.specs.Sufficing.{IsPartOf, SaysAll, each_premise, Follows, EachFollows}
 use Rattle.vc_rule_premises.proofs.CitedLaws.{all_is_cited}
 use Rattle.vc_rule_premises.proofs.DecidingLaws.{acting_suffices}
-use Rattle.vc_rule_premises.proofs.SufficingLaws.{part_says, premises_are_a_part, value_said}
+use Rattle.vc_rule_premises.proofs.SufficingLaws.{part_says, premises_are_a_part}
 use Rattle.vc_rule_grains.proofs.KindLaws.{among_follows, last_follows, line_follows}
-use Rattle.vc_rule_sides.specs.Laws.{ValuesAreLeft}
-use Rattle.vc_rule_sides.proofs.FollowingLaws.{compare_follows, equate_follows}
+use Rattle.vc_rule_sides.proofs.FollowingLaws.{compare_follows, equate_follows, values_same, parts_said}
 use Rattle.vc_rule_table.proofs.FollowingLaws.{table_follows}
 use Rattle.vc_rule.specs.Evaluating.{kind_said, found_by, found_at}
 use Rattle.vc_rule.proofs.FoundLaws.{found_beside_root, found_is_given}
@@ -52,11 +49,6 @@ use Rattle.vc_rule.proofs.StandingLaws.{found_stands}
 use Rattle.vc_rule.specs.Following.{clash_by, IsStep, AllFollow, FoundFollows, FoundIsConcluded}
 use Rattle.vc_rule.specs.Following.{FoundIsNew, FoundIsNext, FoundRefutes, IsNew, NextIsAccepted, NextMayWait}
 
--- what is said of all of two lists is said of each
-parts_said : (part : Seen) (xs ys : List Atom) → SaysAll part (xs ++ ys) → SaysAll part xs × SaysAll part ys
-parts_said part xs ys h = and_parts (list_all (says part) xs) (list_all (says part) ys)
-    (sym (list_all-append (says part) xs ys) ∙ h)
-
 -- slots that are said are here, and variables whose values are said have the same values
 slots_said : (part : Seen) (is : List ℕ) → SaysAll part (map Here is) → list_all part.here is ≡ true
 slots_said part [] h = refl
@@ -64,23 +56,6 @@ slots_said part (i ∷ is) h =
     let p : (part.here i ≡ true) × (SaysAll part (map Here is)) =
     and_parts (part.here i) (list_all (says part) (map Here is)) h in
     and_from (part.here i) (list_all part.here is) p.0 (slots_said part is p.1)
-
-values_same : (part seen : Seen) → IsPartOf part seen → (vs : List ℕ) → SaysAll part (values_of seen vs)
-    → SameValues part seen vs
-values_same part seen w [] h = tt
-values_same part seen w (v ∷ vs) h =
-    let p = parts_said part (value_atoms v (seen.value v)) (values_of seen vs) h in
-    (one (seen.value v) refl p.0, values_same part seen w vs p.1)
-  where
-    none : (o : Option Value) → part.value v ≡ o → seen.value v ≡ None → part.value v ≡ None
-    none None e n = e
-    none (Some b) e n = let there : seen.value v ≡ Some b = w.value v b e in absurd (cc)
-
-    one : (o : Option Value) → seen.value v ≡ o → SaysAll part (value_atoms v o) → part.value v ≡ seen.value v
-    one None e k = none (part.value v) refl e ∙ sym e
-    one (Some a) e k =
-        let q : (says part (Is v a) ≡ true) × (true ≡ true) = and_parts (says part (Is v a)) true k in
-        value_said part v a q.0 ∙ sym e
 
 -- no grain that holds its variable's value is out in a clear set
 values_left : (plan : Plan) (set : List Atom) → is_clear plan set ≡ true → ValuesAreLeft plan (seen_of set)

@@ -6,7 +6,7 @@ use Rattle.vc_plan.specs.declared.atoms.Atom.TheVariants.{Here, Out, Is}
 use Rattle.vc_plan.specs.declared.plans.Plan.{Plan}
 use Rattle.vc_plan.specs.declared.rules.Kind.{Kind}
 use Rattle.vc_plan.specs.declared.rules.Rule.{Rule}
-use Rattle.vc_plan.specs.Bounds.{Place, here_at, is_at, out_at, here_bound, is_bound, out_bound, kind_clash_bound}
+use Rattle.vc_plan.specs.Bounds.{here_bound, is_bound, out_bound, kind_clash_bound, place_for}
 use Rattle.vc_plan.specs.Bounds.{clash_bound, greatest, place_bound}
 use Rattle.vc_plan.specs.Clear.{is_clear}
 use Rattle.vc_plan.specs.Seen.{Seen, seen_of}
@@ -14,12 +14,6 @@ use Rattle.vc_plan.specs.Valid.{IsValid}
 use Rattle.vc_plan_values.specs.Computing.{LiesInGrains}
 use Rattle.vc_rule_premises.specs.Saying.{Said, clashing, concluding}
 use Rattle.vc_rule.specs.Evaluating.{found_at}
-
--- the place of an atom
-abbrev pub place_for : Atom → Place
-place_for (Here i) = here_at i
-place_for (Out v g) = out_at v g
-place_for (Is v a) = is_at v
 
 -- the premises at most of an atom that a rule of the kind concludes
 abbrev pub kind_bound : Plan → Rule → Kind → Atom → ℕ

@@ -71,7 +71,7 @@ all_cited_after y (a ∷ premises) =
               ]
         ]
 
-concluded_cites : (y : Yielded) (a : Atom) → (concluded y a).cites ≡ y.cites
+pub concluded_cites : (y : Yielded) (a : Atom) → (concluded y a).cites ≡ y.cites
 concluded_cites y a =
     elim (may_conclude y y.clash) as (λ b. (concluded_if b y a).cites ≡ y.cites) [ true ↦ refl | false ↦ refl ]
 

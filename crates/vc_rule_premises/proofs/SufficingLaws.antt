@@ -1,18 +1,22 @@
 -- What premises that stand say is a part of what is seen; and what is said from one list of premises follows where
 -- those are enough.
-use Rattle.std.proofs.Common.{◌≡◌, ℕ, Bool, true, not, List, [], ◌∷◌, map, refl, sym, ◌∙◌, ap}
+use Rattle.std.proofs.Common.{◌≡◌, ℕ, Bool, true, not, List, [], ◌∷◌, map, refl, sym, ◌∙◌, ap, subst}
 use Rattle.std.specs.Prelude.{Option, None, Some}
 use Rattle.std.specs.List.{filter, list_all, AllByRecursion}
-use Rattle.std.proofs.lemmas.Bool.{and_from}
+use Rattle.std.proofs.lemmas.Bool.{and_from, not-true, not_from_false, false_from_ne_true}
 use Rattle.vc_base.specs.Rounds.{Given, clash, atoms, is_clash, atoms_of}
 use Rattle.vc_base.specs.Sets.{has}
-use Rattle.vc_base.proofs.SetLaws.{all_at, all_from, has_more, has_first, has_filter}
+use Rattle.vc_base.proofs.SetLaws.{all_at, all_from, has_more, has_first, has_filter, both}
 use Rattle.vc_value.specs.declared.value.Value.{Value}
 use Rattle.vc_plan.specs.declared.atoms.Atom.{Atom}
 use Rattle.vc_plan.specs.declared.atoms.Atom.TheVariants.{Here, Out, Is}
-use Rattle.vc_plan.specs.Seen.{Seen, same_atom, seen_of, value_in, is_value, says}
+use Rattle.vc_plan.specs.declared.plans.Plan.{Plan}
+use Rattle.vc_plan.specs.Domains.{is_grain_with}
+use Rattle.vc_plan.specs.Pieces.{lies_in}
+use Rattle.vc_plan.specs.Seen.{Seen, same_atom, seen_of, value_in, is_value, says, is_left_by}
 use Rattle.vc_plan.proofs.PlanLaws.Atoms.{atom_exact, atom_itself, value_exact, value_itself}
 use Rattle.vc_plan.proofs.PlanLaws.Extending.{value_has, value_read}
+use Rattle.vc_plan_values.specs.Computing.{ValuesAreLeft}
 use Rattle.vc_rule_premises.specs.Laws.{PremisesAreAPart}
 use Rattle.vc_rule_premises.specs.Saying.{conclusion_from, said_from}
 use Rattle.vc_rule_premises.specs.Sufficing.{IsPartOf, SaysAll, each_premise, Follows, EachFollows, seen_from}
@@ -94,3 +98,19 @@ follows_from gives seen why f = by (gives seen) refl
     by (atoms xs) e =
         each xs (filter (λ a. not (says seen a)) xs) e
         (λ a h. let k = has_filter same_atom atom_exact atom_itself (λ c. not (says seen c)) xs a h in k.0)
+
+-- a grain that is left stays left at a part
+pub left_by : (plan : Plan) (seen part : Seen) → IsPartOf part seen → ValuesAreLeft plan seen
+    → (v g : ℕ) (o p : Option Value)
+    → part.value v ≡ o → seen.value v ≡ p → is_left_by plan seen v g p ≡ true → is_left_by plan part v g o ≡ true
+left_by plan seen part w kept v g None None e k h =
+    not_from_false (part.out v g)
+    (false_from_ne_true (part.out v g) (λ q. both (w.out v g q) (not-true (seen.out v g) h)))
+left_by plan seen part w kept v g None (Some b) e k h =
+    not_from_false (part.out v g) (false_from_ne_true (part.out v g) (λ q. both (w.out v g q) (kept v g b k h)))
+left_by plan seen part w kept v g (Some a) None e k h =
+    let no : None ≡ Some a = sym k ∙ w.value v a e in absurd (cc)
+left_by plan seen part w kept v g (Some a) (Some b) e k h =
+    let now : Some b ≡ Some a = sym k ∙ w.value v a e in
+    let same : b ≡ a = cc in
+    subst (λ z. is_grain_with plan v (lies_in z) g ≡ true) same h

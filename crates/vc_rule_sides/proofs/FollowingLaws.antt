@@ -5,7 +5,7 @@ use Rattle.std.proofs.Common.{◌≡◌, ℕ, Bool, true, false, cond, ◌&&◌,
 use Rattle.std.proofs.Common.{subst}
 use Rattle.std.specs.Prelude.{slice_get, min, is_none, not, Option, None, Some}
 use Rattle.std.specs.List.{filter, list_all, AllByRecursion}
-use Rattle.std.proofs.lemmas.Bool.{and_parts, and_from, not-true, not_from_false, false_from_ne_true}
+use Rattle.std.proofs.lemmas.Bool.{and_parts, and_from, false_from_ne_true}
 use Rattle.std.proofs.lemmas.List.Folds.{list_all-append}
 use Rattle.vc_base.specs.Rounds.{Given, clash, atoms, is_clash, atoms_of}
 use Rattle.vc_base.specs.Sets.{has}
@@ -21,34 +21,35 @@ use Rattle.vc_plan.specs.declared.rules.Rule.{Rule}
 use Rattle.vc_plan.specs.Answers.{value_atoms, clash_if, beside, is_nothing}
 use Rattle.vc_plan.specs.Domains.{numbers_below, count_of, is_restrictable, is_grain_with}
 use Rattle.vc_plan.specs.Kleene.{is_false}
-use Rattle.vc_plan.specs.Pieces.{lies_in, turned}
+use Rattle.vc_plan.specs.Pieces.{turned}
 use Rattle.vc_plan.specs.Readings.{net_reading}
 use Rattle.vc_plan.specs.Reads.{vars_of_term}
 use Rattle.vc_plan.specs.Restrictions.{failing, left_with, of_remaining, confined, related, lone, lone_inferred}
 use Rattle.vc_plan.specs.Restrictions.{equal_to, decimals_in_side, differ}
-use Rattle.vc_plan.specs.Seen.{Seen, same_atom, says, is_left_by, is_left}
+use Rattle.vc_plan.specs.Seen.{Seen, same_atom, says, is_left}
 use Rattle.vc_plan.specs.Truth.{compared, value_at}
 use Rattle.vc_plan.proofs.PlanLaws.Atoms.{atom_exact, atom_itself}
 use Rattle.vc_plan.proofs.PlanLaws.Truths.{Later, sharper_false, sharper_compared, value_at_later}
+use Rattle.vc_plan_values.specs.Computing.{ValuesAreLeft}
 use Rattle.vc_plan_reasons.proofs.ReasonLaws.Agreeing.{SameValues, value_same}
 use Rattle.vc_rule_yield.specs.Yielding.{Conclusion}
 use Rattle.vc_rule_premises.specs.Citing.{values_of}
 use Rattle.vc_rule_premises.specs.Saying.{Said, together, clash_when, conclusion_from, said_from}
 use Rattle.vc_rule_premises.specs.Sufficing.{IsPartOf, SaysAll, Follows, EachFollows}
-use Rattle.vc_rule_premises.proofs.SufficingLaws.{value_said}
+use Rattle.vc_rule_premises.proofs.SufficingLaws.{value_said, left_by}
 use Rattle.vc_rule_grains.specs.Confining.{why_confined}
 use Rattle.vc_rule_grains.proofs.KindLaws.{confining_suffices}
 use Rattle.vc_rule_sides.specs.Comparing.{values_in, may_relate, related_said}
-use Rattle.vc_rule_sides.specs.Laws.{ValuesAreLeft, CompareFollows, EquateFollows}
+use Rattle.vc_rule_sides.specs.Laws.{CompareFollows, EquateFollows}
 use Rattle.vc_rule_sides.proofs.SidesLaws.{related_premises, from_premises}
 
 -- what is said of all of two lists is said of each
-parts_said : (part : Seen) (xs ys : List Atom) → SaysAll part (xs ++ ys) → SaysAll part xs × SaysAll part ys
+pub parts_said : (part : Seen) (xs ys : List Atom) → SaysAll part (xs ++ ys) → SaysAll part xs × SaysAll part ys
 parts_said part xs ys h =
     and_parts (list_all (says part) xs) (list_all (says part) ys) (sym (list_all-append (says part) xs ys) ∙ h)
 
 -- variables whose values are said have the same values
-values_same : (part seen : Seen) → IsPartOf part seen → (vs : List ℕ) → SaysAll part (values_of seen vs)
+pub values_same : (part seen : Seen) → IsPartOf part seen → (vs : List ℕ) → SaysAll part (values_of seen vs)
     → SameValues part seen vs
 values_same part seen w [] h = tt
 values_same part seen w (v ∷ vs) h =
@@ -147,22 +148,6 @@ module _ (seen : Seen) (t : Seen → Bool) (g h : Seen → Given Atom) (why p q 
           (all_follow q ys (λ part w s a i. second_has (t part) ys (g part) (h part) a (none part w c)
           (second part w s ∙ f)
           (first_clear part w (ap is_clash e)) i))
-
--- a grain that is left stays left at a part
-left_by : (plan : Plan) (seen part : Seen) → IsPartOf part seen → ValuesAreLeft plan seen
-    → (v g : ℕ) (o p : Option Value)
-    → part.value v ≡ o → seen.value v ≡ p → is_left_by plan seen v g p ≡ true → is_left_by plan part v g o ≡ true
-left_by plan seen part w kept v g None None e k h =
-    not_from_false (part.out v g)
-    (false_from_ne_true (part.out v g) (λ q. both (w.out v g q) (not-true (seen.out v g) h)))
-left_by plan seen part w kept v g None (Some b) e k h =
-    not_from_false (part.out v g) (false_from_ne_true (part.out v g) (λ q. both (w.out v g q) (kept v g b k h)))
-left_by plan seen part w kept v g (Some a) None e k h =
-    let no : None ≡ Some a = sym k ∙ w.value v a e in absurd (cc)
-left_by plan seen part w kept v g (Some a) (Some b) e k h =
-    let now : Some b ≡ Some a = sym k ∙ w.value v a e in
-    let same : b ≡ a = cc in
-    subst (λ z. is_grain_with plan v (lies_in z) g ≡ true) same h
 
 -- what a part says confines a variable without a clash where the whole does
 confined_clear : (plan : Plan) (seen part : Seen) → IsPartOf part seen → ValuesAreLeft plan seen

@@ -1,14 +1,12 @@
 -- Laws of what a comparison and an equation say.
-use Rattle.std.specs.Prelude.{◌≡◌, ℕ, true, false, map, Some}
-use Rattle.vc_value.specs.declared.value.Value.{Value}
+use Rattle.std.specs.Prelude.{◌≡◌, ℕ, map}
 use Rattle.vc_plan.specs.declared.conditions.Relation.{Relation}
 use Rattle.vc_plan.specs.declared.plans.Plan.{Plan}
 use Rattle.vc_plan.specs.declared.rules.Rule.{Rule}
 use Rattle.vc_plan.specs.Answers.{fresh}
-use Rattle.vc_plan.specs.Domains.{is_grain_with}
-use Rattle.vc_plan.specs.Pieces.{lies_in}
 use Rattle.vc_plan.specs.Restrictions.{compare, equate}
 use Rattle.vc_plan.specs.Seen.{Seen}
+use Rattle.vc_plan_values.specs.Computing.{ValuesAreLeft}
 use Rattle.vc_plan_reasons.specs.Things.{var_at, vars_of_sides}
 use Rattle.vc_rule_premises.specs.Saying.{given_of}
 use Rattle.vc_rule_premises.specs.Sufficing.{EachFollows}
@@ -42,11 +40,6 @@ CompareIsRead = (plan : Plan) (seen : Seen) (rule : Rule) (r : Relation) (a b : 
 abbrev pub EquateIsRead : Type 0
 EquateIsRead = (plan : Plan) (seen : Seen) (rule : Rule) (a b : ℕ)
     → IsOf (map var_at (vars_of_sides plan a b)) (equate_said plan seen rule a b)
-
--- no grain that holds its variable's value is out, as in every clear set
-abbrev pub ValuesAreLeft : Plan → Seen → Type 0
-ValuesAreLeft plan seen = (v g : ℕ) (a : Value) → seen.value v ≡ Some a → is_grain_with plan v (lies_in a) g ≡ true
-    → seen.out v g ≡ false
 
 -- all that is said follows from its premises alone
 abbrev pub CompareFollows : Type 0

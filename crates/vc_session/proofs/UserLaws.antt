@@ -20,6 +20,8 @@ use Rattle.vc_plan.specs.Fitting.{may_have_if, may_hold, users_fit}
 use Rattle.vc_plan_users.specs.Choosing.{Chosen, held_texts, let_go, listed_at, marked, none_chosen, not_held, set_at}
 use Rattle.vc_plan_users.specs.Choosing.{users_of, with_value}
 use Rattle.vc_plan_users.specs.declared.users.SetText.{SetText}
+use Rattle.vc_plan_reasons.proofs.ReasonLaws.Fitting.{put_in, all_pass}
+use Rattle.vc_plan_blame.proofs.BlameLaws.Sources.{past_none}
 use Rattle.vc_net.specs.Differing.{SameBeside}
 use Rattle.vc_session_evaluation.specs.Following.{DifferAt}
 use Rattle.vc_session.specs.Edits.{given, given_alone, may_be_given, taken, taken_value, touched_by}
@@ -69,26 +71,9 @@ each_number p n v all past =
       | inr h ↦ past h
     ]
 
-past_none : {X : Type 0} (xs : List (Option X)) (v : ℕ) → length xs ≤ v → slice_index_or xs v None ≡ None
-past_none [] v h = refl
-past_none (x ∷ xs) zero h = absurd (omega (arith, h))
-past_none (x ∷ xs) (suc v) h = past_none xs v (omega (arith, h))
-
-all_pass : (p : ℕ → Bool) (xs : List ℕ) → ((x : ℕ) → p x ≡ true) → list_all p xs ≡ true
-all_pass p [] h = refl
-all_pass p (x ∷ xs) h = and_from (p x) (list_all p xs) (h x) (all_pass p xs h)
-
 -- each variable's value is one that the user may give
 abbrev Values : Plan → List (Option Value) → Type 0
 Values plan values = (v : ℕ) → may_have_if plan v (slice_index_or values v None) ≡ true
-
-put_in : {X : Type 0} (P : ℕ → Option X → Type 0) (xs : List (Option X)) (v : ℕ) (x : Option X)
-    → ((u : ℕ) → P u (slice_index_or xs u None)) → P v x → (u : ℕ) → P u (slice_index_or (slice_set xs v x) u None)
-put_in P [] v x all one u = all u
-put_in P (y ∷ xs) zero x all one zero = one
-put_in P (y ∷ xs) zero x all one (suc u) = all (suc u)
-put_in P (y ∷ xs) (suc v) x all one zero = all zero
-put_in P (y ∷ xs) (suc v) x all one (suc u) = put_in (λ k. P (suc k)) xs v x (λ k. all (suc k)) one u
 
 -- what is held of a set is of its list
 more_listed : (a : ℕ) (list xs : List ℕ) → list_all (λ t. list_any (λ l. l == t) list) xs ≡ true

@@ -21,7 +21,7 @@ use Rattle.vc_session_stages.specs.Stages.{ComesTo, LastSetSettles, LateIsSeen, 
 use Rattle.vc_session_stages.specs.Stages.{StagesBreak, StagesGoOn, StagesSettle, WasHereIsSeen, seen_at}
 
 -- what the set of a stage says
-said_at : (sets : List (List Atom)) (k : ℕ) → seen_at (map seen_of sets) k ≡ seen_of (set_at sets k)
+pub said_at : (sets : List (List Atom)) (k : ℕ) → seen_at (map seen_of sets) k ≡ seen_of (set_at sets k)
 said_at [] k = refl
 said_at (set ∷ sets) zero = refl
 said_at (set ∷ sets) (suc k) = said_at sets k

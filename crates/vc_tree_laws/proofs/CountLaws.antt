@@ -26,8 +26,8 @@ use Rattle.vc_model_laws.proofs.Holding.{each}
 use Rattle.vc_model_laws.proofs.LineCases.{at_object, item_made, operation_made}
 use Rattle.vc_model_laws.proofs.NamesLaws.{made}
 use Rattle.vc_model_laws.proofs.Walks.{Sound, each_said}
+use Rattle.vc_model_laws.proofs.SpelledLaws.{spelled}
 use Rattle.vc_tree_laws.specs.Spelled.{IsSpelled, KeepsCounts}
-use Rattle.vc_tree_laws.proofs.ModelTreeLaws.{spelled}
 
 -- what is read as a term is one that a text spells
 module _ (test : Dependency → Bool) (holds : (tree : Dependency) → IsSpelled tree → test tree ≡ true) where

@@ -1,6 +1,6 @@
 -- Blocks are UTF-8 where a text is, so the texts in a model's dependencies are texts; and their statements are few.
 use Rattle.std.proofs.Common.{◌≡◌, ℕ, zero, suc, Bool, true, List, [], ◌∷◌, Option, Some, None}
-use Rattle.std.proofs.Common.{IsUtf8, Result, refl, sym, subst, arith}
+use Rattle.std.proofs.Common.{IsUtf8, Result, refl, arith}
 use Rattle.std.specs.Prelude.{option_map}
 use Rattle.std.specs.Result.{result_ok}
 use Rattle.std.specs.List.{list_all}
@@ -12,7 +12,6 @@ use Rattle.vc_syntax_tree.specs.Trees.{Dependency}
 use Rattle.vc_syntax.specs.DependencyTexts.{dependency_in}
 use Rattle.vc_syntax.proofs.SpelledLaws as ways
 use Rattle.vc_syntax.proofs.SpelledLaws.{Found, found}
-use Rattle.vc_model_lines.specs.Classified.{lines_of}
 use Rattle.vc_model_lines.specs.declared.line.Line.{Line}
 use Rattle.vc_model_lines.specs.declared.line.Line.TheVariants as lines
 use Rattle.vc_model_lines.specs.declared.line.BlockLine.{BlockLine}
@@ -22,16 +21,16 @@ use Rattle.vc_model_scope.specs.declared.scope.Scope.{Scope}
 use Rattle.vc_model_faults.specs.First.{backwards}
 use Rattle.vc_model_faults.specs.Readings.{dependency_reading, dependency_read, reading, tree_in}
 use Rattle.vc_model_drafts.specs.Models.{dependency_at, model_of}
-use Rattle.vc_model_drafts.specs.Seen.{SeenModel}
 use Rattle.vc_compile_plan.specs.Texts.{texts_in}
 use Rattle.vc_model_laws.specs.Laws.{SpelledKeeps}
 use Rattle.vc_model_laws.proofs.LineCases.{dependency_made}
 use Rattle.vc_model_laws.proofs.Holding.{each}
-use Rattle.vc_model_laws.proofs.LineForms.{is_formed, lines_formed}
+use Rattle.vc_model_laws.proofs.LineForms.{is_formed}
 use Rattle.vc_model_laws.proofs.NamesLaws.{made}
-use Rattle.vc_model_laws.proofs.Walks.{Sound, Stands, sound}
+use Rattle.vc_model_laws.proofs.Walks.{Sound, Stands}
 use Rattle.std.specs.Prelude.{nat_le}
 use Rattle.std.proofs.lemmas.Bool.{le-leb}
+use Rattle.vc_model_laws.proofs.SpelledLaws.{spelled}
 use Rattle.vc_tree_laws.specs.Literals.{is_literal, KeepsLiterals}
 use Rattle.vc_tree_laws.specs.Spelled.{IsSpelled, KeepsTrees}
 use Rattle.vc_tree_laws.specs.Statements.{statements_in, KeepsStatements}
@@ -157,11 +156,6 @@ all_trees : (test : Dependency → Bool) → Holds test → (ls : List Line) →
 all_trees test holds ls s =
     made (dependency_at (scope_of (backwards [] ls))) (λ d. test d.tree) ls s
     (λ e n line below p. trees_at test holds (backwards [] ls) e (scope_of (backwards [] ls)) n line below p)
-
-pub spelled : (P : SeenModel → Type 0) → ((ls : List Line) → Sound [] ls → P (model_of ls)) → SpelledKeeps P
-spelled P keeps text model spells =
-    let ls = lines_of text in
-    subst P (sym spells.model_is) (keeps ls (sound ls (lines_formed text spells.utf8) spells.sound))
 
 pub spelled_keeps_literals : SpelledKeeps KeepsLiterals
 spelled_keeps_literals =

@@ -38,7 +38,7 @@ use Rattle.vc_syntax_tokens.specs.Tokens.{is_gap, place_after, token_of, token_a
 use Rattle.vc_syntax_tokens.specs.Tokens.{tokens_of}
 use Rattle.vc_plan.specs.Spelling.{begins_character, is_text}
 use Rattle.vc_model_laws.proofs.TextsLaws.{counted, some_byte}
-use Rattle.vc_model_laws.proofs.Utf8Lemmas.{cut_front, cut_back}
+use Rattle.vc_model_laws.proofs.Utf8Lemmas.{cut_front, cut_back, Quoted}
 use Rattle.vc_tree_laws.specs.Literals.{is_literal}
 
 -- whether a lexeme is no text, or a good one
@@ -52,11 +52,6 @@ AllGood ts = list_all (λ t. is_good t.lexeme) ts ≡ true
 -- and no more tokens than a dependency may have
 abbrev pub Good : List Token → Type 0
 Good ts = AllGood ts × (length ts ≤ 4000)
-
--- what stands before the quote that closes a text
-abbrev Quoted : List ℕ → Option (List ℕ) → Type 0
-Quoted front None = Unit {0}
-Quoted front (Some text) = IsUtf8 (front ++ text)
 
 abbrev Ahead : Bool → List ℕ → List ℕ → Type 0
 Ahead false front bytes = IsUtf8 (front ++ bytes)

@@ -16,7 +16,7 @@ use Rattle.std.proofs.lemmas.List.Sums.{prefix_len-le-length}
 use Rattle.std.proofs.lemmas.Option.{slice_get_past}
 
 -- a name of two lists is found in the first, or else in the second
-lookup_join : {K V : Type 0} (test : K → Bool) (first second : List (K × V))
+pub lookup_join : {K V : Type 0} (test : K → Bool) (first second : List (K × V))
     → lookup test (first ++ second) ≡ option_or (lookup test first) (lookup test second)
 lookup_join test [] second = refl
 lookup_join test (pair ∷ pairs) second = by (test pair.0) (lookup_join test pairs second)

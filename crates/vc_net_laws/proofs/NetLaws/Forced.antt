@@ -1,8 +1,7 @@
 -- Forced and sound sets, and how their ends tell where settling ends.
-use Rattle.std.proofs.Common.{◌≡◌, ◌<◌, Bool, true, List, [], ◌∷◌, ◌++◌, length, ◌∙◌, ap, sym, inl, inr, subst, refl}
-use Rattle.std.specs.List.{list_all}
-use Rattle.std.proofs.lemmas.Bool.{and_parts, ltb-true}
-use Rattle.vc_base.specs.Rounds.{Given, clash, atoms, is_clash, atoms_of, Settlement, broken, settled, some_clash}
+use Rattle.std.proofs.Common.{◌≡◌, ◌<◌, true, List, [], ◌∷◌, ◌++◌, length, sym, inl, inr, subst, refl}
+use Rattle.std.proofs.lemmas.Bool.{ltb-true}
+use Rattle.vc_base.specs.Rounds.{is_clash, atoms_of, Settlement, broken, settled, some_clash}
 use Rattle.vc_base.specs.Sets.{has, Within}
 use Rattle.vc_base.proofs.SetLaws.{both, has_cases, has_either, has_first, has_front, same_test, told}
 use Rattle.vc_base.proofs.Settling as settling
@@ -19,8 +18,9 @@ use Rattle.vc_plan.proofs.PlanLaws.Atoms.{atom_exact, atom_itself}
 use Rattle.vc_plan.proofs.PlanLaws.Facts.{Facts, facts, part_clear}
 use Rattle.vc_plan.proofs.PlanLaws.Givers.{clashes_stay, system_laws}
 use Rattle.vc_plan.proofs.PlanLaws.Rounds.{settles_below_closed, settles_least}
-use Rattle.vc_plan_reasons.specs.Checking.{concluded, is_silent}
-use Rattle.vc_plan_reasons.proofs.ReasonLaws.Closed.{Settled, all_stand, conclusions_stand, settled_closed}
+use Rattle.vc_plan_reasons.specs.Checking.{concluded}
+use Rattle.vc_plan_reasons.proofs.ReasonLaws.Closed.{Settled, all_in, all_stand, conclusions_stand, settled_closed}
+use Rattle.vc_plan_reasons.proofs.ReasonLaws.Closed.{silent_calm, silent_none}
 use Rattle.vc_plan_reasons.proofs.ReasonLaws.Givers.{clashing_in, giving_in}
 use Rattle.vc_net_laws.specs.Forced.{BaseIsForced, ClashBreaks, GivenIsForced, IsForced, IsSound, LogsAreForced}
 use Rattle.vc_net_laws.specs.Forced.{QuietSettles, SoundSetsGrow, UnclearBreaks, is_quiet}
@@ -91,15 +91,6 @@ clash_breaks plan sources set giver sound h =
     (clashing_in plan sources giver set h)
     (clashes_stay plan sources giver set closed c.clear (sound.forced closed c w) h)) c.calm)
 
-silent_calm : (x : Given Atom) → is_silent x ≡ true → is_clash x ≡ true → ⊥
-silent_calm clash e h = cc
-silent_calm (atoms xs) e h = cc
-
-silent_none : (x : Given Atom) (a : Atom) → is_silent x ≡ true → has same_atom (atoms_of x) a ≡ true → ⊥
-silent_none clash a e h = cc
-silent_none (atoms []) a e h = cc
-silent_none (atoms (b ∷ more)) a e h = cc
-
 -- a clear set at which all givers are quiet is closed
 pub quiet_closed : (plan : Plan) (sources : Sources) (set : List Atom) → is_clear plan set ≡ true
     → ((giver : Giver) → settling.IsIn giver (givers_of plan) → is_quiet plan sources set giver ≡ true)
@@ -134,12 +125,6 @@ closed_settles plan sources set sound closed =
       λ a. same_test (has same_atom end.0 a) (has same_atom set a)
           (settles_least plan sources end.0 set end.1 closed sound.rooted a) (sound.forced end.0 s.closed s.root a),
     )
-
--- a test that all of a list pass
-all_in : {O : Type 0} (p : O → Bool) (o : O) (os : List O) → list_all p os ≡ true → settling.IsIn o os → p o ≡ true
-all_in p o [] e i = absurd i
-all_in p o (x ∷ os) e (inl q) = ap p q ∙ (and_parts (p x) (list_all p os) e).0
-all_in p o (x ∷ os) e (inr i) = all_in p o os (and_parts (p x) (list_all p os) e).1 i
 
 pub quiet_settles : QuietSettles
 quiet_settles plan sources set sound quiet =

@@ -1,11 +1,12 @@
 -- The work on the way to where settling ends: how it begins, goes on and ends.
 use Rattle.std.proofs.Common.{◌≡◌, Bool, true, false, ◌||◌, ◌⊎◌, List, [], ◌∷◌, ◌++◌, refl, sym, ◌∙◌, ap, subst, inl}
 use Rattle.std.proofs.Common.{inr}
-use Rattle.std.specs.List.{AllByRecursion, IsDistinct, filter}
+use Rattle.std.specs.List.{filter}
 use Rattle.std.proofs.lemmas.Bool.{and_from, eq-eqb, eqb-true, or_cases, or_left, or_parts}
 use Rattle.vc_base.specs.Rounds.{Given, clash, atoms, atoms_of, is_clash}
 use Rattle.vc_base.specs.Sets.{has, Within}
 use Rattle.vc_base.proofs.SetLaws.{both, filter_has, has_cases, has_either, has_first, has_front, has_more, told}
+use Rattle.vc_base.proofs.SetLaws.{distinct_more}
 use Rattle.vc_base.proofs.Settling as settling
 use Rattle.vc_plan.specs.declared.atoms.Atom.{Atom}
 use Rattle.vc_plan.specs.declared.plans.Plan.{Plan}
@@ -104,27 +105,6 @@ work_begins plan sources log agenda accepted clear distinct all = record {
   quiet = λ giver e. stranger_quiet plan sources (base ++ concluded log) giver
       (part_lacks (givers_of plan) agenda all giver e);
 }
-
--- one element more that wasn't there
-module _ {A : Type 0} (same : A → A → Bool) (exact : (a b : A) → same a b ≡ true → a ≡ b)
-    (itself : (a : A) → same a a ≡ true) where
-  more_apart : (a : A) (xs : List A) (b : A) → AllByRecursion (λ x. same a x ≡ false) xs → same a b ≡ false
-      → AllByRecursion (λ x. same a x ≡ false) (xs ++ b ∷ [])
-  more_apart a [] b h e = (e, tt)
-  more_apart a (x ∷ xs) b h e = (h.0, more_apart a xs b h.1 e)
-
-  pub distinct_more : (xs : List A) (b : A) → IsDistinct same xs → has same xs b ≡ false
-      → IsDistinct same (xs ++ b ∷ [])
-  unfolding IsDistinct
-  distinct_more [] b d e = (tt, tt)
-  distinct_more (x ∷ xs) b d e =
-      let p = or_parts (same b x) (has same xs b) e in
-      let apart : same x b ≡ false
-      = elim (told (same x b)) [
-        | inl q ↦ absurd (both (subst (λ z. same z x ≡ true) (exact x b q) (itself x)) p.0)
-        | inr q ↦ q
-      ] in
-      (more_apart x xs b d.0 apart, distinct_more xs b d.1 p.1)
 
 pub atoms_come : AtomsCome
 atoms_come plan sources agenda later set atom work forced new clear stay wake = record {

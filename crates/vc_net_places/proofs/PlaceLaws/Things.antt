@@ -43,7 +43,7 @@ get_second [] ys n i is = ap (slice_get ys) (omega (arith, is))
 get_second (z ∷ xs) ys zero i is = absurd (omega (arith, is))
 get_second (z ∷ xs) ys (suc n) i is = get_second xs ys n i (omega (arith, is))
 
-get_replicate : {X : Type 0} (n i : ℕ) (x : X) → i < n → slice_get (replicate n x) i ≡ Some x
+pub get_replicate : {X : Type 0} (n i : ℕ) (x : X) → i < n → slice_get (replicate n x) i ≡ Some x
 get_replicate zero i x below = absurd (omega (arith, below))
 get_replicate (suc n) zero x below = refl
 get_replicate (suc n) (suc i) x below = get_replicate n i x (omega (arith, below))

@@ -1,5 +1,5 @@
 -- Counts of grains and of atoms.
-use Rattle.std.proofs.Common.{◌≡◌, ℕ, suc, ◌+◌, ◌-◌, ◌<◌, ◌≤◌, List, [], ◌∷◌, ◌++◌, length, map, ◌∙◌, ap, arith}
+use Rattle.std.proofs.Common.{◌≡◌, ℕ, zero, suc, ◌+◌, ◌-◌, ◌<◌, ◌≤◌, List, [], ◌∷◌, ◌++◌, length, map, ◌∙◌, ap, arith}
 use Rattle.std.specs.List.{sum_by, range_with_len}
 use Rattle.std.proofs.lemmas.List.{length-map}
 use Rattle.std.proofs.lemmas.List.Sums.{sum_by-cons, sum_by-append}
@@ -58,3 +58,17 @@ atoms_all plan count v so_far end = so_far ∙ ap (atoms_before plan) end
 
 pub atoms_none : (plan : Plan) → length plan.slots ≡ atoms_before plan 0
 atoms_none plan = omega arith
+
+-- a variable counts for more than one atom
+pub vars_within : (plan : Plan) (n : ℕ) → n ≤ sum_by (λ w. count_of plan w + 1) (numbers_below n)
+vars_within plan zero = omega arith
+vars_within plan (suc n) =
+    let more : sum_by (λ w. count_of plan w + 1) (numbers_below (n + 1))
+    ≡ sum_by (λ w. count_of plan w + 1) (numbers_below n) + (count_of plan n + 1)
+    = sum_next (λ w. count_of plan w + 1) n in
+    let next : n + 1 ≡ suc n = omega arith in
+    let same : sum_by (λ w. count_of plan w + 1) (numbers_below (n + 1))
+    ≡ sum_by (λ w. count_of plan w + 1) (numbers_below (suc n))
+    = ap (λ k. sum_by (λ w. count_of plan w + 1) (numbers_below k)) next in
+    let before : n ≤ sum_by (λ w. count_of plan w + 1) (numbers_below n) = vars_within plan n in
+    omega (arith, more, same, before)

@@ -2,12 +2,12 @@
 use Rattle.std.proofs.Common.{◌≡◌, ℕ, Bool, true, false, cond, not, ◌&&◌, List, [], ◌∷◌, ◌++◌, map, refl, sym, ◌∙◌, ap}
 use Rattle.std.proofs.Common.{subst, inl, inr, append-nil, append_assoc}
 use Rattle.std.specs.Prelude.{Option, None, Some, ◌==◌}
-use Rattle.std.specs.List.{filter, list_all}
+use Rattle.std.specs.List.{filter}
 use Rattle.std.proofs.lemmas.Bool.{and_from, and_parts, eq-eqb, false_from_ne_true, not-true, not_from_false}
 use Rattle.vc_base.specs.Chains.{accepted, all_pass, cited, is_justified}
 use Rattle.vc_base.specs.Rounds.{Given, clash, atoms, atoms_of}
-use Rattle.vc_base.specs.Sets.{has, Within}
-use Rattle.vc_base.proofs.SetLaws.{both, filter_has, has_cases, has_filter, has_first, has_more, same_test}
+use Rattle.vc_base.specs.Sets.{has}
+use Rattle.vc_base.proofs.SetLaws.{both, filter_has, has_cases, has_filter}
 use Rattle.vc_value.specs.declared.value.Value.{Value}
 use Rattle.vc_plan.specs.declared.atoms.Atom.{Atom}
 use Rattle.vc_plan.specs.declared.atoms.Atom.TheVariants.{Here, Out, Is}
@@ -30,6 +30,7 @@ use Rattle.vc_plan_reasons.specs.Checking.{are_of, concluded, follows, given_by,
 use Rattle.vc_plan_reasons.specs.Checking.{is_by, set_with, step_form, things_read, var_of}
 use Rattle.vc_plan_reasons.specs.Things.{Thing, giver_reads, has_thing, thing_of}
 use Rattle.vc_plan_reasons.proofs.ReasonLaws.Local.{says_locally}
+use Rattle.vc_plan_reasons.proofs.ReasonLaws.Blaming.{part_alike, part_within, all_filtered}
 use Rattle.vc_plan_blame.specs.Blame.{number_of}
 use Rattle.vc_plan_blame.proofs.BlameLaws.Citing.{numbers_found}
 use Rattle.vc_plan_blame.proofs.BlameLaws.Origins.{if_said, unfresh}
@@ -118,37 +119,6 @@ given_new plan sources giver set clear a h =
 -- the atoms of the things that a giver reads: it says there what it says at the whole
 abbrev is_of : List Thing → Atom → Bool
 is_of things a = has_thing things (thing_of a)
-
-part_within : (things : List Thing) (stand : List Atom)
-    → Within same_atom (set_with (filter (is_of things) stand)) (set_with stand)
-part_within things stand a h =
-    elim (has_cases same_atom atom_exact atom_itself (Here 0) (filter (is_of things) stand) a h) [
-      | inl e ↦ subst (λ z. has same_atom (set_with stand) z ≡ true) (sym e)
-          (has_first same_atom atom_exact atom_itself (Here 0) stand)
-      | inr k ↦ has_more same_atom atom_exact atom_itself (Here 0) stand a
-          (has_filter same_atom atom_exact atom_itself (is_of things) stand a k).0
-    ]
-
-part_alike : (things : List Thing) (stand : List Atom) (a : Atom) → has_thing things (thing_of a) ≡ true
-    → has same_atom (set_with (filter (is_of things) stand)) a ≡ has same_atom (set_with stand) a
-part_alike things stand a h =
-    same_test (has same_atom (set_with (filter (is_of things) stand)) a) (has same_atom (set_with stand) a)
-    (part_within things stand a)
-    (λ k. elim (has_cases same_atom atom_exact atom_itself (Here 0) stand a k) [
-      | inl e ↦ subst (λ z. has same_atom (set_with (filter (is_of things) stand)) z ≡ true) (sym e)
-          (has_first same_atom atom_exact atom_itself (Here 0) (filter (is_of things) stand))
-      | inr q ↦ has_more same_atom atom_exact atom_itself (Here 0) (filter (is_of things) stand) a
-          (filter_has same_atom atom_exact atom_itself (is_of things) stand a q h)
-    ])
-
-all_filtered : (p : Atom → Bool) (xs : List Atom) → list_all p (filter p xs) ≡ true
-all_filtered p [] = refl
-all_filtered p (x ∷ xs) = choice (p x) refl (all_filtered p xs)
-  where
-    choice : (b : Bool) → p x ≡ b → list_all p (filter p xs) ≡ true
-        → list_all p (cond b (x ∷ filter p xs) (filter p xs)) ≡ true
-    choice true e later = and_from (p x) (list_all p (filter p xs)) e later
-    choice false e later = later
 
 given_at_part : (plan : Plan) (sources : Sources) (giver : Giver) (stand : List Atom) (a : Atom)
     → is_clear plan (set_with stand) ≡ true

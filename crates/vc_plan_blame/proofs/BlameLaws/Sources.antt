@@ -10,7 +10,7 @@ use Rattle.vc_plan.specs.Domains.{numbers_below}
 use Rattle.vc_plan.specs.Sources.{Sources, entry_of, user_of}
 use Rattle.vc_plan_reasons.specs.Fitting.{entry_fits, sources_fit, value_fits}
 
-past_none : {X : Type 0} (xs : List (Option X)) (v : ℕ) → length xs ≤ v → slice_index_or xs v None ≡ None
+pub past_none : {X : Type 0} (xs : List (Option X)) (v : ℕ) → length xs ≤ v → slice_index_or xs v None ≡ None
 past_none [] v h = refl
 past_none (x ∷ xs) zero h = absurd (omega (arith, h))
 past_none (x ∷ xs) (suc v) h = past_none xs v (omega (arith, h))

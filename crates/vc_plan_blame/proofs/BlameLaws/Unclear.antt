@@ -203,7 +203,7 @@ odds_values plan v w x y e =
         both (subst (λ z. same_value a z ≡ true) q (value_itself a)) (not-true (same_value a b) h)
 
 -- the place of what passes a test
-any_place : {X : Type 0} (p : X → Bool) (xs : List X) → list_any p xs ≡ true
+pub any_place : {X : Type 0} (p : X → Bool) (xs : List X) → list_any p xs ≡ true
     → (i : ℕ) × (x : X) × (slice_get xs i ≡ Some x) × (p x ≡ true)
 any_place p [] e = absurd (cc)
 any_place p (x ∷ xs) e =

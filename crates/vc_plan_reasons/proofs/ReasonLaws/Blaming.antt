@@ -74,7 +74,7 @@ numbers_cite things whole before (atom ∷ more) is =
         ap (λ o. before_all o (cited whole (numbers_of things (suc (suc (length before))) more))) place
         ∙ ap (before_all (Some atom)) later
 
-all_filtered : (p : Atom → Bool) (xs : List Atom) → list_all p (filter p xs) ≡ true
+pub all_filtered : (p : Atom → Bool) (xs : List Atom) → list_all p (filter p xs) ≡ true
 all_filtered p [] = refl
 all_filtered p (x ∷ xs) = choice (p x) refl (all_filtered p xs)
   where
@@ -88,7 +88,7 @@ fresh_clash : (seen : Seen) (x : Given Atom) → is_clash (fresh seen x) ≡ is_
 fresh_clash seen clash = refl
 fresh_clash seen (atoms xs) = refl
 
-part_within : (things : List Thing) (stand : List Atom)
+pub part_within : (things : List Thing) (stand : List Atom)
     → Within same_atom (set_with (filter (is_of things) stand)) (set_with stand)
 part_within things stand a h =
     elim (has_cases same_atom atom_exact atom_itself (Here 0) (filter (is_of things) stand) a h) [
@@ -98,7 +98,7 @@ part_within things stand a h =
           (has_filter same_atom atom_exact atom_itself (is_of things) stand a k).0
     ]
 
-part_alike : (things : List Thing) (stand : List Atom) (a : Atom) → has_thing things (thing_of a) ≡ true
+pub part_alike : (things : List Thing) (stand : List Atom) (a : Atom) → has_thing things (thing_of a) ≡ true
     → has same_atom (set_with (filter (is_of things) stand)) a ≡ has same_atom (set_with stand) a
 part_alike things stand a h =
     same_test (has same_atom (set_with (filter (is_of things) stand)) a) (has same_atom (set_with stand) a)

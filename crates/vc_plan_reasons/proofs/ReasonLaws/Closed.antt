@@ -55,16 +55,16 @@ settled_closed plan sources set some e = record {
 }
 
 -- a test that all of a list pass
-all_in : {O : Type 0} (p : O → Bool) (o : O) (os : List O) → list_all p os ≡ true → settling.IsIn o os → p o ≡ true
+pub all_in : {O : Type 0} (p : O → Bool) (o : O) (os : List O) → list_all p os ≡ true → settling.IsIn o os → p o ≡ true
 all_in p o [] e i = absurd i
 all_in p o (x ∷ os) e (inl q) = ap p q ∙ (and_parts (p x) (list_all p os) e).0
 all_in p o (x ∷ os) e (inr i) = all_in p o os (and_parts (p x) (list_all p os) e).1 i
 
-silent_calm : (x : Given Atom) → is_silent x ≡ true → is_clash x ≡ true → ⊥
+pub silent_calm : (x : Given Atom) → is_silent x ≡ true → is_clash x ≡ true → ⊥
 silent_calm clash e h = cc
 silent_calm (atoms xs) e h = cc
 
-silent_none : (x : Given Atom) (a : Atom) → is_silent x ≡ true → has same_atom (atoms_of x) a ≡ true → ⊥
+pub silent_none : (x : Given Atom) (a : Atom) → is_silent x ≡ true → has same_atom (atoms_of x) a ≡ true → ⊥
 silent_none clash a e h = cc
 silent_none (atoms []) a e h = cc
 silent_none (atoms (b ∷ more)) a e h = cc

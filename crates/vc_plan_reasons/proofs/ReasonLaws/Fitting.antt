@@ -52,7 +52,7 @@ abbrev AllFit : Plan → Entries → Type 0
 AllFit plan entries = (v : ℕ) → Fits plan v (written_at entries v)
 
 -- an element put in its place has what all have
-put_in : {X : Type 0} (P : ℕ → Option X → Type 0) (xs : List (Option X)) (v : ℕ) (x : Option X)
+pub put_in : {X : Type 0} (P : ℕ → Option X → Type 0) (xs : List (Option X)) (v : ℕ) (x : Option X)
     → ((u : ℕ) → P u (slice_index_or xs u None)) → P v x → (u : ℕ) → P u (slice_index_or (slice_set xs v x) u None)
 put_in P [] v x all one u = all u
 put_in P (y ∷ xs) zero x all one zero = one
@@ -330,7 +330,7 @@ as_source [] v = refl
 as_source (written ∷ entries) zero = refl
 as_source (written ∷ entries) (suc v) = as_source entries v
 
-all_pass : (p : ℕ → Bool) (xs : List ℕ) → ((x : ℕ) → p x ≡ true) → list_all p xs ≡ true
+pub all_pass : (p : ℕ → Bool) (xs : List ℕ) → ((x : ℕ) → p x ≡ true) → list_all p xs ≡ true
 all_pass p [] h = refl
 all_pass p (x ∷ xs) h = and_from (p x) (list_all p xs) (h x) (all_pass p xs h)
 

@@ -33,15 +33,17 @@ abbrev renumbered : (ℕ → Bool) → Step → Step
 renumbered dropped step = step_form.with_premises step (map (number_left dropped) step.premises)
 
 -- which steps are dropped, from a number on, as flags say it
-abbrev Matches : (ℕ → Bool) → ℕ → List Bool → Type 0
+abbrev pub Matches : (ℕ → Bool) → ℕ → List Bool → Type 0
 Matches dropped n [] = Unit {0}
 Matches dropped n (flag ∷ flags) = (dropped n ≡ not flag) × Matches dropped (suc n) flags
 
-flag_at : (before flags : List Bool) (flag : Bool) → slice_index_or (before ++ flag ∷ flags) (length before) true ≡ flag
+pub flag_at : (before flags : List Bool) (flag : Bool)
+    → slice_index_or (before ++ flag ∷ flags) (length before) true ≡ flag
 flag_at [] flags flag = refl
 flag_at (first ∷ before) flags flag = flag_at before flags flag
 
-matching : (all before flags : List Bool) → before ++ flags ≡ all → Matches (is_vain all) (suc (length before)) flags
+pub matching : (all before flags : List Bool) → before ++ flags ≡ all
+    → Matches (is_vain all) (suc (length before)) flags
 matching all before [] is = tt
 matching all before (flag ∷ flags) is =
     let longer : length (before ++ flag ∷ []) ≡ suc (length before)

@@ -9,7 +9,8 @@ use Rattle.vc_compile_plan.specs.Variables.{by_slot}
 use Rattle.vc_compile_numbering.specs.Growing.{seen, with_drafts}
 use Rattle.vc_compile_layout.specs.Standing.{layout_seen}
 use Rattle.vc_compile_sites.specs.Standing.{entry_seen}
-use Rattle.vc_compile_procedures.proofs.ProcedureLemmas.{filter_step, flat_step, mapped_step, slot_step}
+use Rattle.vc_compile_numbering.proofs.StepLemmas.{flat_step, mapped_step, slot_step}
+use Rattle.vc_compile_procedures.proofs.ProcedureLemmas.{filter_step}
 use Rattle.vc_compile_procedures.proofs.procedures.push_of_values.Goals as goal
 
 pub loop-member-preserved : goal.loop-member-preserved

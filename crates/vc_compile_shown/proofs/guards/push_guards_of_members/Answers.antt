@@ -6,7 +6,7 @@ use Rattle.vc_compile_plan.specs.Variables.{by_slot}
 use Rattle.vc_compile_numbering.specs.Growing.{seen, with_drafts}
 use Rattle.vc_compile_layout.specs.Standing.{layout_seen}
 use Rattle.vc_compile_sites.specs.Standing.{asked_seen, entry_seen, site_seen}
-use Rattle.vc_compile_shown.proofs.ShownLemmas.{flat_step, mapped_step, slot_step}
+use Rattle.vc_compile_numbering.proofs.StepLemmas.{flat_step, mapped_step, slot_step}
 use Rattle.vc_compile_shown.proofs.guards.push_guards_of_members.Goals as goal
 
 pub loop-member-preserved : goal.loop-member-preserved

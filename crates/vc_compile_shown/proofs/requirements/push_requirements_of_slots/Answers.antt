@@ -6,7 +6,7 @@ use Rattle.vc_compile_plan.specs.Variables.{by_slot}
 use Rattle.vc_compile_numbering.specs.Growing.{seen, with_drafts}
 use Rattle.vc_compile_layout.specs.Standing.{layout_seen}
 use Rattle.vc_compile_sites.specs.Standing.{asked_seen, entry_seen, site_seen}
-use Rattle.vc_compile_shown.proofs.ShownLemmas.{flat_step, mapped_step, slot_step}
+use Rattle.vc_compile_numbering.proofs.StepLemmas.{flat_step, mapped_step, slot_step}
 use Rattle.vc_compile_shown.proofs.requirements.push_requirements_of_slots.Goals as goal
 
 pub loop-number-preserved : goal.loop-number-preserved

@@ -1,7 +1,8 @@
 use Rattle.std.proofs.Common.{◌≡◌, ◌==◌, ◌&&◌, ◌∙◌, ap, sym, None}
 use Rattle.std.specs.Map.{lookup}
+use Rattle.vc_types_names.proofs.NameLemmas.{is_absent}
 use Rattle.indexmap.proofs.CallerLemmas.{insert_entry-new}
-use Rattle.vc_compile_layout.proofs.NumberLemmas.{is_absent, spot_push}
+use Rattle.vc_compile_layout.proofs.NumberLemmas.{spot_push}
 use Rattle.vc_compile_layout.proofs.numbers.Numbers.add.Goals as goal
 
 pub returns-in_ok-insert : goal.returns-in_ok-insert

@@ -1,5 +1,5 @@
 -- Drafts that come one list behind another.
-use Rattle.std.proofs.Common.{◌≡◌, ℕ, suc, ◌+◌, ◌<◌, List, [], ◌∷◌, ◌++◌, drop, flat_map, get_or, length, map, ap, sym}
+use Rattle.std.proofs.Common.{◌≡◌, ℕ, suc, ◌+◌, ◌<◌, List, ◌∷◌, ◌++◌, drop, flat_map, get_or, length, map, ap, sym}
 use Rattle.std.proofs.Common.{◌∙◌, arith}
 use Rattle.std.proofs.Math.Seq.{drop-cons}
 use Rattle.vc_plan.specs.declared.plans.Slot.{Slot}
@@ -63,5 +63,3 @@ slot_step brings make f xs i d before now next inside same is =
     ap (λ n. with_drafts brings make n (by_slot f (i + 1) (drop (i + 1) xs))) is
     ∙ sym (drafts_append brings make now (f i (get_or xs i d)) (by_slot f (i + 1) (drop (i + 1) xs)))
     ∙ ap (with_drafts brings make now) (sym (first_slot f xs i d inside)) ∙ same
-
-pub ruleset joins = (drafts_append)
