@@ -22,7 +22,7 @@ use Rattle.vc_net_log.specs.Logs.{cited_by, fact_of, facts_of, set_of, step_from
 use Rattle.vc_net_standing.specs.declared.standing.Fact.{Fact}
 use Rattle.vc_net_going.specs.declared.breaker.Breaker.{Breaker}
 use Rattle.vc_net_going.specs.Breaking.{clash_in, last_atoms, stand_with, steps_with}
-use Rattle.vc_net.specs.Ending.{LogsAreShort}
+use Rattle.vc_net.specs.Ending.{LogsAreFew, LogsAreShort}
 
 -- the place of the first that passes, in a list that goes on
 module _ {X : Type 0} (p : X → Bool) where
@@ -101,14 +101,20 @@ pub numbers_alone : (steps : List Step) (atoms : List Atom)
     → map (number_of (stand_with steps None)) atoms ≡ map (number_of (concluded steps)) atoms
 numbers_alone steps atoms = ap (λ stand. map (number_of stand) atoms) (append-nil (concluded steps))
 
+-- what stands is clear and differs, and the root stands without a step
+pub logs_are_few : LogsAreFew
+logs_are_few plan sources work going =
+    let small = clear_sets_are_small plan (set_of work.log) going.working.sound.clear going.working.distinct in
+    let count : length (concluded work.log.steps) ≡ length work.log.steps
+    = length-map work.log.steps step_form.conclusion in
+    omega (arith, small, count)
+
 -- there are fewer steps than a number of 32 bits tells
 pub logs_are_short : LogsAreShort
 logs_are_short plan sources work valid going =
-    let small = clear_sets_are_small plan (set_of work.log) going.working.sound.clear going.working.distinct in
+    let few = logs_are_few plan sources work going in
     let fit : atom_count plan ≤ 40_000 = leb-true (atom_count plan) 40_000 valid.atom_limit in
-    let count : length (concluded work.log.steps) ≡ length work.log.steps
-    = length-map work.log.steps step_form.conclusion in
-    omega (arith, small, fit, count)
+    omega (arith, few, fit)
 
 -- the number of an atom that the log doesn't conclude
 pub number_past_all : (steps : List Step) (last : Option Fact) (atom : Atom) (facts : List Fact) (n : ℕ)

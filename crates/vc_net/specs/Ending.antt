@@ -5,6 +5,7 @@ use Rattle.vc_base.specs.Sets.{has}
 use Rattle.vc_plan.specs.declared.atoms.Atom.{Atom}
 use Rattle.vc_plan.specs.declared.atoms.Clash.{Clash}
 use Rattle.vc_plan.specs.declared.plans.Plan.{Plan}
+use Rattle.vc_plan.specs.Domains.{atom_count}
 use Rattle.vc_plan.specs.Seen.{same_atom}
 use Rattle.vc_plan.specs.Settle.{settlement_of}
 use Rattle.vc_plan.specs.Sources.{Sources}
@@ -37,7 +38,12 @@ pub record IsSettled (plan : Plan) (sources : Sources) (work : Work) : Type 0 wh
   pub going : IsGoing plan sources work []
   pub ends : EndsAs plan sources work (clash_of work)
 
--- the log of a valid plan's work has fewer steps than a number of 31 bits tells
+-- the log of a plan's work has fewer steps than the plan has atoms
+abbrev pub LogsAreFew : Type 0
+LogsAreFew = (plan : Plan) (sources : Sources) (work : Work) → IsGoing plan sources work []
+    → length work.log.steps < atom_count plan
+
+-- and of a valid plan's fewer than a number of 31 bits tells
 abbrev pub LogsAreShort : Type 0
 LogsAreShort = (plan : Plan) (sources : Sources) (work : Work) → IsValid plan → IsGoing plan sources work []
     → length work.log.steps < 2 ^ 31

@@ -1,10 +1,11 @@
 //! Laws of nets, each the contract of a function that does nothing.
 
-ghost use Rattle.vc_net.specs.Ending.{ChainsExplain, ClashesExplain, LogsAreShort, LogsExplain};
+ghost use Rattle.vc_net.specs.Ending.{ChainsExplain, ClashesExplain, LogsAreFew, LogsAreShort, LogsExplain};
 
-/// The log of a net has so few steps that numbers of 32 bits tell them, and one more.
+/// The log of a net has fewer steps than its plan has atoms, so that numbers of 32 bits tell them, and one more.
 pub fn logs_are_short()
-    ensures { LogsAreShort }
+    ensures few { LogsAreFew }
+    ensures short { LogsAreShort }
 {}
 
 /// A net that is settled tells what explains its atoms, or what contradicts.
