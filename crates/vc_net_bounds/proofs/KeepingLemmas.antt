@@ -20,7 +20,7 @@ use Rattle.vc_net_places.proofs.PlaceLaws.Cells.{get_mapped}
 use Rattle.vc_net_bounds.specs.declared.keeping.Column.{Column}
 use Rattle.vc_net_bounds.specs.Capping.{capped}
 use Rattle.vc_net_bounds.specs.Keeping.{cell_of, cells_by_grain, cells_of, column_counts, if_met, lies_in_grain}
-use Rattle.vc_net_bounds.specs.Keeping.{lies_in_piece, own_columns, row_counts, rows_by_grain, with_counts}
+use Rattle.vc_net_bounds.specs.Keeping.{lies_in_piece, own_columns, row_counts, rows_by_grain, sole, with_counts}
 use Rattle.vc_net_bounds.specs.Raising.{at_grains, raised_by, with_rows}
 use Rattle.vc_net_bounds.proofs.CappingLemmas.{sum_second}
 use Rattle.vc_net_bounds.proofs.PlaceLemmas.{grains_there}
@@ -120,6 +120,12 @@ pub other_next : (v : ℕ) (column : Binding) (rest : List Binding) (met : Optio
     → all ≡ if_met met ++ own_columns v rest
 other_next v column rest met all other is =
     is ∙ ap (λ b. if_met met ++ map (λ c. c.column) (cond b (column ∷ columns_of v rest) (columns_of v rest))) other
+
+-- a sole number is all of its list
+pub sole_is_all : (ns : List ℕ) (n : ℕ) → sole ns ≡ Some n → ns ≡ n ∷ []
+sole_is_all [] n e = absurd (cc)
+sole_is_all (m ∷ []) n e = let same : m ≡ n = cc in ap (λ k. k ∷ []) same
+sole_is_all (m ∷ k ∷ more) n e = absurd (cc)
 
 -- the counts with those of one more column
 pub kept_more : (plan : Plan) (column : Column) (columns : List Column) (counts : List (List ℕ)) (own : List ℕ)

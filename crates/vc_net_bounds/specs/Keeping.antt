@@ -5,6 +5,7 @@ use Rattle.std.specs.List.{filter}
 use Rattle.vc_value.specs.declared.value.Value.{Value}
 use Rattle.vc_plan.specs.declared.conditions.Piece.{Piece}
 use Rattle.vc_plan.specs.declared.plans.Plan.{Plan}
+use Rattle.vc_plan.specs.declared.plans.Var as variable
 use Rattle.vc_plan.specs.declared.rules.Binding.{Binding}
 use Rattle.vc_plan.specs.Bounds.{rows_with}
 use Rattle.vc_plan.specs.Domains.{count_of, grains_in, numbers_below, passes}
@@ -56,6 +57,18 @@ own_columns v columns = map (λ column. column.column) (columns_of v columns)
 abbrev pub if_met : Option ℕ → List ℕ
 if_met None = []
 if_met (Some n) = n ∷ []
+
+-- the number of a list that has no other
+abbrev pub sole : List ℕ → Option ℕ
+sole [] = None
+sole (n ∷ []) = Some n
+sole (n ∷ m ∷ more) = None
+
+-- the column by whose cells a variable's rows are counted: the one that it is given to, against its own domain
+abbrev pub column_by : ℕ → Option variable.Var → Option ℕ → Option Column
+column_by table None column = None
+column_by table (Some x) None = None
+column_by table (Some x) (Some n) = Some (record { table = table; column = n; domain = x.domain })
 
 -- what each grain needs by these counts
 abbrev pub with_counts : List ℕ → ℕ → ℕ → ℕ

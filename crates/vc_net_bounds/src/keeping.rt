@@ -5,7 +5,8 @@ ghost use Rattle.std.specs.List.{filter};
 ghost use Rattle.vc_plan.specs.Domains.{atom_count, grains_in, grains_of, passes};
 ghost use Rattle.vc_plan.specs.Pieces.{lies_in};
 ghost use Rattle.vc_net_bounds.specs.Capping.{capped};
-ghost use Rattle.vc_net_bounds.specs.Keeping.{cells_of, column_counts, lies_in_piece, own_columns, row_counts};
+ghost use Rattle.vc_net_bounds.specs.Keeping.{cells_of, column_by, column_counts, lies_in_piece, own_columns};
+ghost use Rattle.vc_net_bounds.specs.Keeping.{row_counts, sole};
 
 use crate::capping::capped_count;
 use crate::tables::count_rows;
@@ -195,7 +196,7 @@ fn count_column(
 // The one column that the variable is given to, if it is one alone.
 #[tactic(auto, using(crate::proofs::KeepingLemmas::own_next, crate::proofs::KeepingLemmas::other_next))]
 fn only_column(columns: &[Binding], var: u32) -> Option<u32>
-    ensures { IfSome result (λ column. own_columns var columns.now ≡ column ∷ []) }
+    ensures { result ≡ sole (own_columns var columns.now) }
 {
     let mut met = None;
     let mut rest = columns;
@@ -214,6 +215,8 @@ fn only_column(columns: &[Binding], var: u32) -> Option<u32>
 /// The column of a table and the domain, by which the variable's rows are counted, where it is given to one column.
 #[tactic(auto, using(crate::proofs::KeepingLemmas::one_column))]
 pub fn column_for(plan: &Plan, table: u32, columns: &[Binding], var: u32) -> Option<Column>
+    ensures found { result
+        ≡ column_by table (slice_get plan.now.vars var) (sole (own_columns var columns.now)) }
     ensures counts { IfSome result (λ column. row_counts plan.now table columns.now var
         ≡ column_counts plan.now column) }
     ensures grains { IfSome result (λ column. grains_of plan.now var
