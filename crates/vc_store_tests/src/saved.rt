@@ -120,3 +120,49 @@ fn tells_the_first_fault(rt: HostRuntime) -> Result<(), Fail> {
     );
     Ok(())
 }
+
+#[test]
+fn tells_names_that_the_model_lacks(rt: HostRuntime) -> Result<(), Fail> {
+    let plan = lamp(rt.alloc())?;
+    let faults = [
+        fault(
+            rt.alloc(),
+            &plan,
+            r#"{"form":1,"model":"LAMPX","values":[],"version":1}"#,
+        ),
+        fault(
+            rt.alloc(),
+            &plan,
+            r#"{"form":1,"model":"LAMP","values":[{"characteristic":"COL","instance":1,"value":"B"}],"version":1}"#,
+        ),
+        fault(
+            rt.alloc(),
+            &plan,
+            r#"{"form":1,"model":"LAMP","values":[{"characteristic":"COLOUR","instance":0,"value":"B"}],"version":1}"#,
+        ),
+    ];
+    drop(plan);
+    assert_eq!(rt;
+        faults,
+        [
+            Some(SavedFault::OtherModel),
+            Some(SavedFault::UnknownName),
+            Some(SavedFault::UnknownName),
+        ]
+    );
+    Ok(())
+}
+
+#[test]
+fn refuses_a_variable_that_stands_twice(rt: HostRuntime) -> Result<(), Fail> {
+    let plan = lamp(rt.alloc())?;
+    let found = fault(
+        rt.alloc(),
+        &plan,
+        r#"{"form":1,"model":"LAMP","values":[{"characteristic":"COL","instance":0,"value":"B"},
+        {"characteristic":"COL","instance":0,"value":"B"}],"version":1}"#,
+    );
+    drop(plan);
+    assert_eq!(rt; found, Some(SavedFault::Shape));
+    Ok(())
+}
