@@ -1,11 +1,14 @@
 -- What the words ask for beside a run: to check a model, to verify a chain file, to make families of models, or to
 -- serve links; and that they ask for none of these.
 use Rattle.std.specs.Prelude.{◌≡◌, ℕ, List, [], ◌∷◌, map, codes, string_bytes, Option, Some}
-use Rattle.std.specs.Option.{option_to_list}
+use Rattle.std.specs.Option.{option_map, option_to_list}
 use Rattle.vc_app_gen.specs.Counts.{families_asked}
 use Rattle.vc_app_serve.specs.Counts.{links_asked}
-use Rattle.vc_app_serve.specs.Serving.{Service}
+use Rattle.vc_app_serve.specs.Serving.{Service, service}
 use Rattle.vc_app_run.specs.Endings.{Words}
+use Rattle.vc_app.specs.declared.words.Command.{Command}
+use Rattle.vc_app.specs.declared.words.Command.TheVariants as commands
+use Rattle.vc_app.specs.declared.words.Serving.{Serving}
 
 -- the words are `check` and a name
 abbrev pub IsCheck : Words → List ℕ → Type 0
@@ -48,3 +51,14 @@ IsNoServe words = (s : Service) → ¬ IsServe words s
 -- the words ask for none of the four
 abbrev pub IsOther : Words → Type 0
 IsOther words = IsNoCheck words × IsNoVerify words × IsNoGen words × IsNoServe words
+
+-- how links are to be served, and what the command says is asked for
+abbrev pub service_by : Serving → Service
+service_by s = service s.model.now s.address.now s.count (option_map (λ name. name.now) s.keep_file)
+
+abbrev pub Asks : Words → Command → Type 0
+Asks words (commands.Check model) = IsCheck words model.now
+Asks words (commands.Verify model chain) = IsVerify words model.now chain.now
+Asks words (commands.Gen count) = IsGen words count
+Asks words (commands.Serve serving) = IsServe words (service_by serving)
+Asks words commands.Other = IsOther words

@@ -2,8 +2,7 @@
 
 ghost use Rattle.std.specs.Prelude.{◌≡◌, ℕ, List, false};
 ghost use Rattle.vc_desk.specs.Keeping.{keeping};
-ghost use Rattle.vc_app_check.specs.Checking.{EndsCheck};
-ghost use Rattle.vc_app_check.specs.Checking.{outside};
+ghost use Rattle.vc_app_check.specs.Checking.{EndsCheck, outside};
 ghost use Rattle.vc_app_verify.specs.Verifying.{EndsVerify};
 ghost use Rattle.vc_app_gen.specs.Generating.{EndsGen};
 ghost use Rattle.vc_app_serve.specs.Serving.{EndsServe, Service, at_door};
@@ -12,7 +11,7 @@ ghost use Rattle.vc_app_run.specs.Exactness.{IsExact};
 ghost use Rattle.vc_app_run.specs.Statuses.{IsStatus};
 ghost use Rattle.vc_app.specs.Asked as asked;
 
-use crate::words::{Serving, checked_name, families_of, service_of, verified_names};
+use crate::words::{Command, command_of};
 use std::alloc::Global;
 use vc_app_check::check;
 use vc_app_gen::generate;
@@ -21,52 +20,6 @@ use vc_app_serve::serve;
 use vc_app_verify::verify;
 use vc_outside::{Keeper, Shelf, Sink};
 use vc_outside_links::{Door, Link};
-
-/// Serves links where the words ask for that, and does else what they ask for.
-fn serve_or_run<F: Shelf, K: Keeper, D: Door, S: Sink>(
-    alloc: Global,
-    words: &[String],
-    shelf: &mut F,
-    keeper: &mut K,
-    door: &mut D,
-    out: &mut S,
-) -> u8
-    requires home { D.is_out door.old ≡ false }
-    ensures home { D.is_out door.new ≡ false }
-    ensures serve { (s : Service) → asked.IsServe words.now s → EndsServe
-        (telling D.Conn.left D.Conn.written D.Conn.faults) s
-        (outside (F.files shelf.old) (F.faults shelf.old) (F.faults shelf.new) (S.written out.old)
-        (S.written out.new) (S.faults out.old) (S.faults out.new))
-        (keeping (K.texts keeper.old) (K.texts keeper.new) (K.faults keeper.old) (K.faults keeper.new)
-        (K.begun keeper.new)) ((keeper.new ≡ keeper.old) × (door.new ≡ door.old))
-        (at_door (links (D.coming door.old) (D.coming door.new) (D.finished door.old) (D.finished door.new))
-        (D.address door.old) (D.address door.new) (D.faults door.old) (D.faults door.new)) result }
-    ensures door { asked.IsNoServe words.now → door.new ≡ door.old }
-    ensures status { asked.IsNoServe words.now → IsStatus words.now
-        (outside (F.files shelf.old) (F.faults shelf.old) (F.faults shelf.new) (S.written out.old)
-        (S.written out.new) (S.faults out.old) (S.faults out.new))
-        (keeping (K.texts keeper.old) (K.texts keeper.new) (K.faults keeper.old) (K.faults keeper.new)
-        (K.begun keeper.new)) (keeper.new ≡ keeper.old) result }
-    ensures exact { asked.IsNoServe words.now → IsExact words.now
-        (outside (F.files shelf.old) (F.faults shelf.old) (F.faults shelf.new) (S.written out.old)
-        (S.written out.new) (S.faults out.old) (S.faults out.new))
-        (keeping (K.texts keeper.old) (K.texts keeper.new) (K.faults keeper.old) (K.faults keeper.new)
-        (K.begun keeper.new)) result }
-{
-    match service_of(words) {
-        Some(
-            Serving {
-                model,
-                address,
-                count,
-                keep_file,
-            },
-        ) => serve(
-            alloc, shelf, model, address, count, keep_file, keeper, door, out,
-        ),
-        None => end(alloc, words, shelf, keeper, out).status(),
-    }
-}
 
 /// Does what the words ask, which stand behind the program's name, and answers the exit status.
 pub fn desk<F: Shelf, K: Keeper, D: Door, S: Sink>(
@@ -118,14 +71,21 @@ pub fn desk<F: Shelf, K: Keeper, D: Door, S: Sink>(
         (keeping (K.texts keeper.old) (K.texts keeper.new) (K.faults keeper.old) (K.faults keeper.new)
         (K.begun keeper.new)) result }
 {
-    match checked_name(words) {
-        Some(name) => check(alloc, shelf, name, out),
-        None => match verified_names(words) {
-            Some((model, chain)) => verify(alloc, shelf, model, chain, out),
-            None => match families_of(words) {
-                Some(count) => generate(alloc, count, out),
-                None => serve_or_run(alloc, words, shelf, keeper, door, out),
-            },
-        },
+    match command_of(words) {
+        Command::Check(model) => check(alloc, shelf, model, out),
+        Command::Verify { model, chain } => verify(alloc, shelf, model, chain, out),
+        Command::Gen(count) => generate(alloc, count, out),
+        Command::Serve(asked) => serve(
+            alloc,
+            shelf,
+            asked.model,
+            asked.address,
+            asked.count,
+            asked.keep_file,
+            keeper,
+            door,
+            out,
+        ),
+        Command::Other => end(alloc, words, shelf, keeper, out).status(),
     }
 }

@@ -1,17 +1,40 @@
-//! What the words ask for beside a run: to check a model, to verify a chain file, to make families of models, to serve
-//! links.
+//! What the words of the command line ask for.
 
 ghost use Rattle.std.specs.Prelude.{ℕ, List, slice_get, string_bytes, Option, IfSome, IfNone};
 ghost use Rattle.std.specs.Option.{option_map};
-ghost use Rattle.vc_app_serve.specs.Serving.{service};
 ghost use Rattle.vc_app.specs.Asked as asked;
 
 use vc_app_gen::families_asked;
 use vc_app_run::loading::word_at;
 use vc_app_serve::links_asked;
 
-/// The name of the model that the words ask to check, if they do.
-pub fn checked_name(words: &[String]) -> Option<&str>
+/// A model to serve, the address at which links are awaited, how many, and the file that keeps what is saved, if one is
+/// named.
+#[derive(Clone, Copy)]
+pub struct Serving<'a> {
+    pub(crate) model: &'a str,
+    pub(crate) address: &'a str,
+    pub(crate) count: u32,
+    pub(crate) keep_file: Option<&'a str>,
+}
+
+/// What the words ask for.
+#[derive(Clone, Copy)]
+pub enum Command<'a> {
+    /// To check this model.
+    Check(&'a str),
+    /// To verify a chain file by a model.
+    Verify { model: &'a str, chain: &'a str },
+    /// To make so many families of models.
+    Gen(u32),
+    /// To serve links.
+    Serve(Serving<'a>),
+    /// None of these: a run, or nothing that there is.
+    Other,
+}
+
+// The name of the model that the words ask to check, if they do.
+fn checked_name(words: &[String]) -> Option<&str>
     ensures some { IfSome result (λ name. asked.IsCheck words.now name.now) }
     ensures none { IfNone result (asked.IsNoCheck words.now) }
 {
@@ -21,8 +44,8 @@ pub fn checked_name(words: &[String]) -> Option<&str>
     }
 }
 
-/// The names of the model and of the chain file that the words ask to verify, if they do.
-pub fn verified_names(words: &[String]) -> Option<(&str, &str)>
+// The names of the model and of the chain file that the words ask to verify, if they do.
+fn verified_names(words: &[String]) -> Option<(&str, &str)>
     ensures some { IfSome result (λ names. asked.IsVerify words.now names.0.now names.1.now) }
     ensures none { IfNone result (asked.IsNoVerify words.now) }
 {
@@ -45,8 +68,8 @@ fn number_of(words: &[String]) -> Option<&str>
     }
 }
 
-/// How many families of models the words ask to make, if they do.
-pub fn families_of(words: &[String]) -> Option<u32>
+// How many families of models the words ask to make, if they do.
+fn families_of(words: &[String]) -> Option<u32>
     ensures some { IfSome result (asked.IsGen words.now) }
     ensures none { IfNone result (asked.IsNoGen words.now) }
 {
@@ -72,19 +95,9 @@ fn serve_words(words: &[String]) -> Option<(&str, &str, &str)>
     }
 }
 
-/// The model, the address, how many links, and the file that keeps what is saved, if one is named.
-#[derive(Clone, Copy)]
-pub struct Serving<'a> {
-    pub(crate) model: &'a str,
-    pub(crate) address: &'a str,
-    pub(crate) count: u32,
-    pub(crate) keep_file: Option<&'a str>,
-}
-
-/// What the words ask to serve links by, if they do.
-pub fn service_of(words: &[String]) -> Option<Serving<'_>>
-    ensures some { IfSome result (λ s. asked.IsServe words.now
-        (service s.model.now s.address.now s.count (option_map (λ name. name.now) s.keep_file))) }
+// What the words ask to serve links by, if they do.
+fn service_of(words: &[String]) -> Option<Serving<'_>>
+    ensures some { IfSome result (λ serving. asked.IsServe words.now (asked.service_by serving)) }
     ensures none { IfNone result (asked.IsNoServe words.now) }
 {
     match serve_words(words) {
@@ -98,5 +111,24 @@ pub fn service_of(words: &[String]) -> Option<Serving<'_>>
             None => None,
         },
         None => None,
+    }
+}
+
+/// What the words ask for, which stand behind the program's name.
+pub fn command_of(words: &[String]) -> Command<'_>
+    ensures { asked.Asks words.now result }
+{
+    if let Some(model) = checked_name(words) {
+        return Command::Check(model);
+    }
+    if let Some((model, chain)) = verified_names(words) {
+        return Command::Verify { model, chain };
+    }
+    if let Some(count) = families_of(words) {
+        return Command::Gen(count);
+    }
+    match service_of(words) {
+        Some(serving) => Command::Serve(serving),
+        None => Command::Other,
     }
 }

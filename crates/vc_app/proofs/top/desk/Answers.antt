@@ -1,78 +1,102 @@
--- Of words that ask for a command, what it tells, and that they ask for no other.
-use Rattle.std.proofs.Common.{refl, subst}
-use Rattle.vc_app_check.specs.Checking.{EndsCheck}
+-- What a command tells is told of the words that ask for it, and of no others; of words that ask for none, what the
+-- ending's status promises, and that words and files decide it.
+use Rattle.std.proofs.Common.{◌≡◌, subst}
+use Rattle.vc_desk.specs.Keeping.{keeping}
+use Rattle.vc_app_check.proofs.CheckLaws.{some_spot}
 use Rattle.vc_app_check.specs.Checking.{outside}
-use Rattle.vc_app_verify.specs.Verifying.{EndsVerify}
-use Rattle.vc_app_gen.specs.Generating.{EndsGen}
-use Rattle.vc_app.proofs.AskedLaws.{check_or_gen, check_or_verify, one_chain, one_count, one_model, one_name}
-use Rattle.vc_app.proofs.AskedLaws.{verify_or_gen}
+use Rattle.vc_app_serve.specs.Serving.{EndsServe, at_door}
+use Rattle.vc_app_serve.specs.Visits.{links, telling}
+use Rattle.vc_app_run.proofs.ExactnessLaws.{exactly}
+use Rattle.vc_app_run.proofs.StatusLaws.{promised}
+use Rattle.vc_app.specs.Asked.{Asks, service_by}
+use Rattle.vc_app.proofs.AskedLaws.{one_service}
 use Rattle.vc_app.proofs.top.desk.Goals as goal
 
--- `check`
-pub returns-in-Some-clause-check : goal.returns-in-Some-clause-check
-returns-in-Some-clause-check g c =
-    let o = outside (g.F.Shelf.files c.args.shelf.now) (g.F.Shelf.faults c.args.shelf.now)
-    (g.F.Shelf.faults c.check.new.shelf)
-    (g.S.Sink.written c.args.out.now) (g.S.Sink.written c.check.new.out) (g.S.Sink.faults c.args.out.now)
-    (g.S.Sink.faults c.check.new.out) in
-    λ name asked. (
-      subst (λ other. EndsCheck other o c.check.result)
-          (one_name c.args.words.now c.in-Some.name.now name c.in-Some.ensures.some asked) c.check.ensures.ends,
-      refl,
-    )
-
-pub returns-in-Some-clause-verify : goal.returns-in-Some-clause-verify
-returns-in-Some-clause-verify g c = λ model chain asked.
-    absurd (check_or_verify c.args.words.now c.in-Some.name.now model chain c.in-Some.ensures.some asked)
-
-pub returns-in-Some-clause-families : goal.returns-in-Some-clause-families
-returns-in-Some-clause-families g c = λ count asked.
-    absurd (check_or_gen c.args.words.now c.in-Some.name.now count c.in-Some.ensures.some asked)
-
--- `verify`
-pub returns-in-Some-verified_names-clause-verify : goal.returns-in-Some-verified_names-clause-verify
-returns-in-Some-verified_names-clause-verify g c =
-    let o = outside (g.F.Shelf.files c.args.shelf.now) (g.F.Shelf.faults c.args.shelf.now)
-    (g.F.Shelf.faults c.verify.new.shelf)
-    (g.S.Sink.written c.args.out.now) (g.S.Sink.written c.verify.new.out) (g.S.Sink.faults c.args.out.now)
-    (g.S.Sink.faults c.verify.new.out) in
-    let names = c.in-Some-verified_names.ensures.some in
-    let its_model = c.in-Some-verified_names.model.now in
-    let its_chain = c.in-Some-verified_names.chain.now in
-    λ model chain asked. (
-      subst (λ other. EndsVerify other chain o c.verify.result)
-          (one_model c.args.words.now its_model model its_chain chain names asked)
-          (subst (λ other. EndsVerify its_model other o c.verify.result)
-          (one_chain c.args.words.now its_model model its_chain chain names asked) c.verify.ensures.ends),
-      refl,
-    )
-
-pub returns-in-Some-verified_names-clause-families : goal.returns-in-Some-verified_names-clause-families
-returns-in-Some-verified_names-clause-families g c = λ count asked.
-    absurd (verify_or_gen c.args.words.now c.in-Some-verified_names.model.now c.in-Some-verified_names.chain.now count
-    c.in-Some-verified_names.ensures.some asked)
-
 -- `gen`
-pub returns-in-Some-families_of-clause-families : goal.returns-in-Some-families_of-clause-families
-returns-in-Some-families_of-clause-families g c =
-    let written = g.S.Sink.written in
-    let faults = g.S.Sink.faults in
-    λ count asked. (
-      subst (λ other. EndsGen other (written c.args.out.now) (written c.generate.new.out) (faults c.args.out.now)
-          (faults c.generate.new.out) c.generate.result)
-          (one_count c.args.words.now c.in-Some-families_of.count count c.in-Some-families_of.ensures.some asked)
-          c.generate.ensures.ends,
-      refl,
-    )
+pub returns-in-Gen-clause-status : goal.returns-in-Gen-clause-status
+returns-in-Gen-clause-status g c = λ other.
+    absurd (other.2 c.in-Gen.count (subst (Asks c.args.words.now) c.in-Gen.is c.command_of.ensures))
 
-pub returns-in-Some-families_of-clause-status : goal.returns-in-Some-families_of-clause-status
-returns-in-Some-families_of-clause-status g c = λ other.
-    absurd (other.2 c.in-Some-families_of.count c.in-Some-families_of.ensures.some)
+pub returns-in-Gen-clause-exact : goal.returns-in-Gen-clause-exact
+returns-in-Gen-clause-exact g c = λ other.
+    absurd (other.2 c.in-Gen.count (subst (Asks c.args.words.now) c.in-Gen.is c.command_of.ensures))
 
-pub returns-in-Some-families_of-clause-exact : goal.returns-in-Some-families_of-clause-exact
-returns-in-Some-families_of-clause-exact g c = λ other.
-    absurd (other.2 c.in-Some-families_of.count c.in-Some-families_of.ensures.some)
+-- `serve`
+pub returns-in-Serve-clause-serve : goal.returns-in-Serve-clause-serve
+returns-in-Serve-clause-serve g c =
+    let old = c.args in
+    let new = c.serve.new in
+    let its = service_by c.in-Serve.asked in
+    let o = outside (g.F.Shelf.files old.shelf.now) (g.F.Shelf.faults old.shelf.now) (g.F.Shelf.faults new.shelf)
+    (g.S.Sink.written old.out.now) (g.S.Sink.written new.out) (g.S.Sink.faults old.out.now)
+    (g.S.Sink.faults new.out) in
+    let k = keeping (g.K.Keeper.texts old.keeper.now) (g.K.Keeper.texts new.keeper) (g.K.Keeper.faults old.keeper.now)
+    (g.K.Keeper.faults new.keeper) (g.K.Keeper.begun new.keeper) in
+    let d = at_door (links (g.D.Door.coming old.door.now) (g.D.Door.coming new.door) (g.D.Door.finished old.door.now)
+    (g.D.Door.finished new.door)) (g.D.Door.address old.door.now) (g.D.Door.address new.door)
+    (g.D.Door.faults old.door.now) (g.D.Door.faults new.door) in
+    λ s asked.
+    subst (λ other. EndsServe (telling g.D.Conn.Link.left g.D.Conn.Link.written g.D.Conn.Link.faults) other o k
+    ((new.keeper ≡ old.keeper.now) × (new.door ≡ old.door.now)) d c.serve.result)
+    (one_service old.words.now its s (subst (Asks old.words.now) c.in-Serve.is c.command_of.ensures) asked)
+    c.serve.ensures.ends
 
-pub returns-in-None-families_of-clause-families : goal.returns-in-None-families_of-clause-families
-returns-in-None-families_of-clause-families g c = λ count asked.
-    absurd (c.in-None-families_of.ensures.none count asked)
+pub returns-in-Serve-clause-door : goal.returns-in-Serve-clause-door
+returns-in-Serve-clause-door g c = λ other.
+    absurd (other (service_by c.in-Serve.asked)
+    (subst (Asks c.args.words.now) c.in-Serve.is c.command_of.ensures))
+
+pub returns-in-Serve-clause-status : goal.returns-in-Serve-clause-status
+returns-in-Serve-clause-status g c = λ other.
+    absurd (other.3 (service_by c.in-Serve.asked)
+    (subst (Asks c.args.words.now) c.in-Serve.is c.command_of.ensures))
+
+pub returns-in-Serve-clause-exact : goal.returns-in-Serve-clause-exact
+returns-in-Serve-clause-exact g c = λ other.
+    absurd (other.3 (service_by c.in-Serve.asked)
+    (subst (Asks c.args.words.now) c.in-Serve.is c.command_of.ensures))
+
+-- no command but a run
+pub returns-in-Other-clause-families : goal.returns-in-Other-clause-families
+returns-in-Other-clause-families g c = λ count asked.
+    let other = subst (Asks c.args.words.now) c.in-Other.is c.command_of.ensures in absurd (other.2 count asked)
+
+pub returns-in-Other-clause-serve : goal.returns-in-Other-clause-serve
+returns-in-Other-clause-serve g c = λ s asked.
+    let other = subst (Asks c.args.words.now) c.in-Other.is c.command_of.ensures in absurd (other.3 s asked)
+
+pub returns-in-Other-clause-status : goal.returns-in-Other-clause-status
+returns-in-Other-clause-status g c =
+    let o = outside (g.F.Shelf.files c.args.shelf.now) (g.F.Shelf.faults c.args.shelf.now)
+    (g.F.Shelf.faults c.end.new.shelf)
+    (g.S.Sink.written c.args.out.now) (g.S.Sink.written c.end.new.out) (g.S.Sink.faults c.args.out.now)
+    (g.S.Sink.faults c.end.new.out) in
+    let k = keeping (g.K.Keeper.texts c.args.keeper.now) (g.K.Keeper.texts c.end.new.keeper)
+    (g.K.Keeper.faults c.args.keeper.now) (g.K.Keeper.faults c.end.new.keeper)
+    (g.K.Keeper.begun c.end.new.keeper) in
+    λ other.
+    promised c.args.words.now o k (c.end.new.keeper ≡ c.args.keeper.now) c.status.result
+    (record {
+      ending = c.end.result;
+      number = c.status.ensures;
+      ends = c.end.ensures.ends;
+      cause = c.end.ensures.cause;
+    })
+
+pub returns-in-Other-clause-exact : goal.returns-in-Other-clause-exact
+returns-in-Other-clause-exact g c =
+    let o = outside (g.F.Shelf.files c.args.shelf.now) (g.F.Shelf.faults c.args.shelf.now)
+    (g.F.Shelf.faults c.end.new.shelf)
+    (g.S.Sink.written c.args.out.now) (g.S.Sink.written c.end.new.out) (g.S.Sink.faults c.args.out.now)
+    (g.S.Sink.faults c.end.new.out) in
+    let k = keeping (g.K.Keeper.texts c.args.keeper.now) (g.K.Keeper.texts c.end.new.keeper)
+    (g.K.Keeper.faults c.args.keeper.now) (g.K.Keeper.faults c.end.new.keeper)
+    (g.K.Keeper.begun c.end.new.keeper) in
+    λ other.
+    exactly (some_spot c.args.alloc) c.args.words.now o k (c.end.new.keeper ≡ c.args.keeper.now) c.status.result
+    (record {
+      ending = c.end.result;
+      number = c.status.ensures;
+      ends = c.end.ensures.ends;
+      cause = c.end.ensures.cause;
+    })
