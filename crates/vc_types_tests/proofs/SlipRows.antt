@@ -302,7 +302,7 @@ denied_in_if q = refl
 condition_alone : (q : Quantity) → told q in_net (never_if (Not (Specified (member (codes "X") (codes "A"))))) ≢ None
 condition_alone q e = cc
 
--- a look-up gives all keys; `$ROOT.N` isn't `$SELF.N`, though it is the root's. T2 has the keys A and B, and N
+-- a look-up gives all keys; `$ROOT.N` isn't `$SELF.N`, though it is the root's. This table has the keys A and B, and N
 abbrev two_keys : Quantity → Model
 two_keys q = record (small q) {
   tables = record {
