@@ -22,11 +22,24 @@ use vc_wire_requests::Request;
 
 /// A plan with the sessions that are open, and the orders by which they look rows up, made when the first is opened.
 /// What is saved is with a keeper.
-#[derive(Drop)]
 pub struct Desk {
     plan: Plan,
     look_ups: Option<SharedLookUps>,
     sessions: Sessions,
+}
+
+// By hand, as a derived one is proved again, with all of its parts, in each crate that drops a desk.
+impl Drop for Desk {
+    fn drop(self) {
+        let Desk {
+            plan,
+            look_ups,
+            sessions,
+        } = self;
+        drop(plan);
+        drop(look_ups);
+        drop(sessions);
+    }
 }
 
 impl Model for Desk {

@@ -29,9 +29,16 @@ use vc_wire_replies::{Refusal, Reply};
 pub const SESSION_LIMIT: usize = 32;
 
 /// The open sessions, which a contract sees as a finite map from their names.
-#[derive(Drop)]
 pub struct Sessions {
     by_name: BTreeMap<Vec<u8>, Session>,
+}
+
+// By hand, as a derived one is proved again, with all of its parts, in each crate that drops sessions.
+impl Drop for Sessions {
+    fn drop(self) {
+        let Sessions { by_name } = self;
+        drop(by_name);
+    }
 }
 
 impl Model for Sessions {

@@ -73,11 +73,23 @@ pub struct Table {
 }
 
 /// A dependency, whose kind its tree tells, with the number of the line that opens its block.
-#[derive(Drop)]
 pub struct NamedDependency {
     pub name: Word,
     pub tree: Dependency,
     pub line: u32,
+}
+
+// By hand, as a derived one is proved again, with all of its parts, in each crate that drops a dependency.
+impl Drop for NamedDependency {
+    fn drop(self) {
+        let NamedDependency {
+            name,
+            tree,
+            line: _,
+        } = self;
+        drop(name);
+        drop(tree);
+    }
 }
 
 /// A dependency net with its constraints, by their numbers among the dependencies.

@@ -26,11 +26,20 @@ use vc_value_steps::Steps;
 
 /// What a plan's rules come to with given sources: each conclusion with what it follows from, or what contradicts. All
 /// memory is taken at `new`.
-#[derive(Drop)]
 pub struct Net {
     sources: Sources,
     work: Work,
     out: Yield,
+}
+
+// By hand, as a derived one is proved again, with all of its parts, in each crate that drops a net.
+impl Drop for Net {
+    fn drop(self) {
+        let Net { sources, work, out } = self;
+        drop(sources);
+        drop(work);
+        drop(out);
+    }
 }
 
 impl Model for Net {

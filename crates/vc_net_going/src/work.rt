@@ -18,7 +18,6 @@ use vc_value::Listed;
 
 /// The log of a net, the rules and sources that are to be asked, whom atoms wake, the rules that wait for no value, and
 /// what broke the net. All memory is taken at `new`.
-#[derive(Drop)]
 pub struct Work {
     pub log: Log,
     pub agenda: Agenda,
@@ -27,6 +26,26 @@ pub struct Work {
     pub breaker: Breaker,
     /// The facts that were taken from the log when sources changed, while they are gone through.
     pub taken: Bounded<Fact>,
+}
+
+// By hand, as a derived one is proved again, with all of its parts, in each crate that drops a net's work.
+impl Drop for Work {
+    fn drop(self) {
+        let Work {
+            log,
+            agenda,
+            readers,
+            untriggered,
+            breaker,
+            taken,
+        } = self;
+        drop(log);
+        drop(agenda);
+        drop(readers);
+        drop(untriggered);
+        drop(breaker);
+        drop(taken);
+    }
 }
 
 impl Work {

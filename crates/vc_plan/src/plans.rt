@@ -127,7 +127,7 @@ pub struct Requirement {
 }
 
 /// The plan of a model.
-#[derive(Debug, Drop)]
+#[derive(Debug)]
 pub struct Plan {
     pub name: Word,
     pub version: u32,
@@ -151,4 +151,49 @@ pub struct Plan {
     pub operations: Listed<Operation>,
     pub guards: Listed<Guard>,
     pub requirements: Listed<Requirement>,
+}
+
+// By hand, as a derived one is proved again, with all of its parts, in each crate that drops a plan.
+impl Drop for Plan {
+    fn drop(self) {
+        let Plan {
+            name,
+            version: _,
+            texts,
+            dependencies,
+            characteristics,
+            objects,
+            domains,
+            tables,
+            slots,
+            vars,
+            sets,
+            conditions,
+            terms,
+            rules,
+            procedures,
+            lines,
+            operations,
+            guards,
+            requirements,
+        } = self;
+        drop(name);
+        drop(texts);
+        drop(dependencies);
+        drop(characteristics);
+        drop(objects);
+        drop(domains);
+        drop(tables);
+        drop(slots);
+        drop(vars);
+        drop(sets);
+        drop(conditions);
+        drop(terms);
+        drop(rules);
+        drop(procedures);
+        drop(lines);
+        drop(operations);
+        drop(guards);
+        drop(requirements);
+    }
 }

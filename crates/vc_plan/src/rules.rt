@@ -56,7 +56,7 @@ pub enum Kind {
 }
 
 /// A rule.
-#[derive(Debug, Drop)]
+#[derive(Debug)]
 pub struct Rule {
     /// The constraint that it is of, or the slot's selection condition.
     pub dependency: Option<u32>,
@@ -70,4 +70,21 @@ pub struct Rule {
     /// The variables that it may narrow.
     pub inferred: Listed<u32>,
     pub kind: Kind,
+}
+
+// By hand, as a derived one is proved again, with all of its parts, in each crate that drops a rule.
+impl Drop for Rule {
+    fn drop(self) {
+        let Rule {
+            dependency: _,
+            number: _,
+            slots,
+            condition: _,
+            inferred,
+            kind,
+        } = self;
+        drop(slots);
+        drop(inferred);
+        drop(kind);
+    }
 }

@@ -38,12 +38,25 @@ pub enum SetFault {
 pub struct NotSet;
 
 /// What a user chose of a plan, evaluated through all stages after each edit. All memory is taken at `start`.
-#[derive(Drop)]
 pub struct Session {
     users: UserValues,
     stages: Stages,
     // The variables that are marked as required: they are the plan's, and asked for after each edit.
     marked: Listed<u32>,
+}
+
+// By hand, as a derived one is proved again, with all of its parts, in each crate that drops a session.
+impl Drop for Session {
+    fn drop(self) {
+        let Session {
+            users,
+            stages,
+            marked,
+        } = self;
+        drop(users);
+        drop(stages);
+        drop(marked);
+    }
 }
 
 impl Model for Session {

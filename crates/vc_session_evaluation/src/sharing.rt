@@ -12,9 +12,16 @@ use vc_proc_look_ups::LookUps;
 
 /// The orders by which a plan's statements look rows up, of which there is one copy however many share them. A contract
 /// sees them as they are.
-#[derive(Drop)]
 pub struct SharedLookUps {
     inner: Rc<LookUps>,
+}
+
+// By hand, as a derived one is proved again, with all of its parts, in each crate that drops such orders.
+impl Drop for SharedLookUps {
+    fn drop(self) {
+        let SharedLookUps { inner } = self;
+        drop(inner);
+    }
 }
 
 impl Model for SharedLookUps {

@@ -27,7 +27,6 @@ use vc_value_steps::Steps;
 /// sources of the last stage that was settled; which variables statements write; the orders by which they look rows up,
 /// which others of the plan may share; which instances are late; and the first stage that is broken, if one is. All
 /// memory is taken at `new`.
-#[derive(Drop)]
 pub struct Stages {
     pub nets: Vec<Net>,
     pub overlay: Overlay,
@@ -36,6 +35,27 @@ pub struct Stages {
     pub look_ups: SharedLookUps,
     pub late: Listed<bool>,
     pub broken: Option<u32>,
+}
+
+// By hand, as a derived one is proved again, with all of its parts, in each crate that drops the stages.
+impl Drop for Stages {
+    fn drop(self) {
+        let Stages {
+            nets,
+            overlay,
+            sources,
+            written,
+            look_ups,
+            late,
+            broken: _,
+        } = self;
+        drop(nets);
+        drop(overlay);
+        drop(sources);
+        drop(written);
+        drop(look_ups);
+        drop(late);
+    }
 }
 
 impl Stages {
