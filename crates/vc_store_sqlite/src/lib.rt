@@ -1,8 +1,8 @@
-//! A keeper of texts in a table of an SQLite database.
+//! A keeper of texts in a database file, or in memory for this run alone.
 #![tactic(auto)]
 
 pub mod keeper;
-pub mod rows;
+pub mod places;
 
 pub use keeper::SqlKeeper;
 
