@@ -1,7 +1,7 @@
 -- The numbers by which atoms are cited, of the steps that a search finds.
 use Rattle.std.proofs.Common.{◌≡◌, ℕ, suc, ◌+◌, ◌<◌, ◌≤◌, Bool, true, false, cond, not, ◌||◌, List, [], ◌∷◌, ◌++◌}
 use Rattle.std.proofs.Common.{length, map, refl, sym, ◌∙◌, ap, inl, inr, arith, append-nil}
-use Rattle.std.specs.Prelude.{Option, None, Some, option_map, position}
+use Rattle.std.specs.Prelude.{Option, None, Some, option_map, position, slice_index_or}
 use Rattle.std.specs.List.{list_any, position_or_len}
 use Rattle.std.proofs.lemmas.Bool.{leb-true}
 use Rattle.std.proofs.lemmas.Bool.Decides.{nat_tests}
@@ -10,7 +10,9 @@ use Rattle.vc_base.proofs.SetLaws.{told}
 use Rattle.vc_plan.specs.declared.atoms.Atom.{Atom}
 use Rattle.vc_plan.specs.declared.atoms.Culprit.{Culprit}
 use Rattle.vc_plan.specs.declared.atoms.Step.{Step}
+use Rattle.vc_plan.specs.Bounds.{cell_bound}
 use Rattle.vc_plan.specs.Domains.{atom_count}
+use Rattle.vc_plan.specs.declared.plans.Plan.{Plan}
 use Rattle.vc_plan.specs.Seen.{same_atom}
 use Rattle.vc_plan.proofs.PlanLaws.Bound.{clear_sets_are_small}
 use Rattle.vc_plan_blame.specs.Blame.{clash_by, clash_of, number_of}
@@ -18,7 +20,12 @@ use Rattle.vc_plan_reasons.specs.Checking.{concluded, step_form}
 use Rattle.vc_plan_reasons.specs.Trimming.{trimmed_clash}
 use Rattle.vc_net_chains.specs.Telling.{trimmed_for}
 use Rattle.vc_net_chains.specs.declared.chains.Trimmed.{Trimmed}
-use Rattle.vc_net_log.specs.Logs.{cited_by, fact_of, facts_of, set_of, step_from}
+use Rattle.vc_net_places.specs.Cells.{begins_from, begins_of, bounds_of}
+use Rattle.vc_net_places.specs.Places.{Index, index_of}
+use Rattle.vc_net_places.proofs.PlaceLaws.Cells.{cells_end_at_total, cells_suffice}
+use Rattle.vc_net_places.proofs.PlaceLaws.Things.{things_are_counted}
+use Rattle.vc_net_log.specs.Logs.{Logged, cells_of, cited_by, fact_of, facts_of, set_of, step_from}
+use Rattle.vc_net_log.proofs.LogLaws.{bounds_are_counted}
 use Rattle.vc_net_standing.specs.declared.standing.Fact.{Fact}
 use Rattle.vc_net_going.specs.declared.breaker.Breaker.{Breaker}
 use Rattle.vc_net_going.specs.Breaking.{clash_in, last_atoms, stand_with, steps_with}
@@ -154,3 +161,17 @@ clash_left log kept culprit left blamed is =
     ap (λ (l : Trimmed). Some (clash_of l.steps l.ending culprit)) is
     ∙ ap (option_map trimmed_clash)
     (clash_told log whole kept culprit premises kept.premises.items blamed refl refl refl)
+
+-- the cells of a plan's log are of its bound
+pub cells_counted : (plan : Plan) (log : Logged) → log.index ≡ index_of plan → log.begins ≡ begins_of plan
+    → cells_of log ≤ cell_bound plan
+cells_counted plan log index begins =
+    let bounds = bounds_of plan in
+    let things = ap (λ (i : Index). length i.things) index ∙ things_are_counted plan in
+    let count = things ∙ sym (bounds_are_counted plan) in
+    let same : cells_of log ≡ slice_index_or (begins_from 0 bounds) (length bounds) 0 =
+    ap (λ (firsts : List ℕ). slice_index_or firsts (length log.index.things) 0) begins
+    ∙ ap (λ n. slice_index_or (begins_of plan) n 0) count in
+    let end = cells_end_at_total bounds in
+    let all = cells_suffice plan in
+    omega (arith, same, end, all)

@@ -51,7 +51,8 @@ impl Model for Net {
 }
 
 impl Net {
-    ghost use Rattle.std.specs.Prelude.{◌≡◌, ◌^◌, ◌<◌, true, length, option_map, IfOk};
+    ghost use Rattle.std.specs.Prelude.{◌≡◌, ◌^◌, ◌<◌, ◌≤◌, true, length, option_map, IfOk};
+    ghost use Rattle.vc_plan.specs.Bounds.{cell_bound};
     ghost use Rattle.vc_plan.specs.Valid.{IsValid};
     ghost use Rattle.vc_plan_reasons.specs.Fitting.{sources_fit};
     ghost use Rattle.vc_plan_reasons.specs.Keeping.{kept_of};
@@ -59,6 +60,7 @@ impl Net {
     ghost use Rattle.vc_plan_reasons.specs.Trimming.{trimmed_clash};
     ghost use Rattle.vc_net_chains.specs.Telling.{chain_in};
     ghost use Rattle.vc_net_laws.specs.Wakings.{things_of};
+    ghost use Rattle.vc_net_log.specs.Logs.{premise_count};
     ghost use Rattle.vc_net.specs.Costing.{CostsItsWork, IsBehind};
     ghost use Rattle.vc_net.specs.Differing.{AreAllWritten, SameBeside};
     ghost use Rattle.vc_net.specs.Ending.{IsSettled, clash_of};
@@ -89,6 +91,15 @@ impl Net {
             Some(culprit) => Outcome::Broken(culprit),
             None => Outcome::Settled,
         }
+    }
+
+    /// The premises of all its steps are together within the plan's bound of cells: a law of nets, by a call that does
+    /// nothing.
+    pub fn premises_fit(&self, plan: &Plan)
+        requires { IsNetOf plan.now self.now }
+        ensures { premise_count self.now.work.log.steps ≤ cell_bound plan.now }
+    {
+        self.work.log.premises_fit();
     }
 
     /// Its conclusions in the order in which they came, each with the numbers of the steps that it follows from.

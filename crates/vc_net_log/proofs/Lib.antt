@@ -1,5 +1,6 @@
 pub mod ComingLaws
 pub mod FirstLaws
+pub mod FitLaws
 pub mod HoldLaws
 pub mod KeepLaws
 pub mod KeptLaws

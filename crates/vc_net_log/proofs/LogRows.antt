@@ -16,7 +16,8 @@ use Rattle.vc_net_standing.specs.declared.standing.Fact.{Fact}
 use Rattle.vc_net_standing.specs.Standing.{nothing_at, with_fact}
 use Rattle.vc_net_log.specs.Coming.{are_by_slot, has_full, is_full_with, lies_in_left}
 use Rattle.vc_net_log.specs.Keeping.{cells_at, log_kept, lowered_at, number_at, raised_at, written}
-use Rattle.vc_net_log.specs.Logs.{Logged, nothing_logged, room_at, set_of, stood_of, with_step}
+use Rattle.vc_net_log.specs.Logs.{Logged, cells_of, nothing_logged, premise_count, room_at, set_of, stood_of}
+use Rattle.vc_net_log.specs.Logs.{with_step}
 
 -- the slot, the variable's value and its two grains
 abbrev lamp : Index
@@ -57,6 +58,19 @@ grain_room = refl
 
 root_room : room_at begins 0 ≢ 1
 root_room e = cc
+
+-- room for four premises at all places, of which the two steps have one
+room_for_four : cells_of both ≡ 4
+room_for_four = refl
+
+last_room_counts : cells_of both ≢ 3
+last_room_counts e = cc
+
+one_premise : premise_count both.steps ≡ 1
+one_premise = refl
+
+steps_are_no_premises : premise_count both.steps ≢ 2
+steps_are_no_premises e = cc
 
 -- the premise of what is at place 2 is in cell 2: place 1. The number at place 3 is of steps that went
 is_kept : log_kept (stood_of both) begins (0 ∷ 0 ∷ 1 ∷ 1 ∷ []) (0 ∷ 0 ∷ 1 ∷ 2 ∷ []) ≡ both

@@ -1,5 +1,6 @@
 -- What a net has concluded: steps, each with the premises that it follows from.
-use Rattle.std.specs.Prelude.{ℕ, ◌+◌, ◌-◌, List, [], ◌∷◌, ◌++◌, map, slice_index_or}
+use Rattle.std.specs.Prelude.{ℕ, ◌+◌, ◌-◌, List, [], ◌∷◌, ◌++◌, length, map, slice_index_or}
+use Rattle.std.specs.List.{sum_by}
 use Rattle.vc_plan.specs.declared.atoms.Atom.{Atom}
 use Rattle.vc_plan.specs.declared.atoms.Step.{Step}
 use Rattle.vc_plan.specs.Seen.{Seen, seen_of}
@@ -39,6 +40,13 @@ nothing_logged index begins = record { index = index; begins = begins; steps = [
 -- how many premises there is room for at a place
 abbrev pub room_at : List ℕ → ℕ → ℕ
 room_at begins p = slice_index_or begins (p + 1) 0 - slice_index_or begins p 0
+
+-- how many premises there is room for at all places, and how many all steps have
+abbrev pub cells_of : Logged → ℕ
+cells_of log = slice_index_or log.begins (length log.index.things) 0
+
+abbrev pub premise_count : List Step → ℕ
+premise_count steps = sum_by (λ step. length step.premises) steps
 
 -- the numbers by which steps cite atoms, and the step that concludes a fact from premises
 abbrev pub cited_by : List Step → List Atom → List ℕ

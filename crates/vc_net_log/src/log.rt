@@ -54,7 +54,8 @@ impl Log {
     ghost use Rattle.vc_net_log.specs.Coming.{are_by_slot};
     ghost use Rattle.vc_net_log.specs.Differing.{SameBeside, are_givable};
     ghost use Rattle.vc_net_log.specs.Staying.{differs};
-    ghost use Rattle.vc_net_log.specs.Logs.{facts_of, nothing_logged, room_at, seen_by, set_of, stood_of, with_step};
+    ghost use Rattle.vc_net_log.specs.Logs.{cells_of, facts_of, nothing_logged, premise_count, room_at, seen_by};
+    ghost use Rattle.vc_net_log.specs.Logs.{set_of, stood_of, with_step};
     ghost use Rattle.vc_net_log.specs.Numbers.{number_by_place, premises_of};
     ghost use Rattle.vc_net_log.specs.Going.{WereTaken, with_steps};
     ghost use Rattle.vc_base.specs.Chains.{cites_earlier};
@@ -123,6 +124,14 @@ impl Log {
             self.premises.as_slice(),
             place,
         )
+    }
+
+    /// The premises of all steps are together no more than there is room for: a law of logs, by a call that does
+    /// nothing.
+    pub fn premises_fit(&self)
+        ensures { premise_count self.now.steps ≤ cells_of self.now }
+    {
+        let _ = &self.premises;
     }
 
     /// The number of the step that concludes what is at a place, counted from 1; 0 where none does.
