@@ -52,6 +52,7 @@ impl SqlKeeper {
         ensures later { self.old.faults ≤ self.new.faults }
         ensures raises { RaisesFor self.old.faults self.new.faults result }
         ensures begun { self.new.begun ≡ self.old.begun }
+        ensures same { result ≡ fault }
     {
         match fault {
             KeepFault::OutOfMemory => {}
