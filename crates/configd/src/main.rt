@@ -8,7 +8,7 @@ use std::process::ExitCode;
 use vc_app::desk;
 use vc_outside::{FileShelf, StdSink};
 use vc_outside_sockets::TcpDoor;
-use vc_store_sqlite::SqlKeeper;
+use vc_store_sqlite::FileKeeper;
 
 /// The words of the command line, the program's name first; none where they can't be had.
 fn arguments(rt: &HostRuntime) -> Vec<String> {
@@ -29,6 +29,6 @@ fn main(rt: HostRuntime) -> ExitCode {
     let mut shelf = FileShelf::new(&rt);
     let mut door = TcpDoor::new(&rt, alloc);
     let mut sink = StdSink::new(rt.stdout());
-    let mut keeper = SqlKeeper::new(rt);
+    let mut keeper = FileKeeper::new(rt);
     ExitCode::from(desk(alloc, words, &mut shelf, &mut keeper, &mut door, &mut sink))
 }

@@ -4,19 +4,37 @@ ghost use Rattle.std.specs.Prelude.{◌≡◌, ◌≤◌, IfOk, IfErr, IsErrOf};
 ghost use Rattle.vc_outside.specs.Keepers.{RaisesFor};
 
 use crate::places::Place;
+use sqlite::{File, FileStore};
+use std::marker::Model;
 use vc_outside::{KeepFault, Keeper, copied_name};
+use vc_store_sqlite_file::Open;
 use vc_value::Word;
 
-/// Texts in a database file, or in memory for this run alone. It tells nothing of what is kept.
-pub struct SqlKeeper {
+/// Texts in a database of a store that a path opens, or in memory for this run alone. It tells nothing of what is kept.
+pub struct SqlKeeper<S: Open> {
     rt: HostRuntime,
-    place: Place,
+    place: Place<S>,
     begun: Option<Option<Vec<u8>>>,
     faults: u64,
 }
 
+/// Texts in a database file, or in memory for this run alone.
+pub type FileKeeper = SqlKeeper<FileStore<File>>;
+
+impl<S: Open> Model for SqlKeeper<S> {
+    ghost use Rattle.std.specs.Prelude.{option_map};
+    ghost use Rattle.vc_store_sqlite.specs.Keeping.{Told};
+
+    ghost Value = { Told };
+
+    ghost view = { λ k. record {
+      begun = option_map (λ name. option_map (λ bytes. bytes.items) name) k.begun;
+      faults = k.faults;
+    } };
+}
+
 // By hand, as a derived one is proved again, with all of its parts, in each crate that drops such a keeper.
-impl Drop for SqlKeeper {
+impl<S: Open> Drop for SqlKeeper<S> {
     fn drop(self) {
         let SqlKeeper {
             rt,
@@ -30,12 +48,12 @@ impl Drop for SqlKeeper {
     }
 }
 
-impl SqlKeeper {
+impl<S: Open> SqlKeeper<S> {
     ghost use Rattle.std.specs.Prelude.{◌≡◌, ◌≤◌, None};
     ghost use Rattle.vc_outside.specs.Keepers.{RaisesFor};
 
     /// A keeper that isn't begun.
-    pub fn new(rt: HostRuntime) -> SqlKeeper
+    pub fn new(rt: HostRuntime) -> SqlKeeper<S>
         ensures begun { result.begun ≡ None }
         ensures faults { result.faults ≡ 0 }
     {
@@ -62,12 +80,12 @@ impl SqlKeeper {
     }
 }
 
-impl Keeper for SqlKeeper {
-    ghost use Rattle.std.specs.Prelude.{None, option_map};
+impl<S: Open> Keeper for SqlKeeper<S> {
+    ghost use Rattle.std.specs.Prelude.{None};
 
     ghost texts = { λ k. None };
 
-    ghost begun = { λ k. option_map (λ name. option_map (λ bytes. bytes.items) name) k.begun };
+    ghost begun = { λ k. k.begun };
 
     ghost faults = { λ k. k.faults };
 

@@ -4,7 +4,7 @@
 pub mod keeper;
 pub mod places;
 
-pub use keeper::SqlKeeper;
+pub use keeper::{FileKeeper, SqlKeeper};
 
 #[cfg(test)]
 mod tests;

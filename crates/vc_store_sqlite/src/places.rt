@@ -5,7 +5,7 @@ ghost use Rattle.std.specs.Prelude.{IsSome};
 use std::alloc::Global;
 use std::marker::Model;
 use vc_outside::{KeepFault, Keeper, MemKeeper};
-use vc_store_sqlite_file::SavedTexts;
+use vc_store_sqlite_file::{Open, SavedTexts};
 use vc_value::Word;
 
 /// Texts of this run alone. Nothing is told of them.
@@ -44,18 +44,18 @@ impl RunTexts {
     }
 }
 
-/// Where texts are kept.
+/// Where texts are kept: in memory for this run alone, or in a database of a store that a path opens.
 #[derive(Drop)]
-pub(crate) enum Place {
+pub(crate) enum Place<S: Open> {
     /// Nowhere yet.
     Nowhere,
     Run(RunTexts),
-    File(SavedTexts),
+    File(SavedTexts<S>),
 }
 
-impl Place {
+impl<S: Open> Place<S> {
     /// The place of this name, or that of this run alone.
-    pub(crate) fn open(rt: &HostRuntime, name: Option<&str>) -> Result<Place, KeepFault> {
+    pub(crate) fn open(rt: &HostRuntime, name: Option<&str>) -> Result<Place<S>, KeepFault> {
         match name {
             Some(path) => Ok(Place::File(SavedTexts::open(rt, path)?)),
             None => Ok(Place::Run(RunTexts::open(rt.alloc())?)),

@@ -1,6 +1,6 @@
 //! What is kept is found again, in memory and in a file.
 
-use crate::SqlKeeper;
+use crate::FileKeeper;
 use std::test::Fail;
 use std::time::{SystemTime, UNIX_EPOCH};
 use std::{env, fs};
@@ -8,7 +8,7 @@ use vc_outside::{KeepFault, Keeper};
 
 #[test]
 fn keeps_texts_for_a_run(rt: HostRuntime) -> Result<(), Fail> {
-    let mut keeper = SqlKeeper::new(rt.clone()?);
+    let mut keeper = FileKeeper::new(rt.clone()?);
     assert_eq!(rt; keeper.begin(None), Ok(()));
     assert_eq!(rt; keeper.put(b"x".as_slice(), b"one".as_slice()), Ok(()));
     assert_eq!(rt; keeper.put(b"x".as_slice(), b"two".as_slice()), Ok(()));
@@ -24,11 +24,11 @@ fn finds_texts_in_a_file_again(rt: HostRuntime) -> Result<(), Fail> {
     let since_epoch = SystemTime::now(&rt)?.duration_since(UNIX_EPOCH)?;
     let folder = env::temp_dir(&rt)?;
     let path = format!(in rt.alloc(); "{}/kept-{}", folder.as_str(), since_epoch.as_nanos())?;
-    let mut keeper = SqlKeeper::new(rt.clone()?);
+    let mut keeper = FileKeeper::new(rt.clone()?);
     assert_eq!(rt; keeper.begin(Some(path.as_str())), Ok(()));
     assert_eq!(rt; keeper.put(b"x".as_slice(), b"kept".as_slice()), Ok(()));
     drop(keeper);
-    let mut again = SqlKeeper::new(rt.clone()?);
+    let mut again = FileKeeper::new(rt.clone()?);
     assert_eq!(rt; again.begin(Some(path.as_str())), Ok(()));
     let kept = again.get(b"x".as_slice());
     drop(again);
@@ -41,7 +41,7 @@ fn finds_texts_in_a_file_again(rt: HostRuntime) -> Result<(), Fail> {
 
 #[test]
 fn refuses_what_is_no_database(rt: HostRuntime) -> Result<(), Fail> {
-    let mut keeper = SqlKeeper::new(rt.clone()?);
+    let mut keeper = FileKeeper::new(rt.clone()?);
     assert_eq!(rt; keeper.begin(Some("/")), Err(KeepFault::Failed));
     Ok(())
 }

@@ -1,21 +1,29 @@
 //! Texts that are kept in a database file.
 
+use crate::opening::Open;
 use crate::rows::{get_row, make_table, put_row, remove_row};
-use sqlite::{Connection, Error, ErrorCode, File, FileStore};
+use sqlite::{Connection, Error, ErrorCode};
+use std::marker::Model;
 use vc_outside::KeepFault;
 use vc_value::Word;
 
-/// Texts in the table `saved` of a database file that SQLite reads. Each call is a transaction of its own. It tells
-/// nothing of what the table holds.
-pub struct SavedTexts {
-    connection: Connection<FileStore<File>>,
+/// Texts in the table `saved` of a database that SQLite reads. Each call is a transaction of its own. It tells nothing
+/// of what the table holds.
+pub struct SavedTexts<S: Open> {
+    connection: Connection<S>,
+}
+
+// Nothing is told, so a caller's proof needn't look into a connection.
+impl<S: Open> Model for SavedTexts<S> {
+    ghost Value = { Unit {0} };
+
+    ghost view = { λ _. tt };
 }
 
 // By hand, as a derived one is proved again, with all of its parts, in each crate that drops such texts.
-impl Drop for SavedTexts {
+impl<S: Open> Drop for SavedTexts<S> {
     fn drop(self) {
-        let SavedTexts { connection } = self;
-        drop(connection);
+        let SavedTexts { connection: _ } = self;
     }
 }
 
@@ -27,16 +35,15 @@ fn fault_of(error: Error) -> KeepFault {
     }
 }
 
-fn opened(rt: &HostRuntime, path: &str) -> Result<SavedTexts, Error> {
-    let connection = Connection::open(rt, path)?;
-    let mut texts = SavedTexts { connection };
-    make_table(&mut texts.connection)?;
-    Ok(texts)
+fn opened<S: Open>(rt: &HostRuntime, path: &str) -> Result<SavedTexts<S>, Error> {
+    let mut connection = S::open(rt, path)?;
+    make_table(&mut connection)?;
+    Ok(SavedTexts { connection })
 }
 
-impl SavedTexts {
+impl<S: Open> SavedTexts<S> {
     /// The texts in the database of this path, which is made where there is none.
-    pub fn open(rt: &HostRuntime, path: &str) -> Result<SavedTexts, KeepFault> {
+    pub fn open(rt: &HostRuntime, path: &str) -> Result<SavedTexts<S>, KeepFault> {
         match opened(rt, path) {
             Ok(texts) => Ok(texts),
             Err(error) => Err(fault_of(error)),
