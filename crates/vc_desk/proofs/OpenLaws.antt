@@ -14,93 +14,90 @@ use Rattle.std.specs.Ordering.{is_lt, nat_cmp}
 use Rattle.vc_outside.proofs.NameLaws.{is_name, name_is, same_answers}
 use Rattle.vc_outside.specs.Keepers.{Texts}
 use Rattle.vc_plan.specs.declared.plans.Plan.{Plan}
-use Rattle.vc_plan_users.specs.Choosing.{Chosen}
+use Rattle.vc_desk_shown.specs.Standing.{Standing, standing_of}
 use Rattle.vc_session.specs.Sessions.{IsSessionOf, Opened}
-use Rattle.vc_desk.specs.Desks.{AreSessionsOf, chosen_entry, open_of, Kept, state_of}
-use Rattle.vc_desk.specs.States.{ByName, chosen_in, open_count, with_session, without_session, State, kept, start_state}
+use Rattle.vc_desk.specs.Desks.{AreSessionsOf, Kept, open_of, standing_entry, state_of}
+use Rattle.vc_desk.specs.States.{ByName, State, kept, open_count, standing_in, start_state, with_session}
+use Rattle.vc_desk.specs.States.{without_session}
 
-abbrev users_in : Option Opened → Option Chosen
-users_in found = option_map (λ session. session.users) found
+abbrev standing_found : Option Opened → Option Standing
+standing_found found = option_map standing_of found
 
--- what is chosen in a session that is found
-found_chosen : (q : List ℕ) (sessions : List (List ℕ × Opened))
-    → find (slice_cmp nat_cmp) q (map chosen_entry sessions) ≡ users_in (find (slice_cmp nat_cmp) q sessions)
-found_chosen q [] = refl
-found_chosen q (entry ∷ sessions) = by (is_name q entry.0) (found_chosen q sessions)
+-- how a session that is found stands
+found_standing : (q : List ℕ) (sessions : List (List ℕ × Opened))
+    → find (slice_cmp nat_cmp) q (map standing_entry sessions) ≡ standing_found (find (slice_cmp nat_cmp) q sessions)
+found_standing q [] = refl
+found_standing q (entry ∷ sessions) = by (is_name q entry.0) (found_standing q sessions)
   where
-    by : (b : Bool) → find (slice_cmp nat_cmp) q (map chosen_entry sessions)
-        ≡ users_in (find (slice_cmp nat_cmp) q sessions)
-        → cond b (Some entry.1.users) (find (slice_cmp nat_cmp) q (map chosen_entry sessions))
-        ≡ users_in (cond b (Some entry.1) (find (slice_cmp nat_cmp) q sessions))
+    by : (b : Bool) → find (slice_cmp nat_cmp) q (map standing_entry sessions)
+        ≡ standing_found (find (slice_cmp nat_cmp) q sessions)
+        → cond b (Some (standing_of entry.1)) (find (slice_cmp nat_cmp) q (map standing_entry sessions))
+        ≡ standing_found (cond b (Some entry.1) (find (slice_cmp nat_cmp) q sessions))
     by true rest = refl
     by false rest = rest
 
-pub chosen_of : (sessions : ByName Opened) (q : List ℕ) → chosen_in (open_of sessions) q ≡ users_in (get sessions q)
-chosen_of sessions q =
-    get-from_entries nat_list_cmp_total (map chosen_entry (entries sessions)) q
-    ∙ found_chosen q (entries sessions)
-    ∙ ap users_in (sym (get-entries sessions q))
+pub standing_at : (sessions : ByName Opened) (q : List ℕ)
+    → standing_in (open_of sessions) q ≡ standing_found (get sessions q)
+standing_at sessions q =
+    get-from_entries nat_list_cmp_total (map standing_entry (entries sessions)) q
+    ∙ found_standing q (entries sessions)
+    ∙ ap standing_found (sym (get-entries sessions q))
 
-users_cond : (b : Bool) (new other : Option Opened)
-    → users_in (cond b new other) ≡ cond b (users_in new) (users_in other)
-users_cond true new other = refl
-users_cond false new other = refl
+standing_cond : (b : Bool) (new other : Option Opened)
+    → standing_found (cond b new other) ≡ cond b (standing_found new) (standing_found other)
+standing_cond true new other = refl
+standing_cond false new other = refl
 
 pub none_open : open_of empty ≡ empty
 none_open = same_answers (open_of empty) empty (λ q.
-    chosen_of empty q ∙ ap users_in (get-empty (slice_cmp nat_cmp) q) ∙ sym (get-empty (slice_cmp nat_cmp) q))
+    standing_at empty q ∙ ap standing_found (get-empty (slice_cmp nat_cmp) q) ∙ sym (get-empty (slice_cmp nat_cmp) q))
 
 pub open_put : (sessions : ByName Opened) (name : List ℕ) (new : Opened)
-    → open_of (insert sessions name new) ≡ with_session (open_of sessions) name new.users
+    → open_of (insert sessions name new) ≡ with_session (open_of sessions) name (standing_of new)
 open_put sessions name new =
-    same_answers (open_of (insert sessions name new)) (with_session (open_of sessions) name new.users) (λ q.
-    chosen_of (insert sessions name new) q
-    ∙ ap users_in (get-insert nat_list_cmp_total sessions name new q)
-    ∙ users_cond (is_name q name) (Some new) (get sessions q)
-    ∙ ap (cond (is_name q name) (Some new.users)) (sym (chosen_of sessions q))
-    ∙ sym (get-insert nat_list_cmp_total (open_of sessions) name new.users q))
+    same_answers (open_of (insert sessions name new)) (with_session (open_of sessions) name (standing_of new)) (λ q.
+    standing_at (insert sessions name new) q
+    ∙ ap standing_found (get-insert nat_list_cmp_total sessions name new q)
+    ∙ standing_cond (is_name q name) (Some new) (get sessions q)
+    ∙ ap (cond (is_name q name) (Some (standing_of new))) (sym (standing_at sessions q))
+    ∙ sym (get-insert nat_list_cmp_total (open_of sessions) name (standing_of new) q))
 
 pub open_removed : (sessions : ByName Opened) (name : List ℕ)
     → open_of (remove sessions name) ≡ without_session (open_of sessions) name
 open_removed sessions name =
     same_answers (open_of (remove sessions name)) (without_session (open_of sessions) name) (λ q.
-    chosen_of (remove sessions name) q
-    ∙ ap users_in (get-remove nat_list_cmp_total sessions name q)
-    ∙ users_cond (is_name q name) None (get sessions q)
-    ∙ ap (cond (is_name q name) none) (sym (chosen_of sessions q))
+    standing_at (remove sessions name) q
+    ∙ ap standing_found (get-remove nat_list_cmp_total sessions name q)
+    ∙ standing_cond (is_name q name) None (get sessions q)
+    ∙ ap (cond (is_name q name) none) (sym (standing_at sessions q))
     ∙ sym (get-remove nat_list_cmp_total (open_of sessions) name q))
   where
-    none : Option Chosen
+    none : Option Standing
     none = None
 
--- another session in the place of one in which the same is chosen
-pub open_kept : (sessions : ByName Opened) (name : List ℕ) (old new : Opened) → get sessions name ≡ Some old
-    → new.users ≡ old.users → open_of (insert sessions name new) ≡ open_of sessions
-open_kept sessions name old new there same =
-    open_put sessions name new
-    ∙ same_answers (with_session (open_of sessions) name new.users) (open_of sessions) (λ q.
-    get-insert nat_list_cmp_total (open_of sessions) name new.users q ∙ by q (is_name q name) refl)
+-- a session in its own place
+pub put_same : (sessions : ByName Opened) (name : List ℕ) (session : Opened) → get sessions name ≡ Some session
+    → insert sessions name session ≡ sessions
+put_same sessions name session there = same_answers (insert sessions name session) sessions (λ q.
+    get-insert nat_list_cmp_total sessions name session q ∙ by q (is_name q name) refl)
   where
-    by : (q : List ℕ) (b : Bool) → is_name q name ≡ b
-        → cond b (Some new.users) (chosen_in (open_of sessions) q) ≡ chosen_in (open_of sessions) q
-    by q true e =
-        ap Some same
-        ∙ sym (ap (chosen_in (open_of sessions)) (name_is q name e) ∙ chosen_of sessions name ∙ ap users_in there)
+    by : (q : List ℕ) (b : Bool) → is_name q name ≡ b → cond b (Some session) (get sessions q) ≡ get sessions q
+    by q true e = sym (ap (get sessions) (name_is q name e) ∙ there)
     by q false e = refl
 
 -- as many are open; the entries ascend by the same names
-below_chosen : (name : List ℕ) (sessions : List (List ℕ × Opened))
-    → below_all (slice_cmp nat_cmp) name (map chosen_entry sessions) ≡ below_all (slice_cmp nat_cmp) name sessions
-below_chosen name [] = refl
-below_chosen name (entry ∷ sessions) =
-    ap (λ b. is_lt (slice_cmp nat_cmp name entry.0) && b) (below_chosen name sessions)
+below_standing : (name : List ℕ) (sessions : List (List ℕ × Opened))
+    → below_all (slice_cmp nat_cmp) name (map standing_entry sessions) ≡ below_all (slice_cmp nat_cmp) name sessions
+below_standing name [] = refl
+below_standing name (entry ∷ sessions) =
+    ap (λ b. is_lt (slice_cmp nat_cmp name entry.0) && b) (below_standing name sessions)
 
-sorted_chosen : (sessions : List (List ℕ × Opened))
-    → is_sorted (slice_cmp nat_cmp) (map chosen_entry sessions) ≡ is_sorted (slice_cmp nat_cmp) sessions
-sorted_chosen [] = refl
-sorted_chosen (entry ∷ sessions) =
-    ap (λ b. b && is_sorted (slice_cmp nat_cmp) (map chosen_entry sessions)) (below_chosen entry.0 sessions)
-    ∙ ap (λ b. below_all (slice_cmp nat_cmp) entry.0 sessions && b) (sorted_chosen sessions)
+sorted_standing : (sessions : List (List ℕ × Opened))
+    → is_sorted (slice_cmp nat_cmp) (map standing_entry sessions) ≡ is_sorted (slice_cmp nat_cmp) sessions
+sorted_standing [] = refl
+sorted_standing (entry ∷ sessions) =
+    ap (λ b. b && is_sorted (slice_cmp nat_cmp) (map standing_entry sessions)) (below_standing entry.0 sessions)
+    ∙ ap (λ b. below_all (slice_cmp nat_cmp) entry.0 sessions && b) (sorted_standing sessions)
 
 length_sorted : {X : Type 0} (list : List (List ℕ × X)) → T (is_sorted (slice_cmp nat_cmp) list)
     → len (from_entries {R = slice_cmp nat_cmp} list) ≡ length list
@@ -110,15 +107,15 @@ length_sorted list sorted =
     ∙ len-entries (from_sorted {R = slice_cmp nat_cmp} list)
     ∙ ap length (entries-from_sorted (slice_cmp nat_cmp) list sorted)
 
-count_chosen : (sessions : List (List ℕ × Opened)) → length (map chosen_entry sessions) ≡ length sessions
-count_chosen [] = refl
-count_chosen (entry ∷ sessions) = ap suc (count_chosen sessions)
+count_standing : (sessions : List (List ℕ × Opened)) → length (map standing_entry sessions) ≡ length sessions
+count_standing [] = refl
+count_standing (entry ∷ sessions) = ap suc (count_standing sessions)
 
 pub count_is : (sessions : ByName Opened) → open_count (open_of sessions) ≡ len sessions
 count_is sessions =
-    length_sorted (map chosen_entry (entries sessions))
-    (subst T (sym (sorted_chosen (entries sessions))) (entries_sorted sessions))
-    ∙ count_chosen (entries sessions)
+    length_sorted (map standing_entry (entries sessions))
+    (subst T (sym (sorted_standing (entries sessions))) (entries_sorted sessions))
+    ∙ count_standing (entries sessions)
     ∙ sym (len-entries sessions)
 
 -- sessions of the plan stay such

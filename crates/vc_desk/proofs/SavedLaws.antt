@@ -14,6 +14,7 @@ use Rattle.vc_wire_replies.specs.declared.reply.Refusal.{Refusal}
 use Rattle.vc_wire_replies.specs.declared.reply.Refusal.TheVariants.{NothingSaved, OutOfMemory}
 use Rattle.vc_wire_replies.specs.declared.reply.Reply.{Reply}
 use Rattle.vc_wire_replies.specs.declared.reply.Reply.TheVariants.{Forgotten, Refused, Saved}
+use Rattle.vc_desk_shown.specs.Standing.{Standing}
 use Rattle.vc_desk.specs.Editing.{EditsTo}
 use Rattle.vc_desk.specs.Saved as wanted
 use Rattle.vc_desk.specs.Saved.{ForgetsSaved, IsGiven, IsKeeperRefusal, IsLoaded, IsSaved, LoadsSession}
@@ -176,36 +177,38 @@ module _ (sessions : OpenSessions) (before after : Option Texts) (faults faults_
       exhausted (said ∙ ap Refused is) (λ j. kept (stays j) (same j) (calm j))
 
   -- `save` of what is chosen
-  pub saves_done : (plan : Plan) (name : List ℕ) (chosen : Chosen) (done : Unit {0})
-      → IsSaved before after faults faults_after name (saved_text plan chosen) (Ok done)
-      → SavesSession plan (kept sessions before faults) name (Some chosen) Saved (kept sessions after faults_after)
-  saves_done plan name chosen done is =
+  pub saves_done : (plan : Plan) (name : List ℕ) (standing : Standing) (done : Unit {0})
+      → IsSaved before after faults faults_after name (saved_text plan standing.chosen) (Ok done)
+      → SavesSession plan (kept sessions before faults) name (Some standing) Saved (kept sessions after faults_after)
+  saves_done plan name standing done is =
+      let text = saved_text plan standing.chosen in
       answers is.0
-      (so_holds (λ texts next. next ≡ insert texts name (saved_text plan chosen))
-      (λ texts next. (Saved ≡ Saved) × (sessions ≡ sessions) × (next ≡ insert texts name (saved_text plan chosen)))
+      (so_holds (λ texts next. next ≡ insert texts name text)
+      (λ texts next. (Saved ≡ Saved) × (sessions ≡ sessions) × (next ≡ insert texts name text))
       (λ texts next put. (refl, refl, put)) is.1)
 
-  pub saves_failed : (plan : Plan) (name : List ℕ) (chosen : Chosen) (refusal : Refusal) (reply : Reply)
-      → IsSaved before after faults faults_after name (saved_text plan chosen) (Err refusal)
+  pub saves_failed : (plan : Plan) (name : List ℕ) (standing : Standing) (refusal : Refusal) (reply : Reply)
+      → IsSaved before after faults faults_after name (saved_text plan standing.chosen) (Err refusal)
       → reply ≡ Refused refusal
-      → SavesSession plan (kept sessions before faults) name (Some chosen) reply (kept sessions after faults_after)
-  saves_failed plan name chosen refusal reply is said =
+      → SavesSession plan (kept sessions before faults) name (Some standing) reply (kept sessions after faults_after)
+  saves_failed plan name standing refusal reply is said =
+      let text = saved_text plan standing.chosen in
       fails sessions reply refusal
-      (λ texts next. (reply ≡ Saved) × (sessions ≡ sessions) × (next ≡ insert texts name (saved_text plan chosen)))
-      is.0 is.1 refl said
+      (λ texts next. (reply ≡ Saved) × (sessions ≡ sessions) × (next ≡ insert texts name text)) is.0 is.1 refl said
 
   -- `load` of what the text that is saved gives
-  pub loads_by : (plan : Plan) (session name : List ℕ) (chosen : Chosen) (result : Result Chosen Refusal)
+  pub loads_by : (plan : Plan) (session name : List ℕ) (standing : Standing) (result : Result Chosen Refusal)
       (reply : Reply) (next : OpenSessions) → IsLoaded plan name before after faults faults_after result
       → EditsTo plan sessions session result reply next
-      → LoadsSession plan (kept sessions before faults) session name (Some chosen) reply (kept next after faults_after)
-  loads_by plan session name chosen result reply next (refused refusal is keeper same) edits =
+      → LoadsSession plan (kept sessions before faults) session name (Some standing) reply
+      (kept next after faults_after)
+  loads_by plan session name standing result reply next (refused refusal is keeper same) edits =
       let said : EditsTo plan sessions session (Err refusal) reply next =
       subst (λ r. EditsTo plan sessions session r reply next) is edits in
       fails next reply refusal
       (λ texts last. EditsTo plan sessions session (after_load plan (get texts name)) reply next × (last ≡ texts))
       keeper same said.1 said.0
-  loads_by plan session name chosen result reply next (loaded calm holds) edits =
+  loads_by plan session name standing result reply next (loaded calm holds) edits =
       answers calm
       (so_holds (λ texts last. (result ≡ after_load plan (get texts name)) × (last ≡ texts))
       (λ texts last. EditsTo plan sessions session (after_load plan (get texts name)) reply next × (last ≡ texts))

@@ -4,7 +4,6 @@ use Rattle.std.specs.Prelude.{Some}
 use Rattle.vc_plan.specs.declared.plans.Plan.{Plan}
 use Rattle.vc_session.specs.Sessions.{Opened}
 use Rattle.vc_wire_requests.specs.declared.request.Request.{Request}
-use Rattle.vc_wire_requests.specs.declared.request.Request.TheVariants as requests
 use Rattle.vc_wire_replies.specs.declared.reply.Reply.{Reply}
 use Rattle.vc_desk_session.specs.declared.edits.Edit.{Edit}
 use Rattle.vc_desk_session.specs.declared.edits.Edit.TheVariants as edits
@@ -17,7 +16,7 @@ use Rattle.vc_desk_session.specs.Reasons.{AsksSession, asked_by}
 use Rattle.vc_desk_session.specs.Telling.{text_told, told_as}
 use Rattle.vc_desk.specs.Answers.{Apply, EditsSession, TellsSession}
 use Rattle.vc_desk.specs.Costing.{AnswerSpends, SpendsOnEdit}
-use Rattle.vc_desk.specs.States.{ByName, KeeperStays, State, chosen_in}
+use Rattle.vc_desk.specs.States.{ByName, KeeperStays, State, standing_in}
 use Rattle.vc_desk.specs.Tasks.{edit_request, reason_request, show_request}
 
 -- the request is the one that asks for the task
@@ -35,7 +34,7 @@ may_edit plan session (edits.Restore users) request of = absurd (cc)
 -- what is answered
 module _ (plan : Plan) (state next : State) (session : List ℕ) (reply : Reply) where
   pub edit_applies : (edit : Edit) (request : Request) → edit_request session edit ≡ Some request
-      → EditsSession plan state.sessions session (after_edit edit plan) (chosen_in state.sessions session) reply
+      → EditsSession plan state.sessions session (after_edit edit plan) (standing_in state.sessions session) reply
       next.sessions
       → KeeperStays state next → Apply plan state request reply next
   edit_applies (edits.Set i name word) request of edited stays =
@@ -49,14 +48,14 @@ module _ (plan : Plan) (state next : State) (session : List ℕ) (reply : Reply)
   edit_applies (edits.Restore users) request of edited stays = absurd (cc)
 
   pub told_applies : (what : Told) → TellsSession plan (told_as what) (text_told what)
-      (chosen_in state.sessions session) reply
+      (standing_in state.sessions session) reply
       → Apply plan state (show_request session what) reply state
   told_applies told.Rows tells = (tells, refl)
   told_applies told.Bill tells = (tells, refl)
   told_applies told.Routing tells = (tells, refl)
 
   pub reason_applies : (question : Question) → AsksSession plan (asked_by question)
-      (chosen_in state.sessions session) reply
+      (standing_in state.sessions session) reply
       → Apply plan state (reason_request session question) reply state
   reason_applies (questions.Why i name) asks = (asks, refl)
   reason_applies (questions.WhyNot i name word) asks = (asks, refl)

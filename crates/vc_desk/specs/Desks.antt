@@ -5,8 +5,7 @@ use Rattle.vc_outside.specs.Keepers.{Texts}
 use Rattle.vc_plan.specs.declared.plans.Plan.{Plan}
 use Rattle.vc_plan.specs.declared.shown.Status.{Status}
 use Rattle.vc_plan.specs.Valid.{IsValid}
-use Rattle.vc_plan_users.specs.Choosing.{Chosen, none_chosen, users_of}
-use Rattle.vc_plan_reasons.specs.Blaming.{IsStatus}
+use Rattle.vc_plan_users.specs.Choosing.{none_chosen}
 use Rattle.vc_proc_look_ups.specs.declared.look_ups.LookUps.{LookUps}
 use Rattle.vc_session_evaluation.specs.Sharing.{AreAllLookUpsOf}
 use Rattle.vc_session.specs.Costing.{HasStarted}
@@ -14,6 +13,7 @@ use Rattle.vc_session.specs.Sessions.{IsSessionOf, Opened}
 use Rattle.vc_wire_replies.specs.declared.reply.Refusal.{Refusal}
 use Rattle.vc_wire_replies.specs.declared.reply.Reply.{Reply}
 use Rattle.vc_wire_replies.specs.declared.reply.Reply.TheVariants.{Done, Refused}
+use Rattle.vc_desk_shown.specs.Standing.{Standing, StandsAs, standing_of}
 use Rattle.vc_desk.specs.States.{ByName, OpenSessions, State, kept}
 use Rattle.vc_desk.specs.declared.sessions.TheConstants.{SESSION_LIMIT}
 
@@ -27,12 +27,12 @@ pub record Kept : Type 0 where
 abbrev pub named_entry : {X Z : Type 0} → Vec ℕ Z × X → List ℕ × X
 named_entry entry = (entry.0.items, entry.1)
 
--- what the user chose in each, by its name
-abbrev pub chosen_entry : List ℕ × Opened → List ℕ × Chosen
-chosen_entry entry = (entry.0, entry.1.users)
+-- how each stands, by its name
+abbrev pub standing_entry : List ℕ × Opened → List ℕ × Standing
+standing_entry entry = (entry.0, standing_of entry.1)
 
 abbrev pub open_of : ByName Opened → OpenSessions
-open_of sessions = from_entries (map chosen_entry (entries sessions))
+open_of sessions = from_entries (map standing_entry (entries sessions))
 
 -- with what the keeper tells, and its count of faults
 abbrev pub state_of : ByName Opened → Option Texts → ℕ → State
@@ -52,11 +52,10 @@ pub record IsDesk (desk : Kept) : Type 0 where
   pub look_ups : IfSome desk.look_ups (AreAllLookUpsOf desk.plan)
   pub sessions : AreSessionsOf desk.plan desk.sessions
 
--- what is replied to an edit after which this is chosen
-abbrev pub RepliesTo : Plan → Chosen → Result Unit Refusal → Reply → Type 0
-RepliesTo plan chosen (Ok done) reply = (status : Status) × IsStatus plan (users_of chosen) status
-    × (reply ≡ Done status)
-RepliesTo plan chosen (Err refusal) reply = reply ≡ Refused refusal
+-- what is replied to an edit after which a session stands so
+abbrev pub RepliesTo : Plan → Standing → Result Unit Refusal → Reply → Type 0
+RepliesTo plan standing (Ok done) reply = (status : Status) × StandsAs plan standing status × (reply ≡ Done status)
+RepliesTo plan standing (Err refusal) reply = reply ≡ Refused refusal
 
 -- a session of this name with nothing chosen beside the others, and how it stands
 pub record Opens (plan : Plan) (old : ByName Opened) (name : List ℕ) (new : ByName Opened) (status : Status) :
@@ -66,4 +65,4 @@ pub record Opens (plan : Plan) (old : ByName Opened) (name : List ℕ) (new : By
   pub none : session.users ≡ none_chosen plan
   pub behind : HasStarted plan session
   pub put : new ≡ insert old name session
-  pub stands : IsStatus plan (users_of session.users) status
+  pub stands : StandsAs plan (standing_of session) status

@@ -3,6 +3,7 @@ pub mod Costing
 pub mod Desks
 pub mod Editing
 pub mod Keeping
+pub mod Laws
 pub mod Saved
 pub mod States
 pub mod Tasks

@@ -13,6 +13,7 @@ use Rattle.vc_wire_replies.specs.declared.reply.Refusal.TheVariants.{OutOfMemory
 use Rattle.vc_wire_replies.specs.declared.reply.Reply.{Reply}
 use Rattle.vc_wire_replies.specs.declared.reply.Reply.TheVariants.{Forgotten, Refused, Saved}
 use Rattle.vc_wire_replies.specs.declared.reply.SavedRefusal.TheVariants.{NotJson, OtherModel, Shape, UnknownName}
+use Rattle.vc_desk_shown.specs.Standing.{Standing}
 use Rattle.vc_desk.specs.Editing.{EditsTo}
 use Rattle.vc_desk.specs.States.{HoldsOfSaved, State}
 use Rattle.vc_store.specs.Reading.{read_saved}
@@ -31,11 +32,11 @@ pub data UnlessKeeperFails (state : State) (reply : Reply) (next : State) (Answe
         → UnlessKeeperFails state reply next Answers
 
 -- `save` of what is chosen in a session, if it is open: its text is saved under the name
-abbrev pub SavesSession : Plan → State → List ℕ → Option Chosen → Reply → State → Type 0
+abbrev pub SavesSession : Plan → State → List ℕ → Option Standing → Reply → State → Type 0
 SavesSession plan state name None reply next = (reply ≡ Refused NoSession) × (next ≡ state)
-SavesSession plan state name (Some chosen) reply next =
+SavesSession plan state name (Some standing) reply next =
     UnlessKeeperFails state reply next (λ texts after. (reply ≡ Saved) × (next.sessions ≡ state.sessions)
-    × (after ≡ insert texts name (saved_text plan chosen)))
+    × (after ≡ insert texts name (saved_text plan standing.chosen)))
 
 -- why a saved text gives nothing
 abbrev pub saved_refusal : SavedFault → Refusal
@@ -55,9 +56,9 @@ after_load plan None = Err NothingSaved
 after_load plan (Some text) = chosen_or_refusal (read_saved plan text)
 
 -- `load` into a session, if it is open: what was chosen there is replaced
-abbrev pub LoadsSession : Plan → State → List ℕ → List ℕ → Option Chosen → Reply → State → Type 0
+abbrev pub LoadsSession : Plan → State → List ℕ → List ℕ → Option Standing → Reply → State → Type 0
 LoadsSession plan state session name None reply next = (reply ≡ Refused NoSession) × (next ≡ state)
-LoadsSession plan state session name (Some chosen) reply next =
+LoadsSession plan state session name (Some standing) reply next =
     UnlessKeeperFails state reply next (λ texts after.
     EditsTo plan state.sessions session (after_load plan (get texts name)) reply next.sessions × (after ≡ texts))
 

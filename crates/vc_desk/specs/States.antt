@@ -1,19 +1,19 @@
--- What the desk keeps between requests: what users chose in the open sessions, and the texts that are saved; and
--- nothing that follows from either.
+-- What the desk keeps between requests: of each open session what its user chose, and whom it blames where that
+-- contradicts itself; and the texts that are saved. Nothing else that follows from either is kept.
 use Rattle.std.specs.Prelude.{◌≡◌, ⊤, ℕ, List, Option, None, Some, is_some}
 use Rattle.std.specs.Cmp.Lexicographic.{slice_cmp}
 use Rattle.std.specs.Ordering.{nat_cmp}
 use Rattle.std.specs.FinMap.{FinMap, empty, get, insert, len, remove}
 use Rattle.vc_outside.specs.Keepers.{Texts}
-use Rattle.vc_plan_users.specs.Choosing.{Chosen}
+use Rattle.vc_desk_shown.specs.Standing.{Standing}
 
 -- a finite map whose keys are words
 abbrev pub ByName : Type 0 → Type 0
 ByName A = FinMap (slice_cmp nat_cmp) A
 
--- what the user chose in each open session
+-- how each open session stands
 abbrev pub OpenSessions : Type 0
-OpenSessions = ByName Chosen
+OpenSessions = ByName Standing
 
 -- what is kept: the open sessions; of what is saved that which the keeper tells, if it does; and how many calls of the
 -- keeper failed, as it counts them
@@ -29,17 +29,17 @@ kept sessions saved faults = record { sessions = sessions; saved = saved; faults
 abbrev pub start_state : Option Texts → ℕ → State
 start_state saved faults = kept empty saved faults
 
--- what the user chose in the open session of this name
-abbrev pub chosen_in : OpenSessions → List ℕ → Option Chosen
-chosen_in sessions name = get sessions name
+-- how the session of this name stands, if one is open
+abbrev pub standing_in : OpenSessions → List ℕ → Option Standing
+standing_in sessions name = get sessions name
 
 -- how many are open
 abbrev pub open_count : OpenSessions → ℕ
 open_count sessions = len sessions
 
--- the session of this name is open with this chosen; it is open no more
-abbrev pub with_session : OpenSessions → List ℕ → Chosen → OpenSessions
-with_session sessions name chosen = insert sessions name chosen
+-- the session of this name is open and stands so; it is open no more
+abbrev pub with_session : OpenSessions → List ℕ → Standing → OpenSessions
+with_session sessions name standing = insert sessions name standing
 
 abbrev pub without_session : OpenSessions → List ℕ → OpenSessions
 without_session sessions name = remove sessions name

@@ -2,6 +2,7 @@
 #![tactic(auto)]
 
 pub mod desk;
+pub mod laws;
 pub mod saved;
 pub mod sessions;
 pub mod sharing;

@@ -6,7 +6,7 @@ ghost use Rattle.vc_session.specs.Sessions.{AreUsersOf};
 ghost use Rattle.vc_desk.specs.Costing.{SpendsOnEdit};
 ghost use Rattle.vc_desk.specs.Desks.{AreSessionsOf, open_of, state_of};
 ghost use Rattle.vc_desk.specs.Saved as saved;
-ghost use Rattle.vc_desk.specs.States.{OpenSessions, chosen_in, kept};
+ghost use Rattle.vc_desk.specs.States.{OpenSessions, standing_in, kept};
 ghost use Rattle.vc_store.specs.Saving.{saved_text};
 
 use crate::sessions::{Sessions, refused};
@@ -91,7 +91,7 @@ pub fn save<K: Keeper>(
     requires begun { IsSome (K.begun keeper.old) }
     ensures saves { saved.SavesSession plan.now
         (state_of sessions.now (K.texts keeper.old) (K.faults keeper.old)) name.now
-        (chosen_in (open_of sessions.now) session.now) result
+        (standing_in (open_of sessions.now) session.now) result
         (state_of sessions.now (K.texts keeper.new) (K.faults keeper.new)) }
     ensures begun { K.begun keeper.new ≡ K.begun keeper.old }
 {
@@ -153,7 +153,7 @@ pub fn load<K: Keeper, L: Ledger>(
     requires begun { IsSome (K.begun keeper.old) }
     ensures loads { saved.LoadsSession plan.now
         (state_of sessions.old (K.texts keeper.old) (K.faults keeper.old)) session.now name.now
-        (chosen_in (open_of sessions.old) session.now) result
+        (standing_in (open_of sessions.old) session.now) result
         (state_of sessions.new (K.texts keeper.new) (K.faults keeper.new)) }
     ensures of { AreSessionsOf plan.now sessions.new }
     ensures spends { SpendsOnEdit plan.now session.now sessions.old sessions.new result steps.old steps.new }

@@ -7,9 +7,10 @@ ghost use Rattle.vc_plan.specs.Valid.{IsValid};
 ghost use Rattle.vc_session.specs.Sessions.{IsSessionOf};
 ghost use Rattle.vc_desk_session.specs.Edits.{MayEdit, after_edit};
 ghost use Rattle.vc_desk_session.specs.Telling.{text_told, told_as};
+ghost use Rattle.vc_desk_shown.specs.Standing.{standing_of};
 ghost use Rattle.vc_desk.specs.Answers.{Closes, EditsSession, Starts, TellsSession};
 ghost use Rattle.vc_desk.specs.Desks.{AreSessionsOf, Opens, RepliesTo, open_of};
-ghost use Rattle.vc_desk.specs.States.{chosen_in};
+ghost use Rattle.vc_desk.specs.States.{standing_in};
 
 use crate::sharing::shared;
 use std::alloc::{AllocError, Global};
@@ -73,7 +74,7 @@ fn refuse(_which: Edit<'_>) -> Reply
 fn reply_to_edit(plan: &Plan, session: &Session, edited: Result<(), Refusal>) -> Reply
     requires valid { IsValid plan.now }
     requires of { IsSessionOf plan.now session.now }
-    ensures { RepliesTo plan.now session.now.users edited result }
+    ensures { RepliesTo plan.now (standing_of session.now) edited result }
 {
     match edited {
         Ok(()) => Reply::Done {
@@ -94,7 +95,7 @@ impl Sessions {
     ghost use Rattle.vc_desk.specs.Desks.{AreSessionsOf, KeepsLookUps, Opens, open_of};
     ghost use Rattle.vc_desk_session.specs.Edits.{MayEdit, after_edit};
     ghost use Rattle.vc_desk_session.specs.Reasons.{AsksSession, asked_by};
-    ghost use Rattle.vc_desk.specs.States.{chosen_in};
+    ghost use Rattle.vc_desk.specs.States.{standing_in};
     ghost use Rattle.vc_desk_session.specs.Telling.{text_told, told_as};
 
     /// None is open.
@@ -175,7 +176,7 @@ impl Sessions {
     /// Closes the session of this name.
     pub fn close(&mut self, plan: &Plan, name: &Word) -> Reply
         requires of { AreSessionsOf plan.now self.old }
-        ensures closes { Closes (open_of self.old) name.now (chosen_in (open_of self.old) name.now) result
+        ensures closes { Closes (open_of self.old) name.now (standing_in (open_of self.old) name.now) result
             (open_of self.new) }
         ensures of { AreSessionsOf plan.now self.new }
         ensures gone { self.new ≡ remove self.old name.now }
@@ -204,7 +205,7 @@ impl Sessions {
         requires of { AreSessionsOf plan.now self.old }
         requires may { MayEdit plan.now which }
         ensures edits { EditsSession plan.now (open_of self.old) name.now (after_edit which.entry plan.now)
-            (chosen_in (open_of self.old) name.now) result (open_of self.new) }
+            (standing_in (open_of self.old) name.now) result (open_of self.new) }
         ensures of { AreSessionsOf plan.now self.new }
         ensures spends { SpendsOnEdit plan.now name.now self.old self.new result steps.old steps.new }
     {
@@ -222,7 +223,7 @@ impl Sessions {
         requires valid { IsValid plan.now }
         requires of { AreSessionsOf plan.now self.now }
         ensures { TellsSession plan.now (told_as what) (text_told what)
-            (chosen_in (open_of self.now) name.now) result }
+            (standing_in (open_of self.now) name.now) result }
     {
         match self.find(name) {
             Some(session) => tell(alloc, plan, session, what),
@@ -234,7 +235,7 @@ impl Sessions {
     pub fn explain(&self, alloc: Global, plan: &Plan, name: &Word, question: Question<'_>) -> Reply
         requires valid { IsValid plan.now }
         requires of { AreSessionsOf plan.now self.now }
-        ensures { AsksSession plan.now (asked_by question.entry) (chosen_in (open_of self.now) name.now) result }
+        ensures { AsksSession plan.now (asked_by question.entry) (standing_in (open_of self.now) name.now) result }
     {
         match self.find(name) {
             Some(session) => answer(alloc, plan, session, question),

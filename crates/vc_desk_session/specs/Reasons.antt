@@ -8,6 +8,7 @@ use Rattle.vc_value.specs.declared.value.Value.{Value}
 use Rattle.vc_plan.specs.declared.atoms.Atom.{Atom}
 use Rattle.vc_plan.specs.declared.atoms.Atom.TheVariants.{Is, Out}
 use Rattle.vc_plan.specs.declared.atoms.Clash.{Clash}
+use Rattle.vc_plan.specs.declared.atoms.Outcome.TheVariants.{Broken}
 use Rattle.vc_plan.specs.declared.atoms.Step.{Step}
 use Rattle.vc_plan.specs.declared.plans.Named.{Named}
 use Rattle.vc_plan.specs.declared.plans.Named.TheVariants.{Set, Var}
@@ -19,7 +20,6 @@ use Rattle.vc_plan.specs.Evaluate.{Evaluated, Users, broken_at, evaluation_of, l
 use Rattle.vc_plan.specs.Pieces.{lies_in}
 use Rattle.vc_plan.specs.Seen.{seen_of}
 use Rattle.vc_plan_users.specs.Choosing.{Chosen, users_of}
-use Rattle.vc_plan_reasons.specs.Blaming.{IsStatus}
 use Rattle.vc_net_chains.specs.Explaining.{IsClash, IsLog, IsWhy}
 use Rattle.vc_wire_replies.specs.declared.reply.Refusal.{Refusal}
 use Rattle.vc_wire_replies.specs.declared.reply.Refusal.TheVariants.{NoConflict, NoSession, NotInferred, NotInList}
@@ -27,6 +27,7 @@ use Rattle.vc_wire_replies.specs.declared.reply.Refusal.TheVariants.{OutOfMemory
 use Rattle.vc_wire_replies.specs.declared.reply.Reply.{Reply}
 use Rattle.vc_wire_replies.specs.declared.reply.Reply.TheVariants.{Chain, Clashed, Hidden, Refused, Shown, Whole}
 use Rattle.vc_desk_names.specs.Meant.{value_named}
+use Rattle.vc_desk_shown.specs.Standing.{Standing, StandsAs}
 use Rattle.vc_desk_session.specs.Edits.{◌>>=◌, named_for}
 use Rattle.vc_desk_session.specs.declared.reasons.Question.{Question}
 use Rattle.vc_desk_session.specs.declared.reasons.Question.TheVariants as questions
@@ -74,24 +75,27 @@ abbrev pub Explains : Plan → Users → Result Atom Refusal → Reply → Type 
 Explains plan users (Err refusal) reply = reply ≡ Refused refusal
 Explains plan users (Ok atom) reply = ExplainsAtom plan users atom reply
 
--- what contradicts: a clash that refutes; where no stage is broken, the precondition that is violated, if one is
+-- what contradicts: a clash that refutes, and blames whom the outcome blames; where no stage is broken, the
+-- precondition that is violated, if one is
 abbrev pub reply_without_clash : Status → Reply
 reply_without_clash Unfinished = Refused NoConflict
 reply_without_clash Complete = Refused NoConflict
 reply_without_clash (Contradiction culprit) = Hidden culprit
 
-pub data Conflicts (plan : Plan) (users : Users) (reply : Reply) : Type 0 where
-  exhausted : reply ≡ Refused OutOfMemory → Conflicts plan users reply
-  clashes : (clash : Clash) → IsClash plan users (Some clash) → reply ≡ Clashed clash → Conflicts plan users reply
-  settled : (status : Status) → IsClash plan users None → IsStatus plan users status
-      → reply ≡ reply_without_clash status → Conflicts plan users reply
+pub data Conflicts (plan : Plan) (standing : Standing) (reply : Reply) : Type 0 where
+  exhausted : reply ≡ Refused OutOfMemory → Conflicts plan standing reply
+  clashes : (clash : Clash) → IsClash plan (users_of standing.chosen) (Some clash)
+      → standing.outcome ≡ Broken clash.culprit → reply ≡ Clashed clash → Conflicts plan standing reply
+  settled : (status : Status) → IsClash plan (users_of standing.chosen) None → StandsAs plan standing status
+      → reply ≡ reply_without_clash status → Conflicts plan standing reply
 
 -- all steps of the last stage; where one is broken, its status alone
-pub data Logs (plan : Plan) (users : Users) (reply : Reply) : Type 0 where
-  exhausted : reply ≡ Refused OutOfMemory → Logs plan users reply
-  whole : (steps : List Step) → IsLog plan users (Some steps) → reply ≡ Whole steps → Logs plan users reply
-  broken : (status : Status) → IsLog plan users None → IsStatus plan users status → reply ≡ Shown status []
-      → Logs plan users reply
+pub data Logs (plan : Plan) (standing : Standing) (reply : Reply) : Type 0 where
+  exhausted : reply ≡ Refused OutOfMemory → Logs plan standing reply
+  whole : (steps : List Step) → IsLog plan (users_of standing.chosen) (Some steps) → reply ≡ Whole steps
+      → Logs plan standing reply
+  broken : (status : Status) → IsLog plan (users_of standing.chosen) None → StandsAs plan standing status
+      → reply ≡ Shown status [] → Logs plan standing reply
 
 -- what may be asked of a session beside what it shows: why a characteristic has its value, why a value doesn't remain,
 -- what contradicts, and all that follows
@@ -101,18 +105,18 @@ pub data Asked : Type 0 where
   Conflict : Asked
   Log : Asked
 
-abbrev pub IsAnswerTo : Plan → Asked → Chosen → Reply → Type 0
-IsAnswerTo plan (Why i characteristic) chosen reply =
-    Explains plan (users_of chosen) (why_asked plan i characteristic chosen) reply
-IsAnswerTo plan (WhyNot i characteristic word) chosen reply =
-    Explains plan (users_of chosen) (whynot_asked plan i characteristic word) reply
-IsAnswerTo plan Conflict chosen reply = Conflicts plan (users_of chosen) reply
-IsAnswerTo plan Log chosen reply = Logs plan (users_of chosen) reply
+abbrev pub IsAnswerTo : Plan → Asked → Standing → Reply → Type 0
+IsAnswerTo plan (Why i characteristic) standing reply =
+    Explains plan (users_of standing.chosen) (why_asked plan i characteristic standing.chosen) reply
+IsAnswerTo plan (WhyNot i characteristic word) standing reply =
+    Explains plan (users_of standing.chosen) (whynot_asked plan i characteristic word) reply
+IsAnswerTo plan Conflict standing reply = Conflicts plan standing reply
+IsAnswerTo plan Log standing reply = Logs plan standing reply
 
 -- of the session of a name, if one is open
-abbrev pub AsksSession : Plan → Asked → Option Chosen → Reply → Type 0
+abbrev pub AsksSession : Plan → Asked → Option Standing → Reply → Type 0
 AsksSession plan asked None reply = reply ≡ Refused NoSession
-AsksSession plan asked (Some chosen) reply = IsAnswerTo plan asked chosen reply
+AsksSession plan asked (Some standing) reply = IsAnswerTo plan asked standing reply
 
 -- a question by its words
 abbrev pub asked_by : Question → Asked

@@ -3,11 +3,11 @@ use Rattle.std.specs.Prelude.{◌≡◌, ℕ, List}
 use Rattle.vc_plan.specs.declared.plans.Plan.{Plan}
 use Rattle.vc_plan.specs.declared.shown.Status.{Status}
 use Rattle.vc_plan.specs.Evaluate.{Users}
-use Rattle.vc_plan_reasons.specs.Blaming.{IsStatus}
 use Rattle.vc_wire_replies.specs.declared.reply.Refusal.TheVariants.{OutOfMemory}
 use Rattle.vc_wire_replies.specs.declared.reply.Reply.{Reply}
 use Rattle.vc_wire_replies.specs.declared.reply.Reply.TheVariants.{BillShown, Refused, RoutingShown, Shown}
 use Rattle.vc_desk_shown.specs.Shown.{bill_shown, routing_shown, shown}
+use Rattle.vc_desk_shown.specs.Standing.{Standing, StandsAs}
 use Rattle.vc_desk_session.specs.declared.telling.Told.{Told}
 use Rattle.vc_desk_session.specs.declared.telling.Told.TheVariants.{Bill, Routing, Rows}
 
@@ -21,8 +21,9 @@ told_as Rows = Shown
 told_as Bill = BillShown
 told_as Routing = RoutingShown
 
--- what is told of what is chosen: how it stands, and a text that it determines; memory may be wanting
-pub data Tells (plan : Plan) (users : Users) (tell : Status → List ℕ → Reply) (text : List ℕ) (reply : Reply) : Type 0
-  where
-    exhausted : reply ≡ Refused OutOfMemory → Tells plan users tell text reply
-    told : (status : Status) → IsStatus plan users status → reply ≡ tell status text → Tells plan users tell text reply
+-- what is told: how a session stands, and a text that what is chosen determines; memory may be wanting
+pub data Tells (plan : Plan) (standing : Standing) (tell : Status → List ℕ → Reply) (text : List ℕ) (reply : Reply) :
+    Type 0 where
+  exhausted : reply ≡ Refused OutOfMemory → Tells plan standing tell text reply
+  told : (status : Status) → StandsAs plan standing status → reply ≡ tell status text
+      → Tells plan standing tell text reply

@@ -6,6 +6,7 @@ ghost use Rattle.vc_plan.specs.Evaluate.{evaluation_of};
 ghost use Rattle.vc_plan.specs.Valid.{IsValid};
 ghost use Rattle.vc_plan_users.specs.Choosing.{users_of};
 ghost use Rattle.vc_session.specs.Sessions.{IsSessionOf};
+ghost use Rattle.vc_desk_shown.specs.Standing.{standing_of};
 ghost use Rattle.vc_desk_session.specs.Reasons as reasons;
 
 use crate::words::{named_for, value_for};
@@ -102,11 +103,11 @@ fn explain(alloc: Global, plan: &Plan, session: &Session, asked: Result<Atom, Re
     }
 }
 
-// What contradicts, or the precondition that is violated.
+// What contradicts, as the session blames it, or the precondition that is violated.
 fn conflict(alloc: Global, plan: &Plan, session: &Session) -> Reply
     requires valid { IsValid plan.now }
     requires of { IsSessionOf plan.now session.now }
-    ensures { reasons.Conflicts plan.now (users_of session.now.users) result }
+    ensures { reasons.Conflicts plan.now (standing_of session.now) result }
 {
     match session.clash(alloc, plan) {
         Ok(Some(clash)) => Reply::Clashed { clash },
@@ -127,7 +128,7 @@ fn no_clash(status: Status) -> Reply
 fn log(alloc: Global, plan: &Plan, session: &Session) -> Reply
     requires valid { IsValid plan.now }
     requires of { IsSessionOf plan.now session.now }
-    ensures { reasons.Logs plan.now (users_of session.now.users) result }
+    ensures { reasons.Logs plan.now (standing_of session.now) result }
 {
     match session.log(alloc, plan) {
         Ok(Some(steps)) => Reply::Whole { steps },
@@ -157,7 +158,7 @@ pub enum Question<'a> {
 pub fn answer(alloc: Global, plan: &Plan, session: &Session, question: Question<'_>) -> Reply
     requires valid { IsValid plan.now }
     requires of { IsSessionOf plan.now session.now }
-    ensures { reasons.IsAnswerTo plan.now (reasons.asked_by question.entry) session.now.users result }
+    ensures { reasons.IsAnswerTo plan.now (reasons.asked_by question.entry) (standing_of session.now) result }
 {
     match question {
         Question::Why(instance, name) => {

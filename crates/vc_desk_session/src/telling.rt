@@ -4,6 +4,7 @@ ghost use Rattle.std.specs.Prelude.{◌≡◌, IfOk};
 ghost use Rattle.vc_plan.specs.Valid.{IsValid};
 ghost use Rattle.vc_plan_users.specs.Choosing.{users_of};
 ghost use Rattle.vc_session.specs.Sessions.{IsSessionOf};
+ghost use Rattle.vc_desk_shown.specs.Standing.{standing_of};
 ghost use Rattle.vc_desk_session.specs.Telling.{text_told, told_as, Tells};
 
 use std::alloc::{AllocError, Global};
@@ -56,7 +57,7 @@ fn reply_with(what: Told, status: Status, text: Word) -> Reply
 pub fn tell(alloc: Global, plan: &Plan, session: &Session, what: Told) -> Reply
     requires valid { IsValid plan.now }
     requires of { IsSessionOf plan.now session.now }
-    ensures { Tells plan.now (users_of session.now.users) (told_as what)
+    ensures { Tells plan.now (standing_of session.now) (told_as what)
         (text_told what plan.now (users_of session.now.users)) result }
 {
     match text_of(alloc, plan, session, what) {

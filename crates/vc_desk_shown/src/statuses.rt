@@ -1,10 +1,8 @@
 //! How a session stands.
 
-ghost use Rattle.std.specs.Prelude.{◌≡◌};
 ghost use Rattle.vc_plan.specs.Valid.{IsValid};
-ghost use Rattle.vc_plan_reasons.specs.Blaming.{IsStatus};
-ghost use Rattle.vc_plan_users.specs.Choosing.{users_of};
 ghost use Rattle.vc_session.specs.Sessions.{IsSessionOf};
+ghost use Rattle.vc_desk_shown.specs.Standing.{StandsAs, standing_of};
 
 use vc_plan::{Outcome, Plan, Status};
 use vc_session::Session;
@@ -14,7 +12,7 @@ use vc_show::statuses::status_of;
 pub fn status(plan: &Plan, session: &Session) -> Status
     requires valid { IsValid plan.now }
     requires of { IsSessionOf plan.now session.now }
-    ensures { IsStatus plan.now (users_of session.now.users) result }
+    ensures { StandsAs plan.now (standing_of session.now) result }
 {
     match session.outcome() {
         Outcome::Broken(culprit) => Status::Contradiction(culprit),

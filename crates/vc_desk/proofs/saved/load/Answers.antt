@@ -2,11 +2,12 @@
 use Rattle.std.proofs.Common.{◌∙◌, ap, false, not, refl, subst, sym, Err, Ok}
 use Rattle.std.specs.FinMap.{get}
 use Rattle.vc_wire_replies.specs.declared.reply.Refusal.TheVariants.{NoSession}
+use Rattle.vc_desk_shown.specs.Standing.{standing_of}
 use Rattle.vc_desk.specs.Answers.{EditsSession}
 use Rattle.vc_desk.specs.Costing.{unedited}
 use Rattle.vc_desk.specs.Desks.{open_of, state_of}
 use Rattle.vc_desk.specs.Saved.{LoadsSession}
-use Rattle.vc_desk.proofs.AnswerLaws.{none_chosen_in, one_chosen_in, one_copied, some_copied}
+use Rattle.vc_desk.proofs.AnswerLaws.{none_stands, one_stands, one_copied, some_copied}
 use Rattle.vc_desk.proofs.OpenLaws.{is_none_at}
 use Rattle.vc_desk.proofs.SavedLaws.{loads_by}
 use Rattle.vc_desk.proofs.saved.load.Goals as goal
@@ -20,7 +21,7 @@ returns-then-is_none-clause-loads g c =
     (some_copied c.find.result (get sessions session) false c.find.ensures
     (c.is_none.ensures ∙ ap not c.if-is_none.true)) in
     subst (λ o. LoadsSession c.args.plan.now state session c.args.name.now o c.refused.result state)
-    (sym (none_chosen_in sessions session none)) (c.refused.ensures, refl)
+    (sym (none_stands sessions session none)) (c.refused.ensures, refl)
 
 pub returns-then-is_none-clause-spends : goal.returns-then-is_none-clause-spends
 returns-then-is_none-clause-spends g c = unedited NoSession c.refused.ensures refl refl
@@ -36,13 +37,13 @@ returns-in-Ok-clause-loads g c =
     let session = c.args.session.now in
     let one = one_copied c.find.result (get sessions session) c.find.ensures
     (c.is_none.ensures ∙ ap not c.if-is_none.false) in
-    let chosen = one_chosen_in sessions session one.0 one.1 in
+    let stands = one_stands sessions session one.0 one.1 in
     subst (λ o. LoadsSession plan (state_of sessions (texts before) (faults before)) session c.args.name.now o
-    c.edit.result (state_of c.edit.new.self (texts after) (faults after))) (sym chosen)
+    c.edit.result (state_of c.edit.new.self (texts after) (faults after))) (sym stands)
     (loads_by (open_of sessions) (texts before) (texts after) (faults before) (faults after) plan session
-    c.args.name.now one.0.users (Ok c.in-Ok.users) c.edit.result (open_of c.edit.new.self) c.in-Ok.ensures.loads
+    c.args.name.now (standing_of one.0) (Ok c.in-Ok.users) c.edit.result (open_of c.edit.new.self) c.in-Ok.ensures.loads
     (subst (λ o. EditsSession plan (open_of sessions) session (λ _. Ok c.in-Ok.users) o c.edit.result
-    (open_of c.edit.new.self)) chosen c.edit.ensures.edits))
+    (open_of c.edit.new.self)) stands c.edit.ensures.edits))
 
 pub returns-in-Err-clause-loads : goal.returns-in-Err-clause-loads
 returns-in-Err-clause-loads g c =
@@ -57,9 +58,9 @@ returns-in-Err-clause-loads g c =
     (c.is_none.ensures ∙ ap not c.if-is_none.false) in
     subst (λ o. LoadsSession plan (state_of sessions (texts before) (faults before)) session c.args.name.now o
     c.refused-in-Err.result (state_of sessions (texts after) (faults after)))
-    (sym (one_chosen_in sessions session one.0 one.1))
+    (sym (one_stands sessions session one.0 one.1))
     (loads_by (open_of sessions) (texts before) (texts after) (faults before) (faults after) plan session
-    c.args.name.now one.0.users (Err c.in-Err.refusal) c.refused-in-Err.result (open_of sessions)
+    c.args.name.now (standing_of one.0) (Err c.in-Err.refusal) c.refused-in-Err.result (open_of sessions)
     c.in-Err.ensures.loads (c.refused-in-Err.ensures, refl))
 
 pub returns-in-Err-clause-spends : goal.returns-in-Err-clause-spends

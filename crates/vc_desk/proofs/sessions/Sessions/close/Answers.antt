@@ -5,7 +5,7 @@ use Rattle.std.specs.Prelude.{map, is_some}
 use Rattle.vc_outside.proofs.NameLaws.{found, removed}
 use Rattle.vc_desk.specs.Answers.{Closes}
 use Rattle.vc_desk.specs.Desks.{AreSessionsOf, named_entry, open_of}
-use Rattle.vc_desk.specs.States.{chosen_in}
+use Rattle.vc_desk.specs.States.{standing_in}
 use Rattle.vc_desk.proofs.AnswerLaws.{closes_none, closes_one}
 use Rattle.vc_desk.proofs.OpenLaws.{closed_sessions, removed_none}
 use Rattle.vc_desk.proofs.sessions.Sessions.close.Goals as goal
@@ -24,16 +24,16 @@ returns-clause-closes c =
     ap is_some (ap (λ m. get m name) (sym c.self.view_is)
     ∙ found (λ key. key.items) c.self.inside.by_name.entries name ∙ sym c.remove-removed.ensures.value)
     ∙ sym c.is_some-found.ensures in
-    subst (λ name. Closes (open_of old) name (chosen_in (open_of old) name) c.if-found.result (open_of new))
+    subst (λ name. Closes (open_of old) name (standing_in (open_of old) name) c.if-found.result (open_of new))
     c.bytes.ensures
-    (subst (λ sessions. Closes (open_of old) name (chosen_in (open_of old) name) c.if-found.result
+    (subst (λ sessions. Closes (open_of old) name (standing_in (open_of old) name) c.if-found.result
     (open_of sessions)) (sym left)
     (elim c.if-found.branch [
       | then-found w ↦
-          subst (λ reply. Closes (open_of old) name (chosen_in (open_of old) name) reply
+          subst (λ reply. Closes (open_of old) name (standing_in (open_of old) name) reply
           (open_of (remove old name))) (sym w.result-is) (closes_one old name (there ∙ w.if-found.true))
       | else-found w ↦
-          subst (λ sessions. Closes (open_of old) name (chosen_in (open_of old) name) c.if-found.result
+          subst (λ sessions. Closes (open_of old) name (standing_in (open_of old) name) c.if-found.result
           (open_of sessions)) (sym (removed_none old name (there ∙ w.if-found.false)))
           (closes_none old name c.if-found.result (there ∙ w.if-found.false) (w.result-is ∙ w.refused.ensures))
     ]))

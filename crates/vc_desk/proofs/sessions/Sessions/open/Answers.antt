@@ -1,13 +1,11 @@
 -- A session is opened where its name is free and few are open.
 use Rattle.std.proofs.Common.{◌∙◌, ◌≤◌, ◌<◌, ap, arith, false, true, refl, subst, sym}
 use Rattle.std.specs.FinMap.{get, len}
-use Rattle.vc_plan_users.specs.Choosing.{users_of}
-use Rattle.vc_plan_reasons.specs.Blaming.{IsStatus}
 use Rattle.vc_wire_replies.specs.declared.reply.Refusal.TheVariants.{NameTaken, TooManySessions}
+use Rattle.vc_desk_shown.specs.Standing.{standing_of}
 use Rattle.vc_desk.specs.Answers.{exhausted, refused, started}
 use Rattle.vc_desk.specs.Costing.{opened, unopened}
 use Rattle.vc_desk.specs.Desks.{AreSessionsOf, open_of}
-use Rattle.vc_desk.specs.States.{with_session}
 use Rattle.vc_desk.proofs.AnswerLaws.{may_open, name_taken, some_copied, too_many}
 use Rattle.vc_desk.proofs.OpenLaws.{opened_sessions, open_put}
 use Rattle.vc_desk.proofs.sessions.Sessions.open.Goals as goal
@@ -34,11 +32,14 @@ returns-in-Ok-clause-starts c =
     (sym c.is_some.ensures ∙ c.if-is_some.false) in
     let room : len c.args.self.now < 32 = omega (arith, c.count.ensures, c.if-count-ge-SESSION_LIMIT.false) in
     let opens = c.in-Ok.ensures.opened in
-    started c.in-Ok.status (may_open c.args.self.now c.args.name.now free room)
-    (subst (λ chosen. IsStatus c.args.plan.now (users_of chosen) c.in-Ok.status) opens.none opens.stands) refl
-    (ap open_of opens.put
-    ∙ open_put c.args.self.now c.args.name.now opens.session
-    ∙ ap (with_session (open_of c.args.self.now) c.args.name.now) opens.none)
+    started (may_open c.args.self.now c.args.name.now free room) (record {
+      standing = standing_of opens.session;
+      status = c.in-Ok.status;
+      its = opens.none;
+      stands = opens.stands;
+      said = refl;
+      put = ap open_of opens.put ∙ open_put c.args.self.now c.args.name.now opens.session;
+    })
 
 pub returns-in-Ok-clause-of : goal.returns-in-Ok-clause-of
 returns-in-Ok-clause-of c =
