@@ -7,6 +7,7 @@ ghost use Rattle.vc_app_verify.specs.Verifying.{EndsVerify};
 ghost use Rattle.vc_app_gen.specs.Generating.{EndsGen};
 ghost use Rattle.vc_app_serve.specs.Serving.{EndsServe, Service, at_door};
 ghost use Rattle.vc_app_serve.specs.Visits.{links, telling};
+ghost use Rattle.vc_app_run.specs.Endings.{keep_file};
 ghost use Rattle.vc_app_run.specs.Exactness.{IsExact};
 ghost use Rattle.vc_app_run.specs.Statuses.{IsStatus};
 ghost use Rattle.vc_app.specs.Asked as asked;
@@ -51,8 +52,9 @@ pub fn desk<F: Shelf, K: Keeper, D: Door, S: Sink>(
         (telling D.Conn.left D.Conn.written D.Conn.faults) s
         (outside (F.files shelf.old) (F.faults shelf.old) (F.faults shelf.new) (S.written out.old)
         (S.written out.new) (S.faults out.old) (S.faults out.new))
-        (keeping (K.texts keeper.old) (K.texts keeper.new) (K.faults keeper.old) (K.faults keeper.new)
-        (K.begun keeper.new)) ((keeper.new ≡ keeper.old) × (door.new ≡ door.old))
+        (keeping (K.texts keeper.old) (K.opens keeper.old s.keep_file) (K.texts keeper.new)
+        (K.faults keeper.old) (K.faults keeper.new) (K.begun keeper.new))
+        ((keeper.new ≡ keeper.old) × (door.new ≡ door.old))
         (at_door (links (D.coming door.old) (D.coming door.new) (D.finished door.old) (D.finished door.new))
         (D.address door.old) (D.address door.new) (D.faults door.old) (D.faults door.new)) result }
     // Any other leaves the door as it was.
@@ -62,14 +64,14 @@ pub fn desk<F: Shelf, K: Keeper, D: Door, S: Sink>(
     ensures status { asked.IsOther words.now → IsStatus words.now
         (outside (F.files shelf.old) (F.faults shelf.old) (F.faults shelf.new) (S.written out.old)
         (S.written out.new) (S.faults out.old) (S.faults out.new))
-        (keeping (K.texts keeper.old) (K.texts keeper.new) (K.faults keeper.old) (K.faults keeper.new)
-        (K.begun keeper.new)) (keeper.new ≡ keeper.old) result }
+        (keeping (K.texts keeper.old) (K.opens keeper.old (keep_file words.now)) (K.texts keeper.new)
+        (K.faults keeper.old) (K.faults keeper.new) (K.begun keeper.new)) (keeper.new ≡ keeper.old) result }
     // Each cause that words and files decide has its own status, unless a count of faults rose or memory was wanting.
     ensures exact { asked.IsOther words.now → IsExact words.now
         (outside (F.files shelf.old) (F.faults shelf.old) (F.faults shelf.new) (S.written out.old)
         (S.written out.new) (S.faults out.old) (S.faults out.new))
-        (keeping (K.texts keeper.old) (K.texts keeper.new) (K.faults keeper.old) (K.faults keeper.new)
-        (K.begun keeper.new)) result }
+        (keeping (K.texts keeper.old) (K.opens keeper.old (keep_file words.now)) (K.texts keeper.new)
+        (K.faults keeper.old) (K.faults keeper.new) (K.begun keeper.new)) result }
 {
     match command_of(words) {
         Command::Check(model) => check(alloc, shelf, model, out),

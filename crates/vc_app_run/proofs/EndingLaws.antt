@@ -8,12 +8,13 @@ use Rattle.std.specs.declared.alloc.Global.{Global}
 use Rattle.std.proofs.lemmas.Slice.Eq.{bytes_eq-Decides}
 use Rattle.std.specs.Io.KnownBytes.{Appends}
 use Rattle.vc_outside.specs.Faults.{HasCause}
+use Rattle.vc_outside.specs.Keepers.{Texts}
 use Rattle.vc_outside.specs.Shelves.{Files}
 use Rattle.vc_outside.specs.Sinks.{AppendsFront}
 use Rattle.vc_outside.specs.declared.fault.Failed.{Failed}
 use Rattle.vc_app_run.specs.Endings.{Words, Outside, Keeping, IsRun, IsToldAs, LoadsJob, LoadsRun, StopsJob}
 use Rattle.vc_app_run.specs.Endings.{Causes, StopCauses, EndsJob, EndsStop, Ends, HasSinkCause, exhausted, itself}
-use Rattle.vc_app_run.specs.Endings.{keep_file, said, stop_line, without_job, without_keeper}
+use Rattle.vc_app_run.specs.Endings.{keep_file, keeping, said, stop_line, without_job, without_keeper}
 use Rattle.vc_app_run.specs.declared.loading.Job.{Job}
 use Rattle.vc_app_run.specs.declared.ending.Stop.{Stop}
 use Rattle.vc_app_run.specs.declared.ending.Stop.TheVariants as stops
@@ -40,6 +41,32 @@ pub run_loads : {E : Type 0} (r : Result Job E) (words : Words) (files : Option 
     → IsRun words model script → IfOk r (LoadsJob files model script) → IfOk r (LoadsRun words files)
 run_loads (Ok job) words files model script command h = (model, script, command, h)
 run_loads (Err e) words files model script command h = tt
+
+-- a job ends so, whatever the keeper told before it was begun
+pub job_begun : (job : Job) (told before start after : Option Texts) (faults_before faults_after : ℕ)
+    (begun : Option (Option (List ℕ))) (old new : Option (List ℕ)) (ending : Ending)
+    → EndsJob job (keeping told start after faults_before faults_after begun) old new ending
+    → EndsJob job (keeping before start after faults_before faults_after begun) old new ending
+job_begun job told before start after f g begun old new endings.Answered h = record {
+  last = h.last;
+  answered = h.answered;
+}
+job_begun job told before start after f g begun old new endings.Exhausted h = record {
+  between = h.between;
+  answered = record { last = h.answered.last; answered = h.answered.answered };
+  added = h.added;
+}
+job_begun job told before start after f g begun old new endings.AnswerCut h = record {
+  last = h.last;
+  answered = h.answered;
+}
+job_begun job told before start after f g begun old new endings.ExhaustedCut h = record {
+  between = h.between;
+  answered = record { last = h.answered.last; answered = h.answered.answered };
+  added = h.added;
+}
+job_begun job told before start after f g begun old new (endings.Stopped stop) h = h
+job_begun job told before start after f g begun old new (endings.MessageCut stop) h = h
 
 -- a job that the words ask for ends so
 pub job_ends : (words : Words) (o : Outside) (k : Keeping) (Stays : Type 0) (job : Job) (ending : Ending)

@@ -46,14 +46,14 @@ fn answer_from_start<K: Keeper, L: Ledger, S: Sink>(
     requires parts { blank.parts ≡ L.parts }
     requires some { 0 < blank.parts }
     ensures done { OnOk result (transcript.AnswersAll plan script.now
-        (keeping (K.texts keeper.old) (K.texts keeper.new) (K.faults keeper.old) (K.faults keeper.new)
-        (K.begun keeper.new)) (S.written out.old) (S.written out.new)) }
+        (keeping (K.texts keeper.old) (K.texts keeper.old) (K.texts keeper.new) (K.faults keeper.old)
+        (K.faults keeper.new) (K.begun keeper.new)) (S.written out.old) (S.written out.new)) }
     ensures memory { IsErrOf result ScriptFault.OutOfMemory → transcript.AnswersSome plan script.now
-        (keeping (K.texts keeper.old) (K.texts keeper.new) (K.faults keeper.old) (K.faults keeper.new)
-        (K.begun keeper.new)) (S.written out.old) (S.written out.new) }
+        (keeping (K.texts keeper.old) (K.texts keeper.old) (K.texts keeper.new) (K.faults keeper.old)
+        (K.faults keeper.new) (K.begun keeper.new)) (S.written out.old) (S.written out.new) }
     ensures cut { IsErrOf result ScriptFault.Sink → transcript.BreaksOff plan script.now
-        (keeping (K.texts keeper.old) (K.texts keeper.new) (K.faults keeper.old) (K.faults keeper.new)
-        (K.begun keeper.new)) (S.written out.old) (S.written out.new) }
+        (keeping (K.texts keeper.old) (K.texts keeper.old) (K.texts keeper.new) (K.faults keeper.old)
+        (K.faults keeper.new) (K.begun keeper.new)) (S.written out.old) (S.written out.new) }
     ensures cause { IsErrOf result ScriptFault.Sink → Raised (S.faults out.old) (S.faults out.new) }
     ensures later { S.faults out.old ≤ S.faults out.new }
     ensures begun { K.begun keeper.new ≡ K.begun keeper.old }
@@ -70,8 +70,8 @@ fn run_job<K: Keeper, S: Sink>(alloc: Global, job: Job, keeper: &mut K, out: &mu
     requires valid { IsValid job.plan }
     requires begun { IsSome (K.begun keeper.old) }
     ensures ends { endings.EndsJob job
-        (keeping (K.texts keeper.old) (K.texts keeper.new) (K.faults keeper.old) (K.faults keeper.new)
-        (K.begun keeper.new)) (S.written out.old) (S.written out.new) result }
+        (keeping (K.texts keeper.old) (K.texts keeper.old) (K.texts keeper.new) (K.faults keeper.old)
+        (K.faults keeper.new) (K.begun keeper.new)) (S.written out.old) (S.written out.new) result }
     ensures cause { endings.HasSinkCause (S.faults out.old) (S.faults out.new) result }
     ensures later { S.faults out.old ≤ S.faults out.new }
     ensures begun { K.begun keeper.new ≡ K.begun keeper.old }
@@ -102,8 +102,8 @@ pub fn end<F: Shelf, K: Keeper, S: Sink>(
     ensures ends { endings.Ends words.now
         (outside (F.files shelf.old) (F.faults shelf.old) (F.faults shelf.new) (S.written out.old)
         (S.written out.new) (S.faults out.old) (S.faults out.new))
-        (keeping (K.texts keeper.old) (K.texts keeper.new) (K.faults keeper.old) (K.faults keeper.new)
-        (K.begun keeper.new)) (keeper.new ≡ keeper.old) result }
+        (keeping (K.texts keeper.old) (K.opens keeper.old (endings.keep_file words.now)) (K.texts keeper.new)
+        (K.faults keeper.old) (K.faults keeper.new) (K.begun keeper.new)) (keeper.new ≡ keeper.old) result }
     ensures cause { endings.HasSinkCause (S.faults out.old) (S.faults out.new) result }
 {
     match load_job(alloc, shelf, words) {

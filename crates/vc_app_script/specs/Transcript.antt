@@ -92,21 +92,21 @@ pub record IsCutShort (plan : Plan) (script : List ℕ) (before after : State) (
   pub answer : AnswersLine plan last line (front ++ rest) after
   pub written : Appends old new (bytes ++ front)
 
--- the same with no session open at first, from what the keeper tells to what it tells then: all lines, the first lines,
--- and the first lines with a front of the next
+-- the same with no session open at first, from what the keeper tells once it is begun to what it tells then: all lines,
+-- the first lines, and the first lines with a front of the next
 pub record AnswersAll (plan : Plan) (script : List ℕ) (k : Keeping) (old new : Option (List ℕ)) : Type 0 where
   pub last : OpenSessions
-  pub answered : IsAnswered plan script (start_state k.saved_before k.faults_before)
+  pub answered : IsAnswered plan script (start_state k.saved_at_start k.faults_before)
       (kept last k.saved_after k.faults_after) old new
 
 pub record AnswersSome (plan : Plan) (script : List ℕ) (k : Keeping) (old new : Option (List ℕ)) : Type 0 where
   pub last : OpenSessions
-  pub answered : IsAnsweredSoFar plan script (start_state k.saved_before k.faults_before)
+  pub answered : IsAnsweredSoFar plan script (start_state k.saved_at_start k.faults_before)
       (kept last k.saved_after k.faults_after) old new
 
 pub record BreaksOff (plan : Plan) (script : List ℕ) (k : Keeping) (old new : Option (List ℕ)) : Type 0 where
   pub last : OpenSessions
-  pub answered : IsCutShort plan script (start_state k.saved_before k.faults_before)
+  pub answered : IsCutShort plan script (start_state k.saved_at_start k.faults_before)
       (kept last k.saved_after k.faults_after) old new
 
 -- the line is answered, and the answer written

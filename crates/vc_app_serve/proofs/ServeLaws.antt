@@ -1,19 +1,22 @@
 -- What stops a model is told, and by files that are told nothing else can be due.
-use Rattle.std.proofs.Common.{◌≡◌, ◌≢◌, ℕ, Bool, true, false, if◌then◌else◌, List, Some, Result, Ok, Err, sym, subst}
-use Rattle.std.proofs.Common.{◌∙◌}
+use Rattle.std.proofs.Common.{◌≡◌, ◌≢◌, ℕ, Bool, true, false, if◌then◌else◌, List, Option, Some, Result, Ok, Err, sym}
+use Rattle.std.proofs.Common.{◌∙◌, subst}
 use Rattle.std.specs.Io.KnownBytes.{Appends}
 use Rattle.vc_outside.specs.Faults.{Raised}
+use Rattle.vc_outside.specs.Keepers.{Texts}
 use Rattle.vc_outside.specs.Shelves.{Files}
 use Rattle.vc_outside.specs.declared.keeper.KeepFault.TheVariants as keep_faults
 use Rattle.vc_plan.specs.declared.plans.Plan.{Plan}
 use Rattle.vc_compile_plan.specs.Trees.{Spot}
-use Rattle.vc_desk.specs.Keeping.{Keeping}
+use Rattle.vc_desk.specs.Keeping.{Keeping, keeping}
+use Rattle.vc_desk.specs.States.{kept, start_state}
 use Rattle.vc_app_models.specs.Loading.{IsPlanIn, IsStop}
 use Rattle.vc_app_models.specs.declared.stop.ModelStop.{ModelStop}
 use Rattle.vc_app_models.proofs.OneLaws.{no_stop, one_stop}
 use Rattle.vc_app_check.specs.Checking.{IsQuiet, IsSaid, IsWritten, Outside}
 use Rattle.vc_app_check.proofs.CheckLaws.{told_stop}
-use Rattle.vc_app_serve.specs.Serving.{AtDoor, Ends, EndsServe, IsRefused, Read, Says, Service, read_by}
+use Rattle.vc_app_serve.specs.Serving.{AtDoor, DeskEnds, Ends, EndsFromStart, EndsServe, IsRefused, PlanEnds, Read}
+use Rattle.vc_app_serve.specs.Serving.{Says, Service, read_by}
 use Rattle.vc_app_serve.specs.Telling.{IsToldAs, IsToldOf, exhausted, itself, stop_line, stop_status}
 use Rattle.vc_app_serve.specs.Visits.{Telling}
 use Rattle.vc_app_serve.specs.declared.stop.Stop.{Stop}
@@ -101,6 +104,32 @@ ends_with p tells s o k Stays d status end ends says = record {
   complete = λ files plan q keeper door has.
       plan_due p tells s o k Stays d status files q end ends says keeper door plan has;
 }
+
+-- a desk of the plan ends so from what the keeper opened, whatever it told before it was begun
+pub ends_begun : {C : Type 0} (tells : Telling C) (plan : Plan) (address : List ℕ) (count : ℕ)
+    (told before start opened after : Option Texts) (count_begun count_before count_after : ℕ)
+    (begun : Option (Option (List ℕ))) (d : AtDoor C) (end : Result Unit Stop)
+    → start ≡ opened → count_begun ≡ count_before
+    → EndsFromStart tells plan address count (keeping told start after count_begun count_after begun) d end
+    → EndsFromStart tells plan address count (keeping before opened after count_before count_after begun) d end
+ends_begun tells plan address count told before start opened after count_begun count_before count_after begun d end same
+    calm h = record {
+      last = h.last;
+      ends =
+          subst (λ saved. DeskEnds tells plan address count (start_state saved count_before)
+          (kept h.last after count_after) d end) same
+          (subst (λ faults. DeskEnds tells plan address count (start_state start faults)
+          (kept h.last after count_after) d end) calm h.ends);
+    }
+
+-- it ends by no stop but its own
+pub plan_ends : {C : Type 0} (tells : Telling C) (s : Service) (r : Read) (k : Keeping) (Stays : Type 0) (d : AtDoor C)
+    (end : Result Unit Stop) → PlanEnds tells s r k d end → Ends tells s r k Stays d end
+plan_ends tells s r k Stays d (Ok done) ends = ends
+plan_ends tells s r k Stays d (Err (stops.Model stop)) ends = absurd ends.ends.ends
+plan_ends tells s r k Stays d (Err (stops.Keeper fault)) ends = absurd ends.ends.ends
+plan_ends tells s r k Stays d (Err stops.OutOfMemory) ends = ends
+plan_ends tells s r k Stays d (Err stops.Door) ends = ends
 
 -- what a stop is told as stops too
 told_stops : {C : Type 0} (tells : Telling C) (s : Service) (r : Read) (k : Keeping) (Stays : Type 0) (d : AtDoor C)

@@ -95,11 +95,11 @@ DeskEnds tells plan address count before after d (Err (stops.Keeper fault)) = �
 DeskEnds tells plan address count before after d (Err stops.OutOfMemory) = (after ≡ before) × IsUntouched d
 DeskEnds tells plan address count before after d (Err stops.Door) = BreaksOff tells plan address count before after d
 
--- so, with no session open at first, from what the keeper tells to what it tells then
+-- so, with no session open at first, from what the keeper tells once it is begun to what it tells then
 pub record EndsFromStart {Conn : Type 0} (tells : Telling Conn) (plan : Plan) (address : List ℕ) (count : ℕ)
     (k : Keeping) (d : AtDoor Conn) (end : Result Unit Stop) : Type 0 where
   pub last : OpenSessions
-  pub ends : DeskEnds tells plan address count (start_state k.saved_before k.faults_before)
+  pub ends : DeskEnds tells plan address count (start_state k.saved_at_start k.faults_before)
       (kept last k.saved_after k.faults_after) d end
 
 -- the model has a plan, texts are saved where it was asked, and a desk of the plan ends so

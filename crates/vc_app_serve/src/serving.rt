@@ -131,8 +131,8 @@ fn serve_plan<K: Keeper, D: Door>(
     requires begun { IsSome (K.begun keeper.old) }
     requires home { D.is_out door.old ≡ false }
     ensures ends { serving.EndsFromStart (telling D.Conn.left D.Conn.written D.Conn.faults) plan address.now count
-        (keeping (K.texts keeper.old) (K.texts keeper.new) (K.faults keeper.old) (K.faults keeper.new)
-        (K.begun keeper.new))
+        (keeping (K.texts keeper.old) (K.texts keeper.old) (K.texts keeper.new) (K.faults keeper.old)
+        (K.faults keeper.new) (K.begun keeper.new))
         (at_door (links (D.coming door.old) (D.coming door.new) (D.finished door.old) (D.finished door.new))
         (D.address door.old) (D.address door.new) (D.faults door.old) (D.faults door.new)) result }
     ensures begun { K.begun keeper.new ≡ K.begun keeper.old }
@@ -159,8 +159,9 @@ fn serve_model<F: Shelf, K: Keeper, D: Door>(
     ensures ends { serving.Ends (telling D.Conn.left D.Conn.written D.Conn.faults)
         (service model.now address.now count (option_map (λ name. name.now) keep_file.entry))
         (read_from (F.files shelf.old) (F.faults shelf.old) (F.faults shelf.new))
-        (keeping (K.texts keeper.old) (K.texts keeper.new) (K.faults keeper.old) (K.faults keeper.new)
-        (K.begun keeper.new)) ((keeper.new ≡ keeper.old) × (door.new ≡ door.old))
+        (keeping (K.texts keeper.old) (K.opens keeper.old (option_map (λ name. name.now) keep_file.entry))
+        (K.texts keeper.new) (K.faults keeper.old) (K.faults keeper.new) (K.begun keeper.new))
+        ((keeper.new ≡ keeper.old) × (door.new ≡ door.old))
         (at_door (links (D.coming door.old) (D.coming door.new) (D.finished door.old) (D.finished door.new))
         (D.address door.old) (D.address door.new) (D.faults door.old) (D.faults door.new)) result }
     ensures home { D.is_out door.new ≡ false }
@@ -195,8 +196,9 @@ pub fn serve<F: Shelf, K: Keeper, D: Door, S: Sink>(
         (service model.now address.now count (option_map (λ name. name.now) keep_file.entry))
         (outside (F.files shelf.old) (F.faults shelf.old) (F.faults shelf.new) (S.written out.old)
         (S.written out.new) (S.faults out.old) (S.faults out.new))
-        (keeping (K.texts keeper.old) (K.texts keeper.new) (K.faults keeper.old) (K.faults keeper.new)
-        (K.begun keeper.new)) ((keeper.new ≡ keeper.old) × (door.new ≡ door.old))
+        (keeping (K.texts keeper.old) (K.opens keeper.old (option_map (λ name. name.now) keep_file.entry))
+        (K.texts keeper.new) (K.faults keeper.old) (K.faults keeper.new) (K.begun keeper.new))
+        ((keeper.new ≡ keeper.old) × (door.new ≡ door.old))
         (at_door (links (D.coming door.old) (D.coming door.new) (D.finished door.old) (D.finished door.new))
         (D.address door.old) (D.address door.new) (D.faults door.old) (D.faults door.new)) result }
     ensures home { D.is_out door.new ≡ false }

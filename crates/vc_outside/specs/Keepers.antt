@@ -32,6 +32,13 @@ abbrev pub Begins : Option (Option (List ℕ)) → Option (Option (List ℕ)) �
 Begins before now name (Ok done) = now ≡ Some (option_map (λ text. text.now) name)
 Begins before now name (Err fault) = now ≡ before
 
+-- what is told after a `begin`: what the keeper opens in the place of this name; or, after an error, what was told
+-- before
+abbrev pub Opens : Option Texts → (Option (List ℕ) → Option Texts) → Option Texts → Option (Bor (List ℕ))
+    → Result Unit KeepFault → Type 0
+Opens before opens now name (Ok done) = now ≡ opens (option_map (λ text. text.now) name)
+Opens before opens now name (Err fault) = now ≡ before
+
 -- texts that are told have this one under the name then; after an error they are as before
 abbrev pub Puts : Option Texts → Option Texts → List ℕ → List ℕ → Result Unit KeepFault → Type 0
 Puts None now name text result = now ≡ None

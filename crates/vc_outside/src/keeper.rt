@@ -1,7 +1,7 @@
 //! Texts that are kept under names, from one run of the program to the next.
 
 ghost use Rattle.std.specs.Prelude.{◌≡◌, ℕ, List, Option, IsSome, IfOk, option_map};
-ghost use Rattle.vc_outside.specs.Keepers.{Begins, Forgets, HasKeepCause, Puts, Tells, Texts};
+ghost use Rattle.vc_outside.specs.Keepers.{Begins, Forgets, HasKeepCause, Opens, Puts, Tells, Texts};
 
 use std::alloc::{AllocError, Global};
 use vc_value::Word;
@@ -31,16 +31,20 @@ pub trait Keeper {
     // What is kept under each name, where the keeper tells it.
     ghost texts: { Self → Option Texts };
 
+    // What is told once it is begun in the place of a name, or for this run alone.
+    ghost opens: { Self → Option (List ℕ) → Option Texts };
+
     // Where it keeps them: the name of the last `begin` that succeeded, or none for this run alone; if one did.
     ghost begun: { Self → Option (Option (List ℕ)) };
 
     // How many calls failed, or the last value of a `u64`.
     ghost faults: { Self → ℕ };
 
-    /// Begins to keep texts in the place of this name, or for this run alone. What is told is as before.
+    /// Begins to keep texts in the place of this name, or for this run alone, and tells what it opens there. After an
+    /// error all is as before.
     fn begin(&mut self, name: Option<&str>) -> Result<(), KeepFault>
         ensures begun { Begins (begun self.old) (begun self.new) name.entry result }
-        ensures texts { texts self.new ≡ texts self.old }
+        ensures texts { Opens (texts self.old) (opens self.old) (texts self.new) name.entry result }
         ensures cause { HasKeepCause (faults self.old) (faults self.new) result };
 
     /// Keeps the text under the name, in the place of the one before. After an error all is as before.

@@ -16,7 +16,7 @@ pub use fault::Failed;
 pub use file::{FILE_LIMIT, FileFault, read_whole};
 pub use file_shelf::FileShelf;
 pub use keeper::{KeepFault, Keeper, copied_name};
-pub use memory_keeper::MemKeeper;
+pub use memory_keeper::{KeptTexts, MemKeeper};
 pub use memory_shelf::MemShelf;
 pub use memory_sink::MemSink;
 pub use shelf::{Found, Shelf};

@@ -4,7 +4,7 @@ ghost use Rattle.std.specs.Prelude.{◌≡◌, ◌++◌, ◌∷◌, [], None, So
 ghost use Rattle.std.specs.FinMap.{empty, get, insert, remove};
 ghost use Rattle.std.specs.Option.{option_copied};
 ghost use Rattle.vc_outside.specs.Faults.{faults_of, next_fails, with_call};
-ghost use Rattle.vc_outside.specs.Keepers.{Begins, Forgets, HasKeepCause, Puts, Tells};
+ghost use Rattle.vc_outside.specs.Keepers.{Begins, Forgets, HasKeepCause, Opens, Puts, Tells};
 ghost use Rattle.vc_outside.specs.MemoryKeepers.{is_failed};
 
 use crate::fault::Failures;
@@ -14,9 +14,9 @@ use std::collections::BTreeMap;
 use std::marker::Model;
 use vc_value::Word;
 
-// Texts by their names, which a contract sees as a finite map.
+/// Texts by their names, which a contract sees as a finite map.
 #[derive(Drop)]
-struct KeptTexts {
+pub struct KeptTexts {
     by_name: BTreeMap<Vec<u8>, Word>,
 }
 
@@ -39,7 +39,8 @@ impl KeptTexts {
     ghost use Rattle.std.specs.FinMap.{empty, get, insert, remove};
     ghost use Rattle.std.specs.Option.{option_copied};
 
-    fn new(alloc: Global) -> KeptTexts
+    /// No texts.
+    pub fn new(alloc: Global) -> KeptTexts
         ensures { result ≡ empty }
     {
         KeptTexts {
@@ -47,14 +48,15 @@ impl KeptTexts {
         }
     }
 
-    fn find(&self, name: &[u8]) -> Option<&Word>
+    /// The text under the name, if there is one.
+    pub fn find(&self, name: &[u8]) -> Option<&Word>
         ensures { option_copied result ≡ get self.now name.now }
     {
         self.by_name.get(name)
     }
 
-    // After an error the texts are as before.
-    fn put(&mut self, alloc: Global, name: &[u8], text: &[u8]) -> Result<(), AllocError>
+    /// Puts the text under the name, in the place of the one before. After an error the texts are as before.
+    pub fn put(&mut self, alloc: Global, name: &[u8], text: &[u8]) -> Result<(), AllocError>
         ensures ok { OnOk result (self.new ≡ insert self.old name.now text.now) }
         ensures err { OnErr result (self.new ≡ self.old) }
     {
@@ -64,7 +66,8 @@ impl KeptTexts {
         Ok(())
     }
 
-    fn remove(&mut self, name: &[u8]) -> bool
+    /// Takes the text under the name out, and says whether there was one.
+    pub fn remove(&mut self, name: &[u8]) -> bool
         ensures there { result ≡ is_some (get self.old name.now) }
         ensures texts { self.new ≡ remove self.old name.now }
     {
@@ -134,6 +137,8 @@ impl Keeper for MemKeeper {
 
     ghost texts = { λ k. Some k.texts };
 
+    ghost opens = { λ k name. Some k.texts };
+
     ghost begun = { λ k. k.begun };
 
     ghost faults = { λ k. faults_of k.calls };
@@ -141,7 +146,8 @@ impl Keeper for MemKeeper {
     // It fails where the call is one that is to fail, and nowhere else.
     fn begin(&mut self, name: Option<&str>) -> Result<(), KeepFault>
         ensures begun { Begins self.old.begun self.new.begun name.entry result }
-        ensures texts { Some self.new.texts ≡ Some self.old.texts }
+        ensures texts { Opens (Some self.old.texts) (λ place. Some self.old.texts) (Some self.new.texts) name.entry
+            result }
         ensures cause { HasKeepCause (faults_of self.old.calls) (faults_of self.new.calls) result }
         ensures fails { is_failed result ≡ next_fails self.old.calls }
         ensures calls { self.new.calls ≡ with_call self.old.calls }

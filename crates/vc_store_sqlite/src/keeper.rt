@@ -1,19 +1,21 @@
 //! Texts that are kept in a database file, or in memory for this run alone.
 
-ghost use Rattle.std.specs.Prelude.{◌≡◌, ◌≤◌, IfOk, IfErr, IsErrOf};
+ghost use Rattle.std.specs.Prelude.{◌≡◌, ◌≤◌, IfOk, IfErr, IsErrOf, is_some};
 ghost use Rattle.vc_outside.specs.Keepers.{RaisesFor};
 
-use crate::places::Place;
 use sqlite::{File, FileStore};
 use std::marker::Model;
-use vc_outside::{KeepFault, Keeper, copied_name};
-use vc_store_sqlite_file::Open;
+use vc_outside::{KeepFault, Keeper, KeptTexts, copied_name};
+use vc_store_sqlite_file::{Open, SavedTexts};
 use vc_value::Word;
 
-/// Texts in a database of a store that a path opens, or in memory for this run alone. It tells nothing of what is kept.
+/// Texts in a database of a store that a path opens, of which it tells nothing; or in memory for this run alone, and
+/// then it tells them.
 pub struct SqlKeeper<S: Open> {
     rt: HostRuntime,
-    place: Place<S>,
+    run: KeptTexts,
+    // Keeps texts in the place of the run's, where there is one.
+    file: Option<SavedTexts<S>>,
     begun: Option<Option<Vec<u8>>>,
     faults: u64,
 }
@@ -22,12 +24,18 @@ pub struct SqlKeeper<S: Open> {
 pub type FileKeeper = SqlKeeper<FileStore<File>>;
 
 impl<S: Open> Model for SqlKeeper<S> {
-    ghost use Rattle.std.specs.Prelude.{option_map};
+    ghost use Rattle.std.specs.Coded.{codes};
+    ghost use Rattle.std.specs.FinMap.{code};
+    ghost use Rattle.std.specs.Prelude.{is_some, option_map};
     ghost use Rattle.vc_store_sqlite.specs.Keeping.{Told};
 
     ghost Value = { Told };
 
+    ghost coded = { Prim.hlevel (codes, code) };
+
     ghost view = { λ k. record {
+      run = k.run;
+      in_file = is_some k.file;
       begun = option_map (λ name. option_map (λ bytes. bytes.items) name) k.begun;
       faults = k.faults;
     } };
@@ -38,52 +46,65 @@ impl<S: Open> Drop for SqlKeeper<S> {
     fn drop(self) {
         let SqlKeeper {
             rt,
-            place,
+            run,
+            file,
             begun,
             faults: _,
         } = self;
         drop(rt);
-        drop(place);
+        drop(run);
+        drop(file);
         drop(begun);
     }
 }
 
 impl<S: Open> SqlKeeper<S> {
-    ghost use Rattle.std.specs.Prelude.{◌≡◌, ◌≤◌, None};
-    ghost use Rattle.vc_outside.specs.Keepers.{RaisesFor};
+    ghost use Rattle.std.specs.FinMap.{empty};
+    ghost use Rattle.std.specs.Prelude.{◌≡◌, false, None};
 
-    /// A keeper that isn't begun.
+    /// A keeper of nothing that isn't begun.
     pub fn new(rt: HostRuntime) -> SqlKeeper<S>
-        ensures begun { result.begun ≡ None }
-        ensures faults { result.faults ≡ 0 }
+        ensures { result ≡ record { run = empty; in_file = false; begun = None; faults = 0 } }
     {
         SqlKeeper {
+            run: KeptTexts::new(rt.alloc()),
             rt,
-            place: Place::Nowhere,
+            file: None,
             begun: None,
             faults: 0,
         }
     }
+}
 
-    // Why it refuses: each fault but want of memory is counted.
-    fn raise(&mut self, fault: KeepFault) -> KeepFault
-        ensures later { self.old.faults ≤ self.new.faults }
-        ensures raises { RaisesFor self.old.faults self.new.faults result }
-        ensures begun { self.new.begun ≡ self.old.begun }
-        ensures same { result ≡ fault }
-    {
-        match fault {
-            KeepFault::OutOfMemory => {}
-            KeepFault::Failed => self.faults = self.faults.saturating_add(1),
-        }
-        fault
+// Why it refuses: each fault but want of memory is counted.
+fn raise(faults: &mut u64, fault: KeepFault) -> KeepFault
+    ensures later { faults.old ≤ faults.new }
+    ensures raises { RaisesFor faults.old faults.new result }
+    ensures same { result ≡ fault }
+{
+    match fault {
+        KeepFault::OutOfMemory => {}
+        KeepFault::Failed => *faults = faults.saturating_add(1),
+    }
+    fault
+}
+
+// The texts in the database of this path, if there is a path.
+fn opened<S: Open>(rt: &HostRuntime, path: Option<&str>) -> Result<Option<SavedTexts<S>>, KeepFault>
+    ensures { IfOk result (λ file. is_some file ≡ is_some path.entry) }
+{
+    match path {
+        Some(path) => Ok(Some(SavedTexts::open(rt, path)?)),
+        None => Ok(None),
     }
 }
 
 impl<S: Open> Keeper for SqlKeeper<S> {
-    ghost use Rattle.std.specs.Prelude.{None};
+    ghost use Rattle.vc_store_sqlite.specs.Keeping.{opened_texts, told_texts};
 
-    ghost texts = { λ k. None };
+    ghost texts = { told_texts };
+
+    ghost opens = { opened_texts };
 
     ghost begun = { λ k. k.begun };
 
@@ -91,34 +112,49 @@ impl<S: Open> Keeper for SqlKeeper<S> {
 
     fn begin(&mut self, name: Option<&str>) -> Result<(), KeepFault> {
         let copy = copied_name(self.rt.alloc(), name)?;
-        match Place::open(&self.rt, name) {
-            Ok(place) => {
-                self.place = place;
+        match opened(&self.rt, name) {
+            Ok(file) => {
+                self.file = file;
                 self.begun = Some(copy);
                 Ok(())
             }
-            Err(fault) => Err(self.raise(fault)),
+            Err(fault) => Err(raise(&mut self.faults, fault)),
         }
     }
 
     fn put(&mut self, name: &[u8], text: &[u8]) -> Result<(), KeepFault> {
-        match self.place.put(name, text) {
-            Ok(()) => Ok(()),
-            Err(fault) => Err(self.raise(fault)),
+        match &mut self.file {
+            Some(file) => match file.put(name, text) {
+                Ok(()) => Ok(()),
+                Err(fault) => Err(raise(&mut self.faults, fault)),
+            },
+            None => {
+                self.run.put(self.rt.alloc(), name, text)?;
+                Ok(())
+            }
         }
     }
 
     fn get(&mut self, name: &[u8]) -> Result<Option<Word>, KeepFault> {
-        match self.place.get(name) {
-            Ok(found) => Ok(found),
-            Err(fault) => Err(self.raise(fault)),
+        match &mut self.file {
+            Some(file) => match file.get(name) {
+                Ok(found) => Ok(found),
+                Err(fault) => Err(raise(&mut self.faults, fault)),
+            },
+            None => match self.run.find(name) {
+                Some(text) => Ok(Some(Word::from_bytes(self.rt.alloc(), text.bytes())?)),
+                None => Ok(None),
+            },
         }
     }
 
     fn remove(&mut self, name: &[u8]) -> Result<bool, KeepFault> {
-        match self.place.remove(name) {
-            Ok(there) => Ok(there),
-            Err(fault) => Err(self.raise(fault)),
+        match &mut self.file {
+            Some(file) => match file.remove(name) {
+                Ok(there) => Ok(there),
+                Err(fault) => Err(raise(&mut self.faults, fault)),
+            },
+            None => Ok(self.run.remove(name)),
         }
     }
 }

@@ -2,7 +2,6 @@
 #![tactic(auto)]
 
 pub mod keeper;
-pub mod places;
 
 pub use keeper::{FileKeeper, SqlKeeper};
 

@@ -1,11 +1,12 @@
 -- What a command tells is told of the words that ask for it, and of no others; of words that ask for none, what the
 -- ending's status promises, and that words and files decide it.
-use Rattle.std.proofs.Common.{◌≡◌, subst}
+use Rattle.std.proofs.Common.{◌≡◌, ℕ, List, Option, subst}
 use Rattle.vc_desk.specs.Keeping.{keeping}
 use Rattle.vc_app_check.proofs.CheckLaws.{some_spot}
 use Rattle.vc_app_check.specs.Checking.{outside}
 use Rattle.vc_app_serve.specs.Serving.{EndsServe, at_door}
 use Rattle.vc_app_serve.specs.Visits.{links, telling}
+use Rattle.vc_app_run.specs.Endings.{keep_file}
 use Rattle.vc_app_run.proofs.ExactnessLaws.{exactly}
 use Rattle.vc_app_run.proofs.StatusLaws.{promised}
 use Rattle.vc_app.specs.Asked.{Asks, service_by}
@@ -30,13 +31,16 @@ returns-in-Serve-clause-serve g c =
     let o = outside (g.F.Shelf.files old.shelf.now) (g.F.Shelf.faults old.shelf.now) (g.F.Shelf.faults new.shelf)
     (g.S.Sink.written old.out.now) (g.S.Sink.written new.out) (g.S.Sink.faults old.out.now)
     (g.S.Sink.faults new.out) in
-    let k = keeping (g.K.Keeper.texts old.keeper.now) (g.K.Keeper.texts new.keeper) (g.K.Keeper.faults old.keeper.now)
-    (g.K.Keeper.faults new.keeper) (g.K.Keeper.begun new.keeper) in
+    let k = λ (place : Option (List ℕ)).
+    keeping (g.K.Keeper.texts old.keeper.now) (g.K.Keeper.opens old.keeper.now place) (g.K.Keeper.texts new.keeper)
+    (g.K.Keeper.faults old.keeper.now) (g.K.Keeper.faults new.keeper)
+    (g.K.Keeper.begun new.keeper) in
     let d = at_door (links (g.D.Door.coming old.door.now) (g.D.Door.coming new.door) (g.D.Door.finished old.door.now)
     (g.D.Door.finished new.door)) (g.D.Door.address old.door.now) (g.D.Door.address new.door)
     (g.D.Door.faults old.door.now) (g.D.Door.faults new.door) in
     λ s asked.
-    subst (λ other. EndsServe (telling g.D.Conn.Link.left g.D.Conn.Link.written g.D.Conn.Link.faults) other o k
+    subst (λ other. EndsServe (telling g.D.Conn.Link.left g.D.Conn.Link.written g.D.Conn.Link.faults) other o
+    (k other.keep_file)
     ((new.keeper ≡ old.keeper.now) × (new.door ≡ old.door.now)) d c.serve.result)
     (one_service old.words.now its s (subst (Asks old.words.now) c.in-Serve.is c.command_of.ensures) asked)
     c.serve.ensures.ends
@@ -71,7 +75,8 @@ returns-in-Other-clause-status g c =
     (g.F.Shelf.faults c.end.new.shelf)
     (g.S.Sink.written c.args.out.now) (g.S.Sink.written c.end.new.out) (g.S.Sink.faults c.args.out.now)
     (g.S.Sink.faults c.end.new.out) in
-    let k = keeping (g.K.Keeper.texts c.args.keeper.now) (g.K.Keeper.texts c.end.new.keeper)
+    let k = keeping (g.K.Keeper.texts c.args.keeper.now)
+    (g.K.Keeper.opens c.args.keeper.now (keep_file c.args.words.now)) (g.K.Keeper.texts c.end.new.keeper)
     (g.K.Keeper.faults c.args.keeper.now) (g.K.Keeper.faults c.end.new.keeper)
     (g.K.Keeper.begun c.end.new.keeper) in
     λ other.
@@ -89,7 +94,8 @@ returns-in-Other-clause-exact g c =
     (g.F.Shelf.faults c.end.new.shelf)
     (g.S.Sink.written c.args.out.now) (g.S.Sink.written c.end.new.out) (g.S.Sink.faults c.args.out.now)
     (g.S.Sink.faults c.end.new.out) in
-    let k = keeping (g.K.Keeper.texts c.args.keeper.now) (g.K.Keeper.texts c.end.new.keeper)
+    let k = keeping (g.K.Keeper.texts c.args.keeper.now)
+    (g.K.Keeper.opens c.args.keeper.now (keep_file c.args.words.now)) (g.K.Keeper.texts c.end.new.keeper)
     (g.K.Keeper.faults c.args.keeper.now) (g.K.Keeper.faults c.end.new.keeper)
     (g.K.Keeper.begun c.end.new.keeper) in
     λ other.
